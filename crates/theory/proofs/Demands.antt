@@ -1,0 +1,139 @@
+-- The words of the demands: what `contradicts` and `carries` mean over all stages, and what the lists at the depth say of them. Assumes nothing.
+use mathlib.Core.Bool.{Bool, _||_, false, not, true}
+use mathlib.Core.List.{List, List·Memᴰ·cases-cons, List·Memᴰ as Mem, [], _++_, _∷_, List·Memᴰ·head as here, List·Memᴰ·tail as there}
+use mathlib.Core.Logic.{_↔_, ⊎-elim}
+use mathlib.Core.Option.{none}
+use mathlib.Core.Path.{_∙_, _≡_, ap, refl, sym}
+use Prim.Native.Nat.{_+_, _<_, _^_, _≤_, suc, zero, zero-le, ℕ}
+use native.Mathlib.Omega.{arith}
+use lib.Dec.{eqb}
+use lib.ListN.{length}
+use borrow.Author.Tests.{eqb-true, ne-eqb, not-true}
+use Rattle.theory.proofs.Lasting.{Upto}
+use Rattle.theory.proofs.Depth.{Within, kept-length, one, settles}
+use Rattle.theory.proofs.Following.{follows-later}
+use Rattle.theory.proofs.Judgement.{labels-mean, nogoods-mean, settled-stage, stage-labelIn, stage-nogoods}
+use Rattle.theory.proofs.Label.{inconsistent, supported}
+use Rattle.theory.proofs.Listing.{below-elim}
+use Rattle.theory.proofs.Lists.{and-intro, and-left, and-right, either, same-test}
+use Rattle.theory.specs.Demands.{carries, contradicts}
+use Rattle.theory.specs.Judge.{Limits, Stage, heads, judge, settled}
+use Rattle.theory.specs.Lists.{numbersBelow, someOf, those}
+use Rattle.theory.specs.Sets.{contains}
+use Rattle.theory.specs.Stages.{Justification, follows, labelAt, nogoodsAt}
+use Rattle.theory.specs.Step.{labelIn}
+
+-- ---- as many stages as justifications are enough
+
+some-bound : (J : List Justification) → (N : ℕ) × Within N J
+some-bound [] = (0, λ j m. elim m [ ])
+some-bound (i ∷ J) =
+    let r = some-bound J in
+    (i .consequent + r .0, λ j m. ⊎-elim (λ (e : j ≡ i). omega (arith, ap (λ (x : Justification). x .consequent) e)) (λ n. omega (arith, r .1 j n)) (List·Memᴰ·cases-cons m))
+
+one-less : (a b : Bool) → one (a || b) ≤ one a + one b
+one-less true b = omega arith
+one-less false b = omega arith
+
+count-either : (p q : ℕ → Bool) (l : List ℕ) → length (those (λ n. p n || q n) l) ≤ length (those p l) + length (those q l)
+unfolding those
+count-either p q [] = zero-le
+count-either p q (x ∷ l) =
+    omega (arith, kept-length (p x || q x) x (those (λ n. p n || q n) l), kept-length (p x) x (those p l), kept-length (q x) x (those q l), one-less (p x) (q x), count-either p q l)
+
+count-none : (p : ℕ → Bool) (l : List ℕ) → ((n : ℕ) → Mem n l → p n ≡ false) → length (those p l) ≡ 0
+unfolding those
+count-none p [] f = refl
+count-none p (x ∷ l) f = omega (arith, kept-length (p x) x (those p l), ap one (f x (here refl)), count-none p l (λ n m. f n (there m)))
+
+those-append : (p : ℕ → Bool) (l m : List ℕ) → length (those p (l ++ m)) ≡ length (those p l) + length (those p m)
+unfolding those
+those-append p [] m = omega arith
+those-append p (x ∷ l) m = omega (arith, kept-length (p x) x (those p (l ++ m)), kept-length (p x) x (those p l), those-append p l m)
+
+count-one : (c N : ℕ) → length (those (eqb c) (numbersBelow N)) ≤ 1
+unfolding numbersBelow those
+count-one c zero = zero-le
+count-one c (suc N) =
+    ⊎-elim (λ (h : eqb c N ≡ true).
+    let none : length (those (eqb c) (numbersBelow N)) ≡ 0 = count-none (eqb c) (numbersBelow N) (λ n m. ne-eqb c n (λ (e : c ≡ n). absurd (omega (arith, eqb-true c N h, below-elim N m)))) in
+    omega (arith, those-append (eqb c) (numbersBelow N) (N ∷ []), kept-length (eqb c N) N [], ap one h))
+    (λ h. omega (arith, those-append (eqb c) (numbersBelow N) (N ∷ []), kept-length (eqb c N) N [], ap one h, count-one c N))
+    (either (eqb c N))
+
+-- the different consequents are at most as many as the justifications
+pub heads-length : (N : ℕ) (J : List Justification) → length (heads N J) ≤ length J
+unfolding heads someOf
+heads-length N [] = omega (arith, count-none (λ n. false) (numbersBelow (suc N)) (λ n m. refl))
+heads-length N (i ∷ J) =
+    omega (arith, count-either (eqb (i .consequent)) (λ n. someOf (λ (j : Justification). eqb (j .consequent) n) J) (numbersBelow (suc N)), count-one (i .consequent) (suc N), heads-length N J)
+
+-- nothing new follows from any set after as many stages as there are justifications
+pub follows-end : (J : List Justification) (m : ℕ) → length J ≤ m → follows J (length J) ≡ follows J m
+follows-end J m h =
+    let b = some-bound J in
+    sym (settles (b .0) J (b .1) (length J) (heads-length (b .0) J)) ∙ settles (b .0) J (b .1) m (omega (arith, heads-length (b .0) J))
+
+pub ends : (J : List Justification) (k E n : ℕ) → follows J k E n ≡ true → follows J (length J) E n ≡ true
+ends J k E n f =
+    ap (λ (S : ℕ → ℕ → Bool). S E n) (follows-end J (k + length J) (omega arith)) ∙ follows-later J k (k + length J) E n (omega arith) f
+
+-- ---- over all stages
+
+-- E contradicts itself exactly when falsity follows from it at some stage
+pub contradicts-means : (J : List Justification) (E : ℕ) → (contradicts J E ≡ true) ↔ ((k : ℕ) × (follows J k E zero ≡ true))
+unfolding contradicts
+contradicts-means J E = (λ h. (length J, h), λ f. ends J (f .0) E zero (f .1))
+
+-- E carries n exactly when E contradicts nothing and n follows from it at some stage
+pub carries-means : (J : List Justification) (E n : ℕ) → (carries J E n ≡ true) ↔ ((contradicts J E ≡ false) × ((k : ℕ) × (follows J k E n ≡ true)))
+unfolding carries
+carries-means J E n =
+    let p : Bool = not (contradicts J E) in
+    let q : Bool = follows J (length J) E n in
+    (λ h. (not-true (contradicts J E) (and-left p q h), (length J, and-right p q h)), λ r. and-intro (ap not (r .0)) (ends J (r .1 .0) E n (r .1 .1)))
+
+-- ---- at a stage
+
+-- falsity does not follow from E at stage k and n does, exactly when E contains no nogood of stage k and a member of n's label at stage k
+pub stage-tells : (A : ℕ) (J : List Justification) (k n E : ℕ) → E < 2 ^ A
+    → ((follows J k E zero ≡ false) × (follows J k E n ≡ true)) ↔ ((contains (nogoodsAt A J k) E ≡ false) × (contains (labelAt A J k n) E ≡ true))
+stage-tells A J k n E h = (
+  λ p. let c : contains (nogoodsAt A J k) E ≡ false = inconsistent A J k E h ∙ p .0 in (c, supported A J k n E h c ∙ p .1),
+  λ p. (sym (inconsistent A J k E h) ∙ p .0, sym (supported A J k n E h (p .0)) ∙ p .1),
+)
+
+-- ---- at the depth
+
+module _ (L : Limits) (A N : ℕ) (J : List Justification) (d : ℕ) (s : Stage) (e : judge L A N J ≡ settled d s) (u : Upto N J) (E : ℕ) (h : E < 2 ^ A) where
+  at-nogoods : s .nogoods ≡ nogoodsAt A J d
+  at-nogoods = ap (λ (t : Stage). t .nogoods) (settled-stage L A N J d s e) ∙ stage-nogoods A N J d
+
+  at-label : (n : ℕ) → n ≤ N → labelIn (s .labels) n ≡ labelAt A J d n
+  at-label n l = ap (λ (t : Stage). labelIn (t .labels) n) (settled-stage L A N J d s e) ∙ stage-labelIn A N J d n l
+
+  -- E contradicts itself exactly when it contains a nogood
+  pub depth-contradicts : contains (s .nogoods) E ≡ contradicts J E
+  depth-contradicts =
+      ap (λ (l : List ℕ). contains l E) at-nogoods
+      ∙ same-test (λ c. contradicts-means J E .1 (nogoods-mean L A N J d s e u E h .0 c)) (λ c. nogoods-mean L A N J d s e u E h .1 (contradicts-means J E .0 c))
+
+  -- E carries n exactly when it contains no nogood and a member of n's label
+  pub depth-carries : (n : ℕ) → n ≤ N → (carries J E n ≡ true) ↔ ((contains (s .nogoods) E ≡ false) × (contains (labelIn (s .labels) n) E ≡ true))
+  depth-carries n l = (
+    λ c.
+        let r = carries-means J E n .0 c in
+        let none : contains (s .nogoods) E ≡ false = depth-contradicts ∙ r .0 in
+        let none′ : contains (nogoodsAt A J d) E ≡ false = ap (λ (m : List ℕ). contains m E) (sym at-nogoods) ∙ none in
+        (none, ap (λ (m : List ℕ). contains m E) (at-label n l) ∙ labels-mean L A N J d s e u n E l h none′ .1 (r .1)),
+    λ p.
+        let none′ : contains (nogoodsAt A J d) E ≡ false = ap (λ (m : List ℕ). contains m E) (sym at-nogoods) ∙ p .0 in
+        carries-means J E n .1 (sym depth-contradicts ∙ p .0, labels-mean L A N J d s e u n E l h none′ .0 (ap (λ (m : List ℕ). contains m E) (sym (at-label n l)) ∙ p .1)),
+  )
+
+  -- what follows from a consistent set at any stage follows from it at the depth
+  pub depth-enough : contradicts J E ≡ false → (k n : ℕ) → n ≤ N → follows J k E n ≡ true → follows J d E n ≡ true
+  depth-enough c k n l f =
+      let p = depth-carries n l .0 (carries-means J E n .1 (c, (k, f))) in
+      let none : contains (nogoodsAt A J d) E ≡ false = ap (λ (m : List ℕ). contains m E) (sym at-nogoods) ∙ p .0 in
+      sym (supported A J d n E h none) ∙ ap (λ (m : List ℕ). contains m E) (sym (at-label n l)) ∙ p .1

@@ -1,0 +1,67 @@
+-- The cases of document 01 that speak of stages, and both sides of each limit at a small size, in one table under one theorem. Assumes nothing.
+use mathlib.Core.List.{List, [], _∷_}
+use mathlib.Core.Path.{_≡_}
+use Prim.Native.Nat.{ℕ}
+use lib.Count.{ones}
+use Rattle.theory.specs.Judge.{Limits, Verdict, agree, course, judge, labelLong, labelOver, limits, lowestLong, nogoodsLong, nogoodsOver, sameSets, settled, stageAt, stageOf, unsettled}
+use Rattle.theory.specs.Lists.{alike, allOf, numbersBelow, numbersTo, someOf, those}
+use Rattle.theory.specs.Sets.{among, bySize, digit, listing, within}
+use Rattle.theory.specs.Stages.{Justification, follows, gives, labelOf, minimal, nogoodsOf}
+
+-- c from the supports s
+abbrev pub from : ℕ → List ℕ → Justification
+from c s = record { consequent = c; supports = s }
+
+abbrev pub at : ℕ → List ℕ → List (List ℕ) → Verdict
+at d nogoods labels = settled d (record { nogoods = nogoods; labels = labels })
+
+-- the judgement under a name that opens all its definitions
+unfoldable pub verdict : Limits → ℕ → ℕ → List Justification → Verdict
+unfolding listing bySize numbersBelow numbersTo those ones labelOf nogoodsOf minimal follows among digit within gives someOf allOf alike sameSets agree stageOf stageAt nogoodsLong lowestLong labelLong course judge
+verdict L A N J = judge L A N J
+
+-- room for n members of a label and m nogoods
+abbrev pub room : ℕ → ℕ → Limits
+room n m = record { label = n; nogoods = m; stages = 129 }
+
+abbrev pub worked : List Justification
+worked = from 4 (1 ∷ []) ∷ from 4 (2 ∷ 3 ∷ []) ∷ from 5 (2 ∷ 4 ∷ []) ∷ from 0 (1 ∷ 2 ∷ []) ∷ []
+
+pub record Cases : Type 0 where
+  -- A=0, M=0, nothing held: depth 0, no nogoods
+  pub nothing : verdict limits 0 0 [] ≡ at 0 [] []
+  -- the listed case
+  pub listed : verdict limits 3 5 worked ≡ at 2 (3 ∷ []) ((1 ∷ []) ∷ (2 ∷ []) ∷ (4 ∷ []) ∷ (1 ∷ 6 ∷ []) ∷ (6 ∷ []) ∷ [])
+  -- A=1, claims 2 and 3 supporting each other: both unsupported, depth 0
+  pub each-other : verdict limits 1 3 (from 2 (3 ∷ []) ∷ from 3 (2 ∷ []) ∷ []) ≡ at 0 [] ((1 ∷ []) ∷ [] ∷ [] ∷ [])
+  -- a premise for falsity: one nogood, the empty set; all labels empty; depth 1
+  pub absurdity : verdict limits 2 3 (from 0 [] ∷ []) ≡ at 1 (0 ∷ []) ([] ∷ [] ∷ [] ∷ [])
+  -- assumption 1 justified by assumption 2: label of 1 is {1} {2}
+  pub assumed : verdict limits 2 2 (from 1 (2 ∷ []) ∷ []) ≡ at 1 [] ((1 ∷ 2 ∷ []) ∷ (2 ∷ []) ∷ [])
+  -- nogood {1} with A=1: the label of 1 is empty
+  pub struck : verdict limits 1 1 (from 0 (1 ∷ []) ∷ []) ≡ at 1 (1 ∷ []) ([] ∷ [])
+  -- {3} is 4, {1,2} is 3; {3} comes first
+  pub order : verdict limits 3 4 (from 4 (1 ∷ 2 ∷ []) ∷ from 4 (3 ∷ []) ∷ []) ≡ at 1 [] ((1 ∷ []) ∷ (2 ∷ []) ∷ (4 ∷ []) ∷ (4 ∷ 3 ∷ []) ∷ [])
+  -- the nogoods alone change: depth 1
+  pub nogoods-alone : verdict limits 2 2 (from 0 (1 ∷ 2 ∷ []) ∷ []) ≡ at 1 (3 ∷ []) ((1 ∷ []) ∷ (2 ∷ []) ∷ [])
+  -- the depth speaks of lists: 3 follows from {1} at stage 2 only, but {1} is a nogood at stage 1
+  pub lists-alone : verdict limits 1 3 (from 0 (1 ∷ []) ∷ from 2 (1 ∷ []) ∷ from 3 (2 ∷ []) ∷ []) ≡ at 1 (1 ∷ []) ([] ∷ [] ∷ [] ∷ [])
+  -- a justification that names its own consequent as a support changes no label
+  pub self-support : verdict limits 1 2 (from 2 (1 ∷ 2 ∷ []) ∷ []) ≡ at 0 [] ((1 ∷ []) ∷ [] ∷ [])
+  -- nogoods over, and just not
+  pub nogoods-over : verdict (room 9 1) 2 2 (from 0 (1 ∷ []) ∷ from 0 (2 ∷ []) ∷ []) ≡ nogoodsOver
+  pub nogoods-fit : verdict (room 9 2) 2 2 (from 0 (1 ∷ []) ∷ from 0 (2 ∷ []) ∷ []) ≡ at 1 (1 ∷ 2 ∷ []) ([] ∷ [] ∷ [])
+  -- two labels over: the lowest number is named; and just not
+  pub label-over : verdict (room 1 9) 2 4 (from 3 (1 ∷ []) ∷ from 3 (2 ∷ []) ∷ from 4 (1 ∷ []) ∷ from 4 (2 ∷ []) ∷ []) ≡ labelOver 3
+  pub label-fits : verdict (room 2 9) 2 3 (from 3 (1 ∷ []) ∷ from 3 (2 ∷ []) ∷ []) ≡ at 1 [] ((1 ∷ []) ∷ (2 ∷ []) ∷ (1 ∷ 2 ∷ []) ∷ [])
+  -- stage 1 needs one member too many, though the last label would be {} alone
+  pub early-over : verdict (room 1 9) 2 4 (from 3 (1 ∷ []) ∷ from 3 (2 ∷ []) ∷ from 4 [] ∷ from 3 (4 ∷ []) ∷ []) ≡ labelOver 3
+  -- with the premise at once it is not
+  pub premise-first : verdict (room 1 9) 2 3 (from 3 (1 ∷ []) ∷ from 3 (2 ∷ []) ∷ from 3 [] ∷ []) ≡ at 1 [] ((1 ∷ []) ∷ (2 ∷ []) ∷ (0 ∷ []) ∷ [])
+  -- one candidate too many, of which one becomes a nogood at that stage: not over
+  pub one-struck : verdict (room 1 9) 2 3 (from 3 (1 ∷ []) ∷ from 3 (2 ∷ []) ∷ from 0 (2 ∷ []) ∷ []) ≡ at 1 (2 ∷ []) ((1 ∷ []) ∷ [] ∷ (1 ∷ []) ∷ [])
+  -- at one stage the nogoods come before the labels; at an earlier stage a label comes before them
+  pub both-over : verdict (room 1 0) 3 4 (from 4 (1 ∷ []) ∷ from 4 (2 ∷ []) ∷ from 0 (3 ∷ []) ∷ []) ≡ nogoodsOver
+  pub label-earlier : verdict (room 1 0) 3 5 (from 4 (1 ∷ []) ∷ from 4 (2 ∷ []) ∷ from 5 (3 ∷ []) ∷ from 0 (5 ∷ []) ∷ []) ≡ labelOver 4
+  -- the stage limit: stage 2 still differs from stage 1
+  pub not-settled : verdict (record { label = 9; nogoods = 9; stages = 1 }) 1 3 (from 2 (1 ∷ []) ∷ from 3 (2 ∷ []) ∷ []) ≡ unsettled
