@@ -1,0 +1,74 @@
+-- `comes` meets its contract: by consequent, by number of supports, by the supports. Assumes nothing.
+use mathlib.Core.Path.{_≡_, sym}
+use native.Mathlib.Omega.{arith}
+use lib.ListN.{length}
+use lib.Seq.{length-take-le}
+use borrow.Author.Needs.{needs}
+use Rattle.rules.proofs.Steps.{ahead-no, ahead-yes, as-long, comes-fewer, comes-more, comes-same}
+use Rattle.rules.proofs.Entry.comes.Statement.{statement}
+use Rattle.rules.proofs.Entry.comes.Tie as tie
+
+returns : tie.Need-returns
+returns c = ahead-yes _ _ (c .if1 .taken)
+
+returns-2 : tie.Need-returns-2
+returns-2 c = ahead-no _ _ (c .if2 .taken)
+
+returns-3 : tie.Need-returns-3
+returns-3 c =
+    let s = c .before .before .before .before .before .before .before .before .before in
+    let e : length (s .args .self .supports) ≡ 4 = search needs in
+    let f : length (s .args .t .supports) ≡ 4 = search needs in
+    comes-fewer (s .args .self) (s .args .t) e f (s .pre .0) (s .pre .1) (omega arith) (c .if3 .taken)
+
+returns-4 : tie.Need-returns-4
+returns-4 c =
+    let s = c .before .before .before .before .before .before .before .before .before .before .before .before in
+    let e : length (s .args .self .supports) ≡ 4 = search needs in
+    let f : length (s .args .t .supports) ≡ 4 = search needs in
+    comes-more (s .args .self) (s .args .t) e f (s .pre .0) (s .pre .1) (omega arith) (c .if4 .taken)
+
+cast-n : tie.Need-cast-n
+cast-n c = search needs
+
+array-share-prefix-mine : tie.Need-array-share-prefix-mine
+array-share-prefix-mine c = let s = c .before .before .before .before .before .before .before .before .before .before .before .before .before .before in let e : length (s .args .self .supports) ≡ 4 = search needs in omega (arith, s .pre .0)
+
+slice-aggregate-less : tie.Need-slice-aggregate-less
+slice-aggregate-less c = let s = c .before .before .before .before .before .before .before .before .before .before .before .before .before .before .before in let e : length (s .args .self .supports) ≡ 4 = search needs in sym (length-take-le _ _ (omega (arith, s .pre .0)))
+
+array-share-prefix-theirs : tie.Need-array-share-prefix-theirs
+array-share-prefix-theirs c = let s = c .before .before .before .before .before .before .before .before .before .before .before .before .before .before .before in let e : length (s .args .t .supports) ≡ 4 = search needs in omega (arith, s .pre .0)
+
+slice-aggregate-less-2 : tie.Need-slice-aggregate-less-2
+slice-aggregate-less-2 c = let s = c .before .before .before .before .before .before .before .before .before .before .before .before .before .before .before .before in let e : length (s .args .t .supports) ≡ 4 = search needs in sym (length-take-le _ _ (omega (arith, s .pre .0)))
+
+less-requires : tie.Need-less-requires
+less-requires c κs =
+    let s = c .before .before .before .before .before .before .before .before .before .before .before .before .before .before .before .before in
+    let e : length (s .args .self .supports) ≡ 4 = search needs in
+    let f : length (s .args .t .supports) ≡ 4 = search needs in
+    as-long (s .args .self) (s .args .t) e f (s .pre .0) (s .pre .1)
+
+returns-5 : tie.Need-returns-5
+returns-5 c =
+    let s = c .before .before .before .before .before .before .before .before .before .before .before .before .before .before .before .before .before in
+    let e : length (s .args .self .supports) ≡ 4 = search needs in
+    let f : length (s .args .t .supports) ≡ 4 = search needs in
+    comes-same (s .args .self) (s .args .t) e f (s .pre .0) (s .pre .1) (omega arith) (omega arith) _ (c .less .ensures)
+
+pub comes-spec : {M : Type 1} → statement M
+comes-spec =
+    tie.close
+    (tie.spec
+    returns
+    returns-2
+    returns-3
+    returns-4
+    cast-n
+    array-share-prefix-mine
+    slice-aggregate-less
+    array-share-prefix-theirs
+    slice-aggregate-less-2
+    less-requires
+    returns-5)

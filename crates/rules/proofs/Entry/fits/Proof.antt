@@ -1,0 +1,71 @@
+-- `fits` meets its contract: each part of the test in its order. Assumes nothing.
+use mathlib.Core.Path.{_∙_, _≡_, ap, sym}
+use native.Mathlib.Omega.{arith}
+use lib.Dec.{eqb}
+use lib.ListN.{length}
+use lib.Seq.{length-take-le}
+use borrow.Author.Needs.{needs}
+use Rattle.rules.proofs.Steps.{fits-above, fits-many, fits-not, fits-rest, to-end}
+use Rattle.theory.specs.Lists.{allOf}
+use Rattle.rules.proofs.Entry.fits.Statement.{statement}
+use Rattle.rules.proofs.Entry.fits.Tie as tie
+
+cast-if1 : tie.Need-cast-if1
+cast-if1 c = search needs
+
+returns : tie.Need-returns
+returns c = fits-above _ _ (c .if1 .taken)
+
+returns-2 : tie.Need-returns-2
+returns-2 c = fits-many _ _ (c .before .if1 .left) (c .if2 .taken)
+
+cast-n : tie.Need-cast-n
+cast-n c = search needs
+
+array-share-prefix-supports : tie.Need-array-share-prefix-supports
+array-share-prefix-supports c = let e : length (c .before .before .before .before .args .self .supports) ≡ 4 = search needs in omega arith
+
+slice-aggregate-rises : tie.Need-slice-aggregate-rises
+slice-aggregate-rises c = let e : length (c .before .before .before .before .before .args .self .supports) ≡ 4 = search needs in sym (length-take-le _ _ (omega arith))
+
+rises-requires : tie.Need-rises-requires
+rises-requires c κs = search needs
+
+sub-zeros : tie.Need-sub-zeros
+sub-zeros c = search needs
+
+part-zeros-start : tie.Need-part-zeros-start
+part-zeros-start c = search needs
+
+part-zeros-end : tie.Need-part-zeros-end
+part-zeros-end c = let e : length (c .before .before .before .before .before .before .before .before .args .self .supports) ≡ 4 = search needs in omega (arith, e)
+
+zeros-requires : tie.Need-zeros-requires
+zeros-requires c κs = search needs
+
+returns-3 : tie.Need-returns-3
+returns-3 c =
+    let s = c .before .before .before .before .before .before .before .before .before .before .args .self in
+    let e : length (s .supports) ≡ 4 = search needs in
+    fits-rest _ _ (omega arith) (omega arith) (sym (c .before .before .before .before .rises .ensures) ∙ c .before .before .before .if3 .taken) e _ (c .zeros .ensures ∙ ap (allOf (eqb 0)) (to-end (s .supports) (s .count) 4 e))
+
+returns-4 : tie.Need-returns-4
+returns-4 c = fits-not _ _ (omega arith) (omega arith) (sym (c .before .rises .ensures) ∙ c .if3 .left)
+
+pub fits-spec : {M : Type 1} → statement M
+fits-spec =
+    tie.close
+    (tie.spec
+    cast-if1
+    returns
+    returns-2
+    cast-n
+    array-share-prefix-supports
+    slice-aggregate-rises
+    rises-requires
+    sub-zeros
+    part-zeros-start
+    part-zeros-end
+    zeros-requires
+    returns-3
+    returns-4)

@@ -1,0 +1,63 @@
+-- `same` meets its contract: by consequent, by number of supports, by the supports. Assumes nothing.
+use mathlib.Core.Path.{_≡_, sym}
+use native.Mathlib.Omega.{arith}
+use lib.ListN.{length}
+use lib.Seq.{length-take-le}
+use borrow.Author.Needs.{needs}
+use Rattle.rules.proofs.Steps.{as-long, differ-many, same-all, same-head}
+use Rattle.rules.specs.Held.{meaning}
+use Rattle.rules.proofs.Entry.same.Statement.{statement}
+use Rattle.rules.proofs.Entry.same.Tie as tie
+
+returns : tie.Need-returns
+returns c = same-head (meaning (c .before .before .before .args .self)) (meaning (c .before .before .before .args .t)) (c .if1 .taken)
+
+returns-2 : tie.Need-returns-2
+returns-2 c =
+    let s = c .before .before .before .before .before .before in
+    let e : length (s .args .self .supports) ≡ 4 = search needs in
+    let f : length (s .args .t .supports) ≡ 4 = search needs in
+    differ-many (s .args .self) (s .args .t) e f (s .pre .0) (s .pre .1) (c .before .before .before .if1 .left) (c .if2 .taken)
+
+cast-n : tie.Need-cast-n
+cast-n c = search needs
+
+array-share-prefix-mine : tie.Need-array-share-prefix-mine
+array-share-prefix-mine c = let s = c .before .before .before .before .before .before .before .before in let e : length (s .args .self .supports) ≡ 4 = search needs in omega (arith, s .pre .0)
+
+slice-aggregate-equal : tie.Need-slice-aggregate-equal
+slice-aggregate-equal c = let s = c .before .before .before .before .before .before .before .before .before in let e : length (s .args .self .supports) ≡ 4 = search needs in sym (length-take-le _ _ (omega (arith, s .pre .0)))
+
+array-share-prefix-theirs : tie.Need-array-share-prefix-theirs
+array-share-prefix-theirs c = let s = c .before .before .before .before .before .before .before .before .before in let e : length (s .args .t .supports) ≡ 4 = search needs in omega (arith, s .pre .0)
+
+slice-aggregate-equal-2 : tie.Need-slice-aggregate-equal-2
+slice-aggregate-equal-2 c = let s = c .before .before .before .before .before .before .before .before .before .before in let e : length (s .args .t .supports) ≡ 4 = search needs in sym (length-take-le _ _ (omega (arith, s .pre .0)))
+
+equal-requires : tie.Need-equal-requires
+equal-requires c κs =
+    let s = c .before .before .before .before .before .before .before .before .before .before in
+    let e : length (s .args .self .supports) ≡ 4 = search needs in
+    let f : length (s .args .t .supports) ≡ 4 = search needs in
+    as-long (s .args .self) (s .args .t) e f (s .pre .0) (s .pre .1)
+
+returns-3 : tie.Need-returns-3
+returns-3 c =
+    let s = c .before .before .before .before .before .before .before .before .before .before .before in
+    let e : length (s .args .self .supports) ≡ 4 = search needs in
+    let f : length (s .args .t .supports) ≡ 4 = search needs in
+    same-all (s .args .self) (s .args .t) e f (s .pre .0) (s .pre .1) (c .before .before .before .before .before .before .before .before .if1 .left) (c .before .before .before .before .before .if2 .left) _ (c .equal .ensures)
+
+pub same-spec : {M : Type 1} → statement M
+same-spec =
+    tie.close
+    (tie.spec
+    returns
+    returns-2
+    cast-n
+    array-share-prefix-mine
+    slice-aggregate-equal
+    array-share-prefix-theirs
+    slice-aggregate-equal-2
+    equal-requires
+    returns-3)

@@ -1,0 +1,73 @@
+-- `holds` meets its contract. The loop: it is held if it is held from here on. Assumes nothing.
+use mathlib.Core.List.{map}
+use mathlib.Core.Path.{_∙_, _≡_, refl, sym}
+use Prim.Native.Nat.{_-_, _≤_}
+use native.Mathlib.Omega.{arith}
+use lib.ListN.{drop, take}
+use borrow.Author.Needs.{needs}
+use Rattle.rules.proofs.Scan.{held-end, held-hit, held-miss, right-count, right-elim, right-inside}
+use Rattle.rules.specs.Held.{meaning}
+use Rattle.rules.specs.Items.{sameJustification}
+use Rattle.theory.specs.Lists.{someOf}
+use Rattle.rules.proofs.Held.holds.Statement.{statement}
+use Rattle.rules.proofs.Held.holds.Tie as tie
+
+abbrev Inv-loop : tie.InvT-loop
+Inv-loop entry self count j₀ j = (j ≤ count) × (someOf (sameJustification (meaning entry)) (map meaning (take count (self .entries))) ≡ someOf (sameJustification (meaning entry)) (drop j (map meaning (take count (self .entries)))))
+
+abbrev μ-loop : tie.MeasureT-loop
+μ-loop entry self count j₀ j = count - j
+
+loop-holds : tie.Need-loop-holds Inv-loop μ-loop
+loop-holds c = (omega arith, refl)
+
+mul-t : tie.Need-mul-t Inv-loop μ-loop
+mul-t c = let s = c .before .before in omega (arith, right-elim (s .args .t1) (s .pre .0) .few)
+
+element-copy-out-t : tie.Need-element-copy-out-t Inv-loop μ-loop
+element-copy-out-t c = let s = c .before .before in omega (arith, right-elim (s .args .t1) (s .pre .0) .few)
+
+same-requires : tie.Need-same-requires Inv-loop μ-loop
+same-requires c κs =
+    let s = c .before .before .before in
+    (s .pre .1, right-count (s .args .t1) (s .pre .0) (c .before .before .loop .j) (omega arith))
+
+returns : tie.Need-returns Inv-loop μ-loop
+returns c =
+    let l = c .before .before .before .before .loop in
+    let s = c .before .before .before .before .before in
+    sym (l .inv .1 ∙ held-hit (s .args .t1 .entries) (s .args .t1 .count) (right-inside (s .args .t1) (s .pre .0)) (sameJustification (meaning (s .args .entry))) (l .j) (omega arith) (sym (c .before .same .ensures) ∙ c .if1 .taken))
+
+add-j : tie.Need-add-j Inv-loop μ-loop
+add-j c = search needs
+
+loop-less : tie.Need-loop-less Inv-loop μ-loop
+loop-less c = search needs
+
+loop-again : tie.Need-loop-again Inv-loop μ-loop
+loop-again c =
+    let l = c .before .before .before .before .loop in
+    let s = c .before .before .before .before .before in
+    (omega arith, l .inv .1 ∙ held-miss (s .args .t1 .entries) (s .args .t1 .count) (right-inside (s .args .t1) (s .pre .0)) (sameJustification (meaning (s .args .entry))) (l .j) (omega arith) (sym (c .before .same .ensures) ∙ c .if1 .left))
+
+returns-2 : tie.Need-returns-2 Inv-loop μ-loop
+returns-2 c =
+    let l = c .before .loop in
+    let s = c .before .before in
+    sym (l .inv .1 ∙ held-end (s .args .t1 .entries) (s .args .t1 .count) (right-inside (s .args .t1) (s .pre .0)) (sameJustification (meaning (s .args .entry))) (l .j) (omega arith))
+
+pub holds-spec : {M : Type 1} → statement M
+holds-spec =
+    tie.close
+    (tie.spec
+    Inv-loop
+    μ-loop
+    loop-holds
+    mul-t
+    element-copy-out-t
+    same-requires
+    returns
+    add-j
+    loop-less
+    loop-again
+    returns-2)

@@ -1,0 +1,92 @@
+-- `moved` meets its contract. The loop: the places above i hold what was one below. Assumes nothing.
+use mathlib.Core.Path.{_∙_, _≡_, ap, refl, subst}
+use Prim.Native.Nat.{_+_, _-_, _≤_, ℕ}
+use native.Mathlib.Omega.{arith}
+use lib.ListN.{getD, length, set}
+use borrow.Author.Needs.{needs}
+use Rattle.rules.proofs.Moving.{Shifting, shift-more, shift-none, shift-put}
+use Rattle.rules.proofs.Steps.{beyond, length-mapped}
+use Rattle.rules.specs.Placing.{withEntries}
+use Rattle.rules.specs.declared.Held.{Held}
+use Rattle.rules.proofs.Held.moved.Statement.{statement}
+use Rattle.rules.proofs.Held.moved.Tie as tie
+
+abbrev Inv-loop : tie.InvT-loop
+Inv-loop at entry self₀ count i₀ self i = (at ≤ i) × (i ≤ count) × Shifting (self₀ .entries) (self .entries) i count × (self ≡ withEntries self₀ count (self .entries))
+
+abbrev μ-loop : tie.MeasureT-loop
+μ-loop at entry self₀ count i₀ self i = i
+
+loop-holds : tie.Need-loop-holds Inv-loop μ-loop
+loop-holds c = (omega arith, omega arith, shift-none _ _, refl)
+
+sub-last : tie.Need-sub-last Inv-loop μ-loop
+sub-last c = search needs
+
+mul-last : tie.Need-mul-last Inv-loop μ-loop
+mul-last c = search needs
+
+element-copy-out-last : tie.Need-element-copy-out-last Inv-loop μ-loop
+element-copy-out-last c = search needs
+
+mul-last-2 : tie.Need-mul-last-2 Inv-loop μ-loop
+mul-last-2 c = search needs
+
+element-set-from-last : tie.Need-element-set-from-last Inv-loop μ-loop
+element-set-from-last c = search needs
+
+sub-i : tie.Need-sub-i Inv-loop μ-loop
+sub-i c = search needs
+
+loop-less : tie.Need-loop-less Inv-loop μ-loop
+loop-less c = search needs
+
+loop-again : tie.Need-loop-again Inv-loop μ-loop
+loop-again c =
+    let l = c .before .before .loop in
+    let a = c .before .before .before .args in
+    let e : length (a .t1 .entries) ≡ 256 = search (needs, length-mapped) in (
+      omega arith,
+      omega arith,
+      shift-more (a .t1 .entries) (l .self .entries) (l .i) (a .t1 .count) (omega arith) (omega arith) (omega arith) (l .inv .2),
+      ap (λ (s : Held). withEntries s (s .count) (set (l .self .entries) (l .i) (getD (l .self .entries) (l .i - 1) beyond))) (l .inv .3),
+    )
+
+mul-entry : tie.Need-mul-entry Inv-loop μ-loop
+mul-entry c = search needs
+
+element-set-from-entry : tie.Need-element-set-from-entry Inv-loop μ-loop
+element-set-from-entry c = search needs
+
+add-self : tie.Need-add-self Inv-loop μ-loop
+add-self c = search needs
+
+returns : tie.Need-returns Inv-loop μ-loop
+returns c =
+    let l = c .before .loop in
+    let a = c .before .before .args in
+    let e : length (a .t1 .entries) ≡ 256 = search (needs, length-mapped) in
+    let i : l .i ≡ a .at = omega arith in
+    ap (λ (s : Held). withEntries s (a .t1 .count + 1) (set (l .self .entries) (a .at) (a .entry))) (l .inv .3)
+    ∙ ap (withEntries (a .t1) (a .t1 .count + 1))
+    (shift-put (a .t1 .entries) (a .at) (a .t1 .count) (a .entry) (omega arith) (omega arith) (l .self .entries) (subst (λ (n : ℕ). Shifting (a .t1 .entries) (l .self .entries) n (a .t1 .count)) i (l .inv .2)))
+
+pub moved-spec : {M : Type 1} → statement M
+moved-spec =
+    tie.close
+    (tie.spec
+    Inv-loop
+    μ-loop
+    loop-holds
+    sub-last
+    mul-last
+    element-copy-out-last
+    mul-last-2
+    element-set-from-last
+    sub-i
+    loop-less
+    loop-again
+    mul-entry
+    element-set-from-entry
+    add-self
+    returns)

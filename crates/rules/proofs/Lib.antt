@@ -1,0 +1,9 @@
+pub mod Steps
+pub mod Faults
+pub mod Scan
+pub mod Entries
+pub mod Taking
+pub mod Moving
+pub mod Putting
+pub mod Order
+pub mod Laws

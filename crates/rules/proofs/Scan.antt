@@ -1,0 +1,154 @@
+-- What is held, one justification after the other, as the loops go over it. Assumes nothing.
+use mathlib.Core.Bool.{Bool, _&&_, false, true}
+use mathlib.Core.List.{List, _∷_, map}
+use mathlib.Core.Path.{_∙_, _≡_, ap, ap₂, sym}
+use Prim.Native.Nat.{_+_, _-_, _<_, _≤_, suc, ℕ}
+use native.Mathlib.Decide.{decLt}
+use native.Mathlib.Numerals.{add-one}
+use native.Mathlib.Omega.{arith}
+use lib.Dec.{eqb, leb}
+use lib.ListN.{List·getD-map, drop, drop-of-length-le, getD, length, length-map, take}
+use lib.Seq.{drop-cons, getD-take, length-take-le}
+use borrow.Author.Tests.{eq-eqb, eqb-true, le-leb, leb-true, lt-leb}
+use Rattle.rules.proofs.Steps.{all-first, any-hit, any-miss, beyond, fitting-count}
+use Rattle.rules.specs.Held.{fitting, heldRight, meaning, ordered, saidBy, unusedEntry}
+use Rattle.rules.specs.Placing.{placeOf}
+use Rattle.rules.specs.declared.Entry.{Entry}
+use Rattle.rules.specs.declared.Held.{Held}
+use Rattle.theory.proofs.Lists.{and-left, and-right}
+use Rattle.theory.proofs.Places.{any-end}
+use Rattle.theory.specs.Lists.{allOf, choose, someOf}
+use Rattle.theory.specs.Stages.{Justification, ahead}
+
+-- ---- justifications in order
+module _ (l : List Justification) (j : ℕ) where
+  ordered-step : (z : Justification) → suc j < length l → ordered (drop j l) ≡ ahead (getD l j z) (getD l (suc j) z) && ordered (drop (suc j) l)
+  unfolding ordered
+  ordered-step z h =
+      let q : j < length l = omega arith in
+      ap ordered (drop-cons l j z q ∙ ap (λ (m : List Justification). getD l j z ∷ m) (drop-cons l (suc j) z h))
+      ∙ ap (λ (m : List Justification). ahead (getD l j z) (getD l (suc j) z) && ordered m) (sym (drop-cons l (suc j) z h))
+
+  pub ordered-end : length l ≤ suc j → ordered (drop j l) ≡ true
+  unfolding ordered
+  ordered-end h = elim (decLt j (length l)) [
+    | yes q ↦ let e : length l ≤ suc j = h in ap ordered (drop-cons l j noJustification q ∙ ap (λ (m : List Justification). getD l j noJustification ∷ m) (drop-of-length-le l {i = suc j} e))
+    | no q ↦ ap ordered (drop-of-length-le l {i = j} (omega arith))
+  ]
+    where
+      noJustification : Justification
+      noJustification = meaning beyond
+
+-- ---- the justifications of the first n places, one by one
+module _ (entries : List Entry) (n : ℕ) (fits : n ≤ length entries) where
+  abbrev from : ℕ → List Justification
+  from i = drop i (map meaning (take n entries))
+
+  pub said-length : length (map meaning (take n entries)) ≡ n
+  said-length = length-map (take n entries) meaning ∙ length-take-le n entries fits
+
+  pub said-at : (i : ℕ) → i < n → getD (map meaning (take n entries)) i (meaning beyond) ≡ meaning (getD entries i beyond)
+  said-at i h = List·getD-map meaning (take n entries) i beyond ∙ ap meaning (getD-take n entries i beyond h)
+
+  module _ (p : Justification → Bool) (j : ℕ) where
+    pub held-hit : j < n → p (meaning (getD entries j beyond)) ≡ true → someOf p (from j) ≡ true
+    held-hit h t = any-hit p (map meaning (take n entries)) j (meaning beyond) (omega (arith, said-length)) (ap p (said-at j h) ∙ t)
+
+    pub held-miss : j < n → p (meaning (getD entries j beyond)) ≡ false → someOf p (from j) ≡ someOf p (from (j + 1))
+    held-miss h t = any-miss p (map meaning (take n entries)) j (meaning beyond) (omega (arith, said-length)) (ap p (said-at j h) ∙ t)
+
+    pub held-end : n ≤ j → someOf p (from j) ≡ false
+    held-end h = any-end p (map meaning (take n entries)) j (omega (arith, said-length))
+
+  module _ (r : Justification) (j : ℕ) where
+    place-step : j < n → placeOf r (from j) ≡ choose (ahead (meaning (getD entries j beyond)) r) (suc (placeOf r (from (j + 1)))) 0
+    unfolding placeOf
+    place-step h =
+        ap (placeOf r) (drop-cons (map meaning (take n entries)) j (meaning beyond) (omega (arith, said-length)))
+        ∙ ap₂ (λ (t : Justification) (i : ℕ). choose (ahead t r) (suc (placeOf r (from i))) 0) (said-at j h) (sym (add-one j))
+
+    pub place-more : j < n → ahead (meaning (getD entries j beyond)) r ≡ true → j + placeOf r (from j) ≡ j + 1 + placeOf r (from (j + 1))
+    place-more h t = omega (arith, place-step h ∙ ap (λ (b : Bool). choose b (suc (placeOf r (from (j + 1)))) 0) t)
+
+    pub place-here : j < n → ahead (meaning (getD entries j beyond)) r ≡ false → j + placeOf r (from j) ≡ j
+    place-here h t = omega (arith, place-step h ∙ ap (λ (b : Bool). choose b (suc (placeOf r (from (j + 1)))) 0) t)
+
+    pub place-end : n ≤ j → j + placeOf r (from j) ≡ j
+    unfolding placeOf
+    place-end h = omega (arith, ap (placeOf r) (drop-of-length-le (map meaning (take n entries)) {i = j} (omega (arith, said-length))))
+
+  module _ (j : ℕ) (low : 1 ≤ j) where
+    order-step : j < n → ordered (from (j - 1)) ≡ ahead (meaning (getD entries (j - 1) beyond)) (meaning (getD entries j beyond)) && ordered (from j)
+    order-step h =
+        let s : suc (j - 1) ≡ j = omega arith in
+        let k : suc (j - 1) < length (map meaning (take n entries)) = omega (arith, said-length) in
+        ordered-step (map meaning (take n entries)) (j - 1) (meaning beyond) k
+        ∙ ap (λ (i : ℕ). ahead (getD (map meaning (take n entries)) (j - 1) (meaning beyond)) (getD (map meaning (take n entries)) i (meaning beyond)) && ordered (from i)) s
+        ∙ ap₂ (λ (r t : Justification). ahead r t && ordered (from j)) (said-at (j - 1) (omega arith)) (said-at j h)
+
+    pub order-hit : j < n → ahead (meaning (getD entries (j - 1) beyond)) (meaning (getD entries j beyond)) ≡ true → ordered (from (j - 1)) ≡ ordered (from j)
+    order-hit h t = order-step h ∙ ap (λ (b : Bool). b && ordered (from j)) t
+
+    pub order-miss : j < n → ahead (meaning (getD entries (j - 1) beyond)) (meaning (getD entries j beyond)) ≡ false → ordered (from (j - 1)) ≡ false
+    order-miss h t = order-step h ∙ ap (λ (b : Bool). b && ordered (from j)) t
+
+    pub order-end : n ≤ j → ordered (from (j - 1)) ≡ true
+    order-end h = ordered-end (map meaning (take n entries)) (j - 1) (omega (arith, said-length))
+
+-- ---- the right shape
+module _ (h : Held) where
+  pub right-many : 256 < h .count → false ≡ heldRight h
+  unfolding heldRight
+  right-many p = rw (lt-leb (h .count) 256 p)
+
+  module _ (few : h .count ≤ 256) (long : length (h .entries) ≡ 256) where
+    abbrev N : ℕ
+    N = h .assumptions + h .claims
+
+    pub right-out : allOf (fitting N) (take (h .count) (h .entries)) ≡ false → false ≡ heldRight h
+    unfolding heldRight
+    right-out p = rw (le-leb (h .count) 256 few, eq-eqb (length (h .entries)) 256 long, p)
+
+    pub right-mixed : allOf (fitting N) (take (h .count) (h .entries)) ≡ true → ordered (saidBy h) ≡ false → false ≡ heldRight h
+    unfolding heldRight
+    right-mixed p q = rw (le-leb (h .count) 256 few, eq-eqb (length (h .entries)) 256 long, p, q)
+
+    pub right-rest : allOf (fitting N) (take (h .count) (h .entries)) ≡ true → ordered (saidBy h) ≡ true → (r : Bool) → r ≡ allOf unusedEntry (drop (h .count) (h .entries)) → r ≡ heldRight h
+    unfolding heldRight
+    right-rest p q r e = rw (le-leb (h .count) 256 few, eq-eqb (length (h .entries)) 256 long, p, q) e
+
+-- what a right shape says
+pub record Right (h : Held) : Type 0 where
+  pub few : h .count ≤ 256
+  pub long : length (h .entries) ≡ 256
+  pub fits : allOf (fitting (h .assumptions + h .claims)) (take (h .count) (h .entries)) ≡ true
+  pub order : ordered (saidBy h) ≡ true
+  pub spare : allOf unusedEntry (drop (h .count) (h .entries)) ≡ true
+
+pub right-elim : (h : Held) → heldRight h ≡ true → Right h
+unfolding heldRight
+right-elim h r =
+    let r₁ = and-right (leb (h .count) 256) _ r in
+    let r₂ = and-right (eqb (length (h .entries)) 256) _ r₁ in
+    let F : Bool = allOf (fitting (h .assumptions + h .claims)) (take (h .count) (h .entries)) in
+    let r₃ = and-right F _ r₂ in
+    record {
+      few = leb-true (h .count) 256 (and-left (leb (h .count) 256) _ r);
+      long = eqb-true (length (h .entries)) 256 (and-left (eqb (length (h .entries)) 256) _ r₁);
+      fits = and-left F _ r₂;
+      order = and-left (ordered (saidBy h)) _ r₃;
+      spare = and-right (ordered (saidBy h)) _ r₃;
+    }
+
+pub right-intro : (h : Held) → Right h → heldRight h ≡ true
+unfolding heldRight
+right-intro h r = rw (le-leb (h .count) 256 (r .few), eq-eqb (length (h .entries)) 256 (r .long), r .fits, r .order) (r .spare)
+
+pub right-inside : (h : Held) → heldRight h ≡ true → h .count ≤ length (h .entries)
+right-inside h r = let k = right-elim h r in omega (arith, k .few, k .long)
+
+-- each place in use has at most 4 supports
+pub right-count : (h : Held) → heldRight h ≡ true → (j : ℕ) → j < h .count → getD (h .entries) j beyond .count ≤ 4
+right-count h r j p =
+    let N : ℕ = h .assumptions + h .claims in
+    fitting-count N (getD (h .entries) j beyond) (all-first (fitting N) (h .entries) (h .count) j beyond (right-inside h r) (right-elim h r .fits) p)

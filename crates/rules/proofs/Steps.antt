@@ -1,0 +1,231 @@
+-- The steps of the loops and the branches of the code, over plain variables. Assumes nothing.
+use mathlib.Core.Bool.{Bool, _&&_, _||_, false, true}
+use mathlib.Core.List.{List, [], _∷_, map}
+use mathlib.Core.Path.{_∙_, _≡_, ap, ap₂, refl, sym}
+use Prim.Native.Nat.{_+_, _-_, _<_, _≤_, suc, zero, ℕ}
+use native.Mathlib.Nat.{le-of-suc-le-suc, not-suc-le-zero}
+use native.Mathlib.Numerals.{add-one}
+use native.Mathlib.Omega.{arith}
+use lib.Dec.{eqb, leb, ltb}
+use lib.ListN.{drop, drop-of-length-le, getD, length, length-map, length-take, take}
+use lib.Seq.{drop-cons, getD-take, length-take-le}
+use borrow.Author.Tests.{eq-eqb, le-leb, le-ltb, leb-true, lt-leb, lt-ltb, ne-eqb}
+use borrow.Rule.Slice.PartAt.{part-to-end}
+use Rattle.rules.specs.Held.{climbs, fitting, meaning, unusedEntry}
+use Rattle.rules.specs.Items.{sameJustification}
+use Rattle.rules.specs.declared.Entry.{Entry}
+use Rattle.theory.proofs.Lists.{and-intro, and-left, and-right}
+use Rattle.theory.proofs.Places.{any-step}
+use Rattle.theory.specs.Judge.{sameSets}
+use Rattle.theory.specs.Lists.{alike, allOf, someOf}
+use Rattle.theory.specs.Stages.{Justification, ahead, lesser}
+
+-- what is read past the last place
+abbrev pub beyond : Entry
+beyond = record { consequent = 0; count = 0; supports = [] }
+
+-- the number of elements of an array of structs, from what owning it tells
+pub length-mapped : (X Y : Type 0) (f : X → Y) (l : List X) (n : ℕ) → length (map f l) ≡ n → length l ≡ n
+length-mapped X Y f l n p = sym (length-map l f) ∙ p
+
+-- ---- a list, one by one
+module _ {X : Type 0} (p : X → Bool) (l : List X) (i : ℕ) (z : X) (h : i < length l) where
+  pub any-hit : p (getD l i z) ≡ true → someOf p (drop i l) ≡ true
+  any-hit t = any-step p l i z h ∙ ap (λ (b : Bool). b || someOf p (drop (i + 1) l)) t
+
+  pub any-miss : p (getD l i z) ≡ false → someOf p (drop i l) ≡ someOf p (drop (i + 1) l)
+  any-miss t = any-step p l i z h ∙ ap (λ (b : Bool). b || someOf p (drop (i + 1) l)) t
+
+pub all-at : {X : Type 0} (p : X → Bool) (l : List X) (i : ℕ) (z : X) → allOf p l ≡ true → i < length l → p (getD l i z) ≡ true
+unfolding allOf
+all-at p [] i z h k = absurd (not-suc-le-zero k)
+all-at p (x ∷ l) zero z h k = and-left (p x) (allOf p l) h
+all-at p (x ∷ l) (suc i) z h k = all-at p l i z (and-right (p x) (allOf p l) h) (le-of-suc-le-suc k)
+
+pub all-places : {X : Type 0} (p : X → Bool) (l : List X) (z : X) → ((i : ℕ) → i < length l → p (getD l i z) ≡ true) → allOf p l ≡ true
+unfolding allOf
+all-places p [] z f = refl
+all-places p (x ∷ l) z f = and-intro (f 0 (omega arith)) (all-places p l z (λ i h. f (suc i) (omega arith)))
+
+pub all-first : {X : Type 0} (p : X → Bool) (l : List X) (n i : ℕ) (z : X) → n ≤ length l → allOf p (take n l) ≡ true → i < n → p (getD l i z) ≡ true
+all-first p l n i z f h k = ap p (sym (getD-take n l i z k)) ∙ all-at p (take n l) i z h (omega (arith, length-take n l))
+
+-- a part that goes to the end of m places
+pub to-end : {X : Type 0} (l : List X) (n m : ℕ) → length l ≡ m → take (m - n) (drop n l) ≡ drop n l
+to-end l n m e = ap (λ (k : ℕ). take (k - n) (drop n l)) (sym e) ∙ part-to-end l n
+
+-- ---- numbers that rise
+module _ (N p : ℕ) (l : List ℕ) (i : ℕ) where
+  climbs-step : i < length l → climbs N p (drop i l) ≡ ltb p (getD l i 0) && (leb (getD l i 0) N && climbs N (getD l i 0) (drop (i + 1) l))
+  unfolding climbs
+  climbs-step h =
+      ap (climbs N p) (drop-cons l i 0 h)
+      ∙ ap (λ (j : ℕ). ltb p (getD l i 0) && (leb (getD l i 0) N && climbs N (getD l i 0) (drop j l))) (sym (add-one i))
+
+  pub climbs-low : i < length l → getD l i 0 ≤ p → climbs N p (drop i l) ≡ false
+  climbs-low h k = climbs-step h ∙ rw (le-ltb p (getD l i 0) k)
+
+  pub climbs-high : i < length l → p < getD l i 0 → N < getD l i 0 → climbs N p (drop i l) ≡ false
+  climbs-high h k m = climbs-step h ∙ rw (lt-ltb p (getD l i 0) k, lt-leb (getD l i 0) N m)
+
+  pub climbs-more : i < length l → p < getD l i 0 → getD l i 0 ≤ N → climbs N p (drop i l) ≡ climbs N (getD l i 0) (drop (i + 1) l)
+  climbs-more h k m = climbs-step h ∙ rw (lt-ltb p (getD l i 0) k, le-leb (getD l i 0) N m)
+
+  pub climbs-end : length l ≤ i → climbs N p (drop i l) ≡ true
+  unfolding climbs
+  climbs-end h = ap (climbs N p) (drop-of-length-le l {i = i} h)
+
+-- ---- a place
+module _ (N : ℕ) (e : Entry) where
+  pub fits-above : N < e .consequent → false ≡ fitting N e
+  unfolding fitting
+  fits-above h = rw (lt-leb (e .consequent) N h)
+
+  pub fits-many : e .consequent ≤ N → 4 < e .count → false ≡ fitting N e
+  unfolding fitting
+  fits-many h k = rw (le-leb (e .consequent) N h, lt-leb (e .count) 4 k)
+
+  pub fits-not : e .consequent ≤ N → e .count ≤ 4 → climbs N 0 (take (e .count) (e .supports)) ≡ false → false ≡ fitting N e
+  unfolding fitting
+  fits-not h k t = rw (le-leb (e .consequent) N h, le-leb (e .count) 4 k, t)
+
+  pub fits-rest : e .consequent ≤ N → e .count ≤ 4 → climbs N 0 (take (e .count) (e .supports)) ≡ true → length (e .supports) ≡ 4
+      → (r : Bool) → r ≡ allOf (eqb 0) (drop (e .count) (e .supports)) → r ≡ fitting N e
+  unfolding fitting
+  fits-rest h k t q r p = rw (le-leb (e .consequent) N h, le-leb (e .count) 4 k, t, eq-eqb (length (e .supports)) 4 q) p
+
+module _ (e : Entry) where
+  pub unused-head : (e .consequent ≡ 0 → ⊥) → false ≡ unusedEntry e
+  unfolding unusedEntry
+  unused-head h = rw (ne-eqb (e .consequent) 0 h)
+
+  pub unused-count : e .consequent ≡ 0 → (e .count ≡ 0 → ⊥) → false ≡ unusedEntry e
+  unfolding unusedEntry
+  unused-count h k = rw (eq-eqb (e .consequent) 0 h, ne-eqb (e .count) 0 k)
+
+  pub unused-rest : e .consequent ≡ 0 → e .count ≡ 0 → length (e .supports) ≡ 4 → (r : Bool) → r ≡ allOf (eqb 0) (e .supports) → r ≡ unusedEntry e
+  unfolding unusedEntry
+  unused-rest h k q r p = rw (eq-eqb (e .consequent) 0 h, eq-eqb (e .count) 0 k, eq-eqb (length (e .supports)) 4 q) p
+
+pub fitting-count : (N : ℕ) (e : Entry) → fitting N e ≡ true → e .count ≤ 4
+unfolding fitting
+fitting-count N e h = leb-true (e .count) 4 (and-left (leb (e .count) 4) _ (and-right (leb (e .consequent) N) _ h))
+
+-- ---- the order of two lists
+module _ (a b : List ℕ) (i : ℕ) where
+  less-step : i < length a → i < length b
+      → lesser (drop i a) (drop i b) ≡ ltb (getD a i 0) (getD b i 0) || (eqb (getD a i 0) (getD b i 0) && lesser (drop (i + 1) a) (drop (i + 1) b))
+  unfolding lesser
+  less-step h k =
+      ap₂ lesser (drop-cons a i 0 h) (drop-cons b i 0 k)
+      ∙ ap (λ (j : ℕ). ltb (getD a i 0) (getD b i 0) || (eqb (getD a i 0) (getD b i 0) && lesser (drop j a) (drop j b))) (sym (add-one i))
+
+  pub less-yes : i < length a → i < length b → getD a i 0 < getD b i 0 → lesser (drop i a) (drop i b) ≡ true
+  less-yes h k m = less-step h k ∙ rw (lt-ltb (getD a i 0) (getD b i 0) m)
+
+  pub less-no : i < length a → i < length b → getD b i 0 < getD a i 0 → lesser (drop i a) (drop i b) ≡ false
+  less-no h k m =
+      less-step h k ∙ rw (le-ltb (getD a i 0) (getD b i 0) (omega arith), ne-eqb (getD a i 0) (getD b i 0) (λ e. omega arith))
+
+  pub less-more : i < length a → i < length b → getD b i 0 ≤ getD a i 0 → getD a i 0 ≤ getD b i 0 → lesser (drop i a) (drop i b) ≡ lesser (drop (i + 1) a) (drop (i + 1) b)
+  less-more h k m n =
+      less-step h k ∙ rw (le-ltb (getD a i 0) (getD b i 0) m, eq-eqb (getD a i 0) (getD b i 0) (omega arith))
+
+  pub less-end : length b ≤ i → lesser (drop i a) (drop i b) ≡ false
+  unfolding lesser
+  less-end h = ap (lesser (drop i a)) (drop-of-length-le b {i = i} h)
+
+-- ---- the order of two justifications
+module _ (r t : Justification) where
+  pub ahead-yes : r .consequent < t .consequent → true ≡ ahead r t
+  unfolding ahead
+  ahead-yes h = rw (lt-ltb (r .consequent) (t .consequent) h)
+
+  pub ahead-no : t .consequent < r .consequent → false ≡ ahead r t
+  unfolding ahead
+  ahead-no h = rw (le-ltb (r .consequent) (t .consequent) (omega arith), ne-eqb (r .consequent) (t .consequent) (λ e. omega arith))
+
+  module _ (e : r .consequent ≡ t .consequent) where
+    pub ahead-fewer : length (r .supports) < length (t .supports) → true ≡ ahead r t
+    unfolding ahead
+    ahead-fewer h = rw (le-ltb (r .consequent) (t .consequent) (omega arith), eq-eqb (r .consequent) (t .consequent) e, lt-ltb (length (r .supports)) (length (t .supports)) h)
+
+    pub ahead-more : length (t .supports) < length (r .supports) → false ≡ ahead r t
+    unfolding ahead
+    ahead-more h =
+        rw (le-ltb (r .consequent) (t .consequent) (omega arith), eq-eqb (r .consequent) (t .consequent) e, le-ltb (length (r .supports)) (length (t .supports)) (omega arith), ne-eqb (length (r .supports)) (length (t .supports)) (λ q. omega arith))
+
+    pub ahead-same : length (r .supports) ≡ length (t .supports) → (b : Bool) → b ≡ lesser (r .supports) (t .supports) → b ≡ ahead r t
+    unfolding ahead
+    ahead-same q b p =
+        rw (le-ltb (r .consequent) (t .consequent) (omega arith), eq-eqb (r .consequent) (t .consequent) e, le-ltb (length (r .supports)) (length (t .supports)) (omega arith), eq-eqb (length (r .supports)) (length (t .supports)) q) p
+
+-- ---- two lists of one length
+module _ (a b : List ℕ) (i : ℕ) where
+  same-step : i < length a → i < length b → sameSets (drop i a) (drop i b) ≡ eqb (getD a i 0) (getD b i 0) && sameSets (drop (i + 1) a) (drop (i + 1) b)
+  unfolding sameSets alike
+  same-step h k =
+      ap₂ sameSets (drop-cons a i 0 h) (drop-cons b i 0 k)
+      ∙ ap (λ (j : ℕ). eqb (getD a i 0) (getD b i 0) && sameSets (drop j a) (drop j b)) (sym (add-one i))
+
+  pub same-miss : i < length a → i < length b → (getD a i 0 ≡ getD b i 0 → ⊥) → sameSets (drop i a) (drop i b) ≡ false
+  same-miss h k n = same-step h k ∙ rw (ne-eqb (getD a i 0) (getD b i 0) n)
+
+  pub same-hit : i < length a → i < length b → getD a i 0 ≡ getD b i 0 → sameSets (drop i a) (drop i b) ≡ sameSets (drop (i + 1) a) (drop (i + 1) b)
+  same-hit h k e = same-step h k ∙ ap (λ (t : Bool). t && sameSets (drop (i + 1) a) (drop (i + 1) b)) (eq-eqb (getD a i 0) (getD b i 0) e)
+
+  pub same-end : length a ≤ i → length b ≤ i → sameSets (drop i a) (drop i b) ≡ true
+  unfolding sameSets alike
+  same-end h k = ap₂ sameSets (drop-of-length-le a {i = i} h) (drop-of-length-le b {i = i} k)
+
+-- lists of different lengths differ
+pub same-length : (a b : List ℕ) → (length a ≡ length b → ⊥) → sameSets a b ≡ false
+unfolding sameSets alike
+same-length [] [] h = absurd (h refl)
+same-length [] (y ∷ b) h = refl
+same-length (x ∷ a) [] h = refl
+same-length (x ∷ a) (y ∷ b) h = go (eqb x y) (same-length a b (λ e. h (ap suc e)))
+  where
+    go : (t : Bool) → sameSets a b ≡ false → t && sameSets a b ≡ false
+    go true e = e
+    go false e = refl
+
+module _ (r t : Justification) where
+  pub same-head : (r .consequent ≡ t .consequent → ⊥) → false ≡ sameJustification r t
+  unfolding sameJustification
+  same-head h = rw (ne-eqb (r .consequent) (t .consequent) h)
+
+  pub same-many : r .consequent ≡ t .consequent → (length (r .supports) ≡ length (t .supports) → ⊥) → false ≡ sameJustification r t
+  unfolding sameJustification
+  same-many e h = rw (eq-eqb (r .consequent) (t .consequent) e, same-length (r .supports) (t .supports) h)
+
+  pub same-rest : r .consequent ≡ t .consequent → (b : Bool) → b ≡ sameSets (r .supports) (t .supports) → b ≡ sameJustification r t
+  unfolding sameJustification
+  same-rest e b p = rw (eq-eqb (r .consequent) (t .consequent) e) p
+
+-- ---- two places
+module _ (s t : Entry) (e : length (s .supports) ≡ 4) (f : length (t .supports) ≡ 4) (p : s .count ≤ 4) (q : t .count ≤ 4) where
+  mine : length (take (s .count) (s .supports)) ≡ s .count
+  mine = length-take-le (s .count) (s .supports) (omega arith)
+
+  theirs : length (take (t .count) (t .supports)) ≡ t .count
+  theirs = length-take-le (t .count) (t .supports) (omega arith)
+
+  pub as-long : length (take (s .count) (s .supports)) ≡ length (take (s .count) (t .supports))
+  as-long = mine ∙ sym (length-take-le (s .count) (t .supports) (omega arith))
+
+  pub comes-fewer : s .consequent ≡ t .consequent → s .count < t .count → true ≡ ahead (meaning s) (meaning t)
+  comes-fewer c h = ahead-fewer (meaning s) (meaning t) c (omega (arith, mine, theirs))
+
+  pub comes-more : s .consequent ≡ t .consequent → t .count < s .count → false ≡ ahead (meaning s) (meaning t)
+  comes-more c h = ahead-more (meaning s) (meaning t) c (omega (arith, mine, theirs))
+
+  pub comes-same : s .consequent ≡ t .consequent → s .count ≡ t .count → (b : Bool) → b ≡ lesser (take (s .count) (s .supports)) (take (s .count) (t .supports)) → b ≡ ahead (meaning s) (meaning t)
+  comes-same c n b h =
+      ahead-same (meaning s) (meaning t) c (mine ∙ n ∙ sym theirs) b (h ∙ ap (λ (k : ℕ). lesser (take (s .count) (s .supports)) (take k (t .supports))) n)
+
+  pub differ-many : s .consequent ≡ t .consequent → (s .count ≡ t .count → ⊥) → false ≡ sameJustification (meaning s) (meaning t)
+  differ-many c h = same-many (meaning s) (meaning t) c (λ w. h (sym mine ∙ w ∙ theirs))
+
+  pub same-all : s .consequent ≡ t .consequent → s .count ≡ t .count → (b : Bool) → b ≡ sameSets (take (s .count) (s .supports)) (take (s .count) (t .supports)) → b ≡ sameJustification (meaning s) (meaning t)
+  same-all c n b h = same-rest (meaning s) (meaning t) c b (h ∙ ap (λ (k : ℕ). sameSets (take (s .count) (s .supports)) (take k (t .supports))) n)

@@ -1,0 +1,55 @@
+-- `equal` meets its contract. The loop: the lists are the same if their rests are. Assumes nothing.
+use mathlib.Core.Path.{_∙_, _≡_, refl, sym}
+use Prim.Native.Nat.{_-_, _≤_}
+use native.Mathlib.Omega.{arith}
+use lib.ListN.{drop, length}
+use borrow.Author.Needs.{needs}
+use Rattle.rules.proofs.Steps.{same-end, same-hit, same-miss}
+use Rattle.theory.specs.Judge.{sameSets}
+use Rattle.rules.proofs.lists.equal.Statement.{statement}
+use Rattle.rules.proofs.lists.equal.Tie as tie
+
+abbrev Inv-loop : tie.InvT-loop
+Inv-loop a b i₀ i = (i ≤ length a) × (sameSets a b ≡ sameSets (drop i a) (drop i b))
+
+abbrev μ-loop : tie.MeasureT-loop
+μ-loop a b i₀ i = length a - i
+
+loop-holds : tie.Need-loop-holds Inv-loop μ-loop
+loop-holds c = (omega arith, refl)
+
+shared-slice-read-if1 : tie.Need-shared-slice-read-if1 Inv-loop μ-loop
+shared-slice-read-if1 c = search needs
+
+shared-slice-read-if1-2 : tie.Need-shared-slice-read-if1-2 Inv-loop μ-loop
+shared-slice-read-if1-2 c = omega (arith, c .before .before .before .before .pre)
+
+returns : tie.Need-returns Inv-loop μ-loop
+returns c = let l = c .before .before .before .before .loop in let a = c .before .before .before .before .before .args in sym (l .inv .1 ∙ same-miss (a .a .now) (a .b .now) (l .i) (omega arith) (omega (arith, c .before .before .before .before .before .pre)) (c .if1 .taken))
+
+add-i : tie.Need-add-i Inv-loop μ-loop
+add-i c = search needs
+
+loop-less : tie.Need-loop-less Inv-loop μ-loop
+loop-less c = search needs
+
+loop-again : tie.Need-loop-again Inv-loop μ-loop
+loop-again c = let l = c .before .before .before .before .loop in let a = c .before .before .before .before .before .args in (omega arith, l .inv .1 ∙ same-hit (a .a .now) (a .b .now) (l .i) (omega arith) (omega (arith, c .before .before .before .before .before .pre)) (c .if1 .left))
+
+returns-2 : tie.Need-returns-2 Inv-loop μ-loop
+returns-2 c = let l = c .before .loop in let a = c .before .before .args in sym (l .inv .1 ∙ same-end (a .a .now) (a .b .now) (l .i) (omega arith) (omega (arith, c .before .before .pre)))
+
+pub equal-spec : {M : Type 1} → statement M
+equal-spec =
+    tie.close
+    (tie.spec
+    Inv-loop
+    μ-loop
+    loop-holds
+    shared-slice-read-if1
+    shared-slice-read-if1-2
+    returns
+    add-i
+    loop-less
+    loop-again
+    returns-2)

@@ -1,0 +1,67 @@
+-- `less` meets its contract. The loop: the lists compare as their rests do. Assumes nothing.
+use mathlib.Core.Path.{_∙_, _≡_, refl, sym}
+use Prim.Native.Nat.{_-_, _≤_}
+use native.Mathlib.Omega.{arith}
+use lib.ListN.{drop, length}
+use borrow.Author.Needs.{needs}
+use Rattle.rules.proofs.Steps.{less-end, less-more, less-no, less-yes}
+use Rattle.theory.specs.Stages.{lesser}
+use Rattle.rules.proofs.lists.less.Statement.{statement}
+use Rattle.rules.proofs.lists.less.Tie as tie
+
+abbrev Inv-loop : tie.InvT-loop
+Inv-loop a b i₀ i = (i ≤ length a) × (lesser a b ≡ lesser (drop i a) (drop i b))
+
+abbrev μ-loop : tie.MeasureT-loop
+μ-loop a b i₀ i = length a - i
+
+loop-holds : tie.Need-loop-holds Inv-loop μ-loop
+loop-holds c = (omega arith, refl)
+
+shared-slice-read-if1 : tie.Need-shared-slice-read-if1 Inv-loop μ-loop
+shared-slice-read-if1 c = search needs
+
+shared-slice-read-if1-2 : tie.Need-shared-slice-read-if1-2 Inv-loop μ-loop
+shared-slice-read-if1-2 c = omega (arith, c .before .before .before .before .pre)
+
+returns : tie.Need-returns Inv-loop μ-loop
+returns c = let l = c .before .before .before .before .loop in let a = c .before .before .before .before .before .args in sym (l .inv .1 ∙ less-yes (a .a .now) (a .b .now) (l .i) (omega arith) (omega (arith, c .before .before .before .before .before .pre)) (c .if1 .taken))
+
+shared-slice-read-if2 : tie.Need-shared-slice-read-if2 Inv-loop μ-loop
+shared-slice-read-if2 c = search needs
+
+shared-slice-read-if2-2 : tie.Need-shared-slice-read-if2-2 Inv-loop μ-loop
+shared-slice-read-if2-2 c = omega (arith, c .before .before .before .before .before .before .before .pre)
+
+returns-2 : tie.Need-returns-2 Inv-loop μ-loop
+returns-2 c = let l = c .before .before .before .before .before .before .before .loop in let a = c .before .before .before .before .before .before .before .before .args in sym (l .inv .1 ∙ less-no (a .a .now) (a .b .now) (l .i) (omega arith) (omega (arith, c .before .before .before .before .before .before .before .before .pre)) (c .if2 .taken))
+
+add-i : tie.Need-add-i Inv-loop μ-loop
+add-i c = search needs
+
+loop-less : tie.Need-loop-less Inv-loop μ-loop
+loop-less c = search needs
+
+loop-again : tie.Need-loop-again Inv-loop μ-loop
+loop-again c = let l = c .before .before .before .before .before .before .before .loop in let a = c .before .before .before .before .before .before .before .before .args in (omega arith, l .inv .1 ∙ less-more (a .a .now) (a .b .now) (l .i) (omega arith) (omega (arith, c .before .before .before .before .before .before .before .before .pre)) (c .before .before .before .if1 .left) (c .if2 .left))
+
+returns-3 : tie.Need-returns-3 Inv-loop μ-loop
+returns-3 c = let l = c .before .loop in let a = c .before .before .args in sym (l .inv .1 ∙ less-end (a .a .now) (a .b .now) (l .i) (omega (arith, c .before .before .pre)))
+
+pub less-spec : {M : Type 1} → statement M
+less-spec =
+    tie.close
+    (tie.spec
+    Inv-loop
+    μ-loop
+    loop-holds
+    shared-slice-read-if1
+    shared-slice-read-if1-2
+    returns
+    shared-slice-read-if2
+    shared-slice-read-if2-2
+    returns-2
+    add-i
+    loop-less
+    loop-again
+    returns-3)

@@ -1,0 +1,4 @@
+pub mod Held
+pub mod Items
+pub mod Placing
+pub mod Promised

@@ -1,0 +1,31 @@
+-- How the code makes a place and finds room for it. Assumes nothing.
+use mathlib.Core.List.{List, [], _++_, _∷_}
+use Prim.Native.Nat.{_-_, suc, ℕ}
+use lib.Dec.{eqb}
+use lib.ListN.{drop, take}
+use Rattle.rules.specs.Held.{entryOf}
+use Rattle.rules.specs.declared.Entry.{Entry}
+use Rattle.rules.specs.declared.Held.{Held}
+use Rattle.theory.specs.Lists.{choose, numbersBelow, someOf, those}
+use Rattle.theory.specs.Stages.{Justification, ahead}
+
+-- the numbers below n that the list has, rising
+abbrev pub firstOf : List ℕ → ℕ → List ℕ
+firstOf l n = those (λ m. someOf (eqb m) l) (numbersBelow n)
+
+-- the place of consequent c, with those below n of the set that a list makes
+unfoldable pub partly : ℕ → List ℕ → ℕ → Entry
+partly c l n = entryOf (record { consequent = c; supports = firstOf l n })
+
+-- how many stand before r
+unfoldable pub placeOf : Justification → List Justification → ℕ
+placeOf r [] = 0
+placeOf r (t ∷ l) = let later : ℕ = placeOf r l in choose (ahead t r) (suc later) 0
+
+-- e put in at a place of n that are used
+unfoldable pub insertAt : List Entry → ℕ → ℕ → Entry → List Entry
+insertAt l at n e = take at l ++ (e ∷ (take (n - at) (drop at l) ++ drop (suc n) l))
+
+-- h with other places, n of them used
+abbrev pub withEntries : Held → ℕ → List Entry → Held
+withEntries h n entries = record { assumptions = h .assumptions; claims = h .claims; count = n; entries = entries }

@@ -1,0 +1,313 @@
+// Justifications as a store holds them: one in its place, and all of them in their order. No set width is in it.
+mod lists;
+
+use replies::Reply;
+ghost use mathlib.Core.Bool.{true};
+ghost use mathlib.Core.List.{map};
+ghost use mathlib.Core.Path.{_≡_};
+ghost use Prim.Native.Nat.{_+_, _<_, _≤_};
+ghost use lib.ListN.{drop, length, take};
+ghost use Rattle.theory.specs.Lists.{allOf};
+ghost use Rattle.theory.specs.Stages.{ahead};
+ghost use Rattle.replies.specs.declared.Reply.the-variants.{Done};
+ghost use Rattle.rules.specs.Held.{fitting, heldRight, meaning, ordered, saidBy, unusedEntry};
+ghost use Rattle.rules.specs.Items.{faultOf, sameJustification};
+ghost use Rattle.rules.specs.Placing.{insertAt, partly, placeOf, withEntries};
+ghost use Rattle.rules.specs.Promised.{Canonical, Faulted, HoldingNothing, Inserted, IsHeld, IsRight};
+
+// A justification in its place: its supports rising, unused places zero.
+pub struct Entry {
+    pub consequent: u8,
+    pub count: u8,
+    pub supports: [u8; 4],
+}
+
+// The counts of assumptions and claims, and the justifications held, in their order; unused places zero.
+pub struct Held {
+    pub assumptions: u8,
+    pub claims: u8,
+    pub count: usize,
+    pub entries: [Entry; 256],
+}
+
+// The first fault of a justification as it is handed over, top being the highest number; else done.
+pub fn fault(top: u8, consequent: u32, supports: &[u32]) -> Reply
+    ensures { λ r. ⌜ Faulted top consequent (now (supports .entry)) r ⌝ }
+{
+    if 4 < supports.len() {
+        return Reply::Supports;
+    }
+    let highest = top as u32;
+    if highest < consequent {
+        return Reply::Number;
+    }
+    if lists::over(supports, highest) {
+        return Reply::Number;
+    }
+    if lists::has(supports, 0) {
+        return Reply::Falsity;
+    }
+    Reply::Done
+}
+
+// A justification without fault in its place, its supports as a set.
+pub fn canonical(top: u8, consequent: u32, supports: &[u32]) -> Entry
+    requires { ⌜ (top ≤ 128) × (faultOf top consequent (now supports) ≡ Done) ⌝ }
+    ensures { λ r. ⌜ Canonical top consequent (now (supports .entry)) r ⌝ }
+{
+    let mut entry = Entry {
+        consequent: consequent as u8,
+        count: 0,
+        supports: [0u8; 4],
+    };
+    let mut n = 0;
+    while n <= top {
+        entry = entry.taking(supports, n);
+        n += 1;
+    }
+    entry
+}
+
+impl Entry {
+    // The number n taken in where the list has it; below n that is done.
+    fn taking(mut self, l: &[u32], n: u8) -> Entry
+        requires { ⌜ (self ≡ partly (self .consequent) (now l) n) × (length (now l) ≤ 4) × (n ≤ 128) ⌝ }
+        ensures { λ r. ⌜ r ≡ partly (self .consequent) (now (l .entry)) (n + 1) ⌝ }
+    {
+        if lists::has(l, n as u32) {
+            let count = self.count;
+            let at = count as usize;
+            self.supports[at] = n;
+            self.count = count + 1;
+            return self;
+        }
+        self
+    }
+
+    // Whether it is in range, its supports rising and its unused places zero.
+    fn fits(self, top: u16) -> bool
+        ensures { λ r. ⌜ r ≡ fitting top self ⌝ }
+    {
+        if top < self.consequent as u16 {
+            return false;
+        }
+        let count = self.count;
+        if 4 < count {
+            return false;
+        }
+        let n = count as usize;
+        let supports = self.supports;
+        if lists::rises(&supports[..n], top) {
+            return lists::zeros(&supports[n..]);
+        }
+        false
+    }
+
+    // Whether every field is zero.
+    fn unused(self) -> bool
+        ensures { λ r. ⌜ r ≡ unusedEntry self ⌝ }
+    {
+        if self.consequent != 0 {
+            return false;
+        }
+        if self.count != 0 {
+            return false;
+        }
+        let supports = self.supports;
+        lists::zeros(&supports)
+    }
+
+    // Whether self stands before t.
+    fn comes(self, t: Entry) -> bool
+        requires { ⌜ (self .count ≤ 4) × (t .count ≤ 4) ⌝ }
+        ensures { λ r. ⌜ r ≡ ahead (meaning self) (meaning t) ⌝ }
+    {
+        if self.consequent < t.consequent {
+            return true;
+        }
+        if t.consequent < self.consequent {
+            return false;
+        }
+        if self.count < t.count {
+            return true;
+        }
+        if t.count < self.count {
+            return false;
+        }
+        let count = self.count;
+        let n = count as usize;
+        let mine = self.supports;
+        let theirs = t.supports;
+        lists::less(&mine[..n], &theirs[..n])
+    }
+
+    // Whether the two are one justification.
+    fn same(self, t: Entry) -> bool
+        requires { ⌜ (self .count ≤ 4) × (t .count ≤ 4) ⌝ }
+        ensures { λ r. ⌜ r ≡ sameJustification (meaning self) (meaning t) ⌝ }
+    {
+        if self.consequent != t.consequent {
+            return false;
+        }
+        if self.count != t.count {
+            return false;
+        }
+        let count = self.count;
+        let n = count as usize;
+        let mine = self.supports;
+        let theirs = t.supports;
+        lists::equal(&mine[..n], &theirs[..n])
+    }
+}
+
+impl Held {
+    // Nothing held, with these counts.
+    pub fn nothing(assumptions: u8, claims: u8) -> Held
+        ensures { λ r. ⌜ HoldingNothing assumptions claims r ⌝ }
+    {
+        let vacant = Entry {
+            consequent: 0,
+            count: 0,
+            supports: [0u8; 4],
+        };
+        let entries = [vacant; 256];
+        Held {
+            assumptions,
+            claims,
+            count: 0,
+            entries,
+        }
+    }
+
+    // Whether what is held has the right shape.
+    pub fn right(self) -> bool
+        ensures { λ r. ⌜ IsRight self r ⌝ }
+    {
+        if 256 < self.count {
+            return false;
+        }
+        let top = self.assumptions as u16 + self.claims as u16;
+        if self.inrange(top) {
+            if self.inorder(top) {
+                return self.spare();
+            }
+            return false;
+        }
+        false
+    }
+
+    // Whether the justification is held.
+    pub fn holds(self, entry: Entry) -> bool
+        requires { ⌜ (heldRight self ≡ true) × (entry .count ≤ 4) ⌝ }
+        ensures { λ r. ⌜ IsHeld self entry r ⌝ }
+    {
+        let count = self.count;
+        let mut j = 0;
+        while j < count {
+            let t = self.entries[j];
+            if entry.same(t) {
+                return true;
+            }
+            j += 1;
+        }
+        false
+    }
+
+    // The justification put in its place among those held.
+    pub fn insert(self, entry: Entry) -> Held
+        requires { ⌜ (heldRight self ≡ true) × (self .count < 256) × (fitting (self .assumptions + self .claims) entry ≡ true) ⌝ }
+        ensures { λ r. ⌜ Inserted self entry r ⌝ }
+    {
+        let at = self.place(entry);
+        self.moved(at, entry)
+    }
+
+    // Whether the places in use are in range.
+    fn inrange(self, top: u16) -> bool
+        requires { ⌜ self .count ≤ 256 ⌝ }
+        ensures { λ r. ⌜ r ≡ allOf (fitting top) (take (self .count) (self .entries)) ⌝ }
+    {
+        let count = self.count;
+        let mut j = 0;
+        while j < count {
+            let entry = self.entries[j];
+            if entry.fits(top) {
+                j += 1;
+            } else {
+                return false;
+            }
+        }
+        true
+    }
+
+    // Whether each held justification stands before the next.
+    fn inorder(self, top: u16) -> bool
+        requires { ⌜ (self .count ≤ 256) × (allOf (fitting top) (take (self .count) (self .entries)) ≡ true) ⌝ }
+        ensures { λ r. ⌜ r ≡ ordered (saidBy self) ⌝ }
+    {
+        let count = self.count;
+        let mut j = 1;
+        while j < count {
+            let last = self.entries[j - 1];
+            let entry = self.entries[j];
+            if last.comes(entry) {
+                j += 1;
+            } else {
+                return false;
+            }
+        }
+        true
+    }
+
+    // Whether the other places are zero.
+    fn spare(self) -> bool
+        requires { ⌜ self .count ≤ 256 ⌝ }
+        ensures { λ r. ⌜ r ≡ allOf unusedEntry (drop (self .count) (self .entries)) ⌝ }
+    {
+        let mut j = self.count;
+        while j < 256 {
+            let entry = self.entries[j];
+            if entry.unused() {
+                j += 1;
+            } else {
+                return false;
+            }
+        }
+        true
+    }
+
+    // How many held justifications stand before it.
+    fn place(self, entry: Entry) -> usize
+        requires { ⌜ (heldRight self ≡ true) × (entry .count ≤ 4) ⌝ }
+        ensures { λ r. ⌜ r ≡ placeOf (meaning entry) (saidBy self) ⌝ }
+    {
+        let count = self.count;
+        let mut j = 0;
+        while j < count {
+            let t = self.entries[j];
+            if t.comes(entry) {
+                j += 1;
+            } else {
+                return j;
+            }
+        }
+        j
+    }
+
+    // The justification put in at a place; those from there on move up by one.
+    fn moved(mut self, at: usize, entry: Entry) -> Held
+        requires { ⌜ (at ≤ self .count) × (self .count < 256) ⌝ }
+        ensures { λ r. ⌜ r ≡ withEntries self (self .count + 1) (insertAt (self .entries) at (self .count) entry) ⌝ }
+    {
+        let count = self.count;
+        let mut i = count;
+        while at < i {
+            let last = self.entries[i - 1];
+            self.entries[i] = last;
+            i -= 1;
+        }
+        self.entries[at] = entry;
+        self.count = count + 1;
+        self
+    }
+}

@@ -1,0 +1,103 @@
+// Tests of short lists of numbers: whether one has a number, rises, is zero, is the lesser or the same.
+ghost use mathlib.Core.Path.{_≡_};
+ghost use lib.Dec.{eqb, ltb};
+ghost use lib.ListN.{length};
+ghost use Rattle.theory.specs.Lists.{allOf, someOf};
+ghost use Rattle.theory.specs.Stages.{lesser};
+ghost use Rattle.theory.specs.Judge.{sameSets};
+ghost use Rattle.rules.specs.Held.{climbs};
+
+// Whether n is one of the list.
+pub(crate) fn has(l: &[u32], n: u32) -> bool
+    ensures { λ r. ⌜ r ≡ someOf (eqb n) (now (l .entry)) ⌝ }
+{
+    let mut i = 0;
+    while i < l.len() {
+        if l[i] == n {
+            return true;
+        }
+        i += 1;
+    }
+    false
+}
+
+// Whether one of the list is above top.
+pub(crate) fn over(l: &[u32], top: u32) -> bool
+    ensures { λ r. ⌜ r ≡ someOf (ltb top) (now (l .entry)) ⌝ }
+{
+    let mut i = 0;
+    while i < l.len() {
+        if top < l[i] {
+            return true;
+        }
+        i += 1;
+    }
+    false
+}
+
+// Whether the numbers rise strictly from above 0 to top at most.
+pub(crate) fn rises(l: &[u8], top: u16) -> bool
+    ensures { λ r. ⌜ r ≡ climbs top 0 (now (l .entry)) ⌝ }
+{
+    let mut last = 0;
+    let mut i = 0;
+    while i < l.len() {
+        let x = l[i];
+        if x <= last {
+            return false;
+        }
+        if top < x as u16 {
+            return false;
+        }
+        last = x;
+        i += 1;
+    }
+    true
+}
+
+// Whether every number is zero.
+pub(crate) fn zeros(l: &[u8]) -> bool
+    ensures { λ r. ⌜ r ≡ allOf (eqb 0) (now (l .entry)) ⌝ }
+{
+    let mut i = 0;
+    while i < l.len() {
+        if l[i] != 0 {
+            return false;
+        }
+        i += 1;
+    }
+    true
+}
+
+// Of two lists of one length, whether a has the smaller number at the first difference.
+pub(crate) fn less(a: &[u8], b: &[u8]) -> bool
+    requires { ⌜ length (now a) ≡ length (now b) ⌝ }
+    ensures { λ r. ⌜ r ≡ lesser (now (a .entry)) (now (b .entry)) ⌝ }
+{
+    let mut i = 0;
+    while i < a.len() {
+        if a[i] < b[i] {
+            return true;
+        }
+        if b[i] < a[i] {
+            return false;
+        }
+        i += 1;
+    }
+    false
+}
+
+// Whether two lists of one length are the same.
+pub(crate) fn equal(a: &[u8], b: &[u8]) -> bool
+    requires { ⌜ length (now a) ≡ length (now b) ⌝ }
+    ensures { λ r. ⌜ r ≡ sameSets (now (a .entry)) (now (b .entry)) ⌝ }
+{
+    let mut i = 0;
+    while i < a.len() {
+        if a[i] != b[i] {
+            return false;
+        }
+        i += 1;
+    }
+    true
+}
