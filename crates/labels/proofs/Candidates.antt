@@ -1,0 +1,69 @@
+-- The candidates one after the other: the old list, then the joins of each justification held, over plain variables. Assumes nothing.
+use mathlib.Core.Bool.{Bool, false, true}
+use mathlib.Core.List.{List, [], _++_, _∷_, map}
+use mathlib.Core.Option.{Option, none}
+use mathlib.Core.Path.{_∙_, _≡_, ap, ap₂, refl, sym}
+use Prim.Native.Nat.{_+_, _<_, _≤_, zero, ℕ}
+use native.Mathlib.Numerals.{add-one}
+use native.Mathlib.Omega.{arith}
+use lib.Dec.{eqb}
+use lib.ListN.{drop, drop-of-length-le, getD, length, length-take, take}
+use lib.Seq.{drop-cons, getD-take}
+use borrow.Author.Tests.{eq-eqb, eqb-false, eqb-true, ne-eqb}
+use Rattle.rules.specs.Held.{meaning}
+use Rattle.rules.specs.declared.Entry.{Entry}
+use Rattle.theory.proofs.First.{best-append}
+use Rattle.theory.specs.Lists.{each, keep, those}
+use Rattle.theory.specs.Stages.{Justification}
+use Rattle.theory.specs.Step.{best, candidates, joins, joinsFor}
+
+-- ---- one justification
+module _ (L : ℕ → List ℕ) (n : ℕ) (t : ℕ → Bool) where
+  of-others : (j : Justification) (J : List Justification) → (j .consequent ≡ n → ⊥) → joinsFor L n (j ∷ J) ≡ joinsFor L n J
+  unfolding joinsFor those
+  of-others j J h = ap (λ (b : Bool). each (λ (i : Justification). joins L zero (i .supports)) (keep b j (those (λ (i : Justification). eqb (i .consequent) n) J))) (ne-eqb (j .consequent) n h)
+
+  of-this : (j : Justification) (J : List Justification) → j .consequent ≡ n → joinsFor L n (j ∷ J) ≡ joins L zero (j .supports) ++ joinsFor L n J
+  unfolding joinsFor those each
+  of-this j J h = ap (λ (b : Bool). each (λ (i : Justification). joins L zero (i .supports)) (keep b j (those (λ (i : Justification). eqb (i .consequent) n) J))) (eq-eqb (j .consequent) n h)
+
+  pub tried-not : (j : Justification) (a : Option ℕ) → (j .consequent ≡ n → ⊥) → a ≡ best t a (joinsFor L n (j ∷ []))
+  unfolding best joinsFor those each
+  tried-not j a h = sym (ap (best t a) (of-others j [] h))
+
+  pub tried-so : (j : Justification) (a r : Option ℕ) → j .consequent ≡ n → r ≡ best t a (joins L zero (j .supports)) → r ≡ best t a (joinsFor L n (j ∷ []))
+  unfolding best joinsFor those each
+  tried-so j a r h e = e ∙ sym (ap (best t a) (of-this j [] h) ∙ best-append t a (joins L zero (j .supports)) [])
+
+  one-more : (j : Justification) (J : List Justification) (a : Option ℕ) → best t a (joinsFor L n (j ∷ J)) ≡ best t (best t a (joinsFor L n (j ∷ []))) (joinsFor L n J)
+  one-more j J a = go (eqb (j .consequent) n) refl
+    where
+      go : (b : Bool) → eqb (j .consequent) n ≡ b → best t a (joinsFor L n (j ∷ J)) ≡ best t (best t a (joinsFor L n (j ∷ []))) (joinsFor L n J)
+      go true e =
+          let h : j .consequent ≡ n = eqb-true (j .consequent) n e in
+          ap (best t a) (of-this j J h) ∙ best-append t a (joins L zero (j .supports)) (joinsFor L n J)
+          ∙ ap (λ (x : Option ℕ). best t x (joinsFor L n J)) (tried-so j a (best t a (joins L zero (j .supports))) h refl)
+      go false e =
+          let h : j .consequent ≡ n → ⊥ = eqb-false (j .consequent) n e in
+          ap (best t a) (of-others j J h) ∙ ap (λ (x : Option ℕ). best t x (joinsFor L n J)) (tried-not j a h)
+
+  -- the old list first, then the justifications
+  pub both : (old : List ℕ) (J : List Justification) (a b : Option ℕ) → a ≡ best t none old → b ≡ best t a (joinsFor L n J) → b ≡ best t none (candidates L old J n)
+  unfolding candidates
+  both old J a b e f = f ∙ ap (λ (x : Option ℕ). best t x (joinsFor L n J)) e ∙ sym (best-append t none old (joinsFor L n J))
+
+-- ---- the entries held, place by place
+module _ (L : ℕ → List ℕ) (n : ℕ) (t : ℕ → Bool) (entries : List Entry) (count : ℕ) (a : Option ℕ) (j : ℕ) (b : Option ℕ) (fits : count ≤ length entries)
+    (inv : best t a (joinsFor L n (map meaning (take count entries))) ≡ best t b (joinsFor L n (map meaning (drop j (take count entries))))) where
+  pub search-turn : (z : Entry) → j < count → (r : Option ℕ) → r ≡ best t b (joinsFor L n (meaning (getD entries j z) ∷ []))
+      → best t a (joinsFor L n (map meaning (take count entries))) ≡ best t r (joinsFor L n (map meaning (drop (j + 1) (take count entries))))
+  search-turn z h r e =
+      let k : j < length (take count entries) = omega (arith, length-take count entries) in
+      inv ∙ ap (λ (l : List Entry). best t b (joinsFor L n (map meaning l))) (drop-cons (take count entries) j z k)
+      ∙ ap₂ (λ (x : Entry) (i : ℕ). best t b (joinsFor L n (meaning x ∷ map meaning (drop i (take count entries))))) (getD-take count entries j z h) (sym (add-one j))
+      ∙ one-more L n t (meaning (getD entries j z)) (map meaning (drop (j + 1) (take count entries))) b
+      ∙ ap (λ (x : Option ℕ). best t x (joinsFor L n (map meaning (drop (j + 1) (take count entries))))) (sym e)
+
+  pub search-end : count ≤ j → b ≡ best t a (joinsFor L n (map meaning (take count entries)))
+  unfolding joinsFor those each best
+  search-end h = sym (inv ∙ ap (λ (l : List Entry). best t b (joinsFor L n (map meaning l))) (drop-of-length-le (take count entries) {i = j} (omega (arith, length-take count entries))))

@@ -1,0 +1,19 @@
+-- `labels::next` meets its contract. Assumes nothing.
+use borrow.Author.Needs.{needs}
+use Rattle.labels.proofs.Candidates.{both}
+use Rattle.labels.specs.Layout.{lying}
+use Rattle.rules.specs.Held.{saidBy}
+use Rattle.labels.proofs.next.Statement.{statement}
+use Rattle.labels.proofs.next.Tie as tie
+
+scan-requires : tie.Need-scan-requires
+scan-requires c κs = search needs
+
+search-requires : tie.Need-search-requires
+search-requires c κs = c .before .before .before .before .before .before .pre
+
+returns : tie.Need-returns
+returns c = both (lying (c .before .before .before .before .before .before .before .args .members .now) (c .before .before .before .before .before .before .before .args .sizes .now)) (c .before .before .before .before .before .before .before .args .n) _ (c .before .before .before .before .before .before .before .args .old .now) (saidBy (c .before .before .before .before .before .before .before .args .held)) _ _ (c .before .scan .ensures) (c .search .ensures)
+
+pub next-spec : {M : Type 1} → statement M
+next-spec = tie.close (tie.spec scan-requires search-requires returns)

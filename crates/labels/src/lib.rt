@@ -1,0 +1,232 @@
+// One list of the next stage, in listing order: each time the first candidate that contains no set struck and none found.
+use rules::Entry;
+use rules::Held;
+use sets::Set;
+ghost use mathlib.Core.Option.{none};
+ghost use mathlib.Core.List.{[], _∷_};
+ghost use mathlib.Core.Path.{_≡_};
+ghost use Prim.Native.Nat.{_≤_};
+ghost use Rattle.rules.specs.Held.{meaning, saidBy};
+ghost use Rattle.theory.specs.Step.{best, candidates, free, joins, joinsFor, sooner};
+ghost use Rattle.labels.specs.Layout.{Few, Joinable, Layout, Ranged, lying};
+ghost use Rattle.labels.specs.Picked.{lateBy, picked};
+ghost use Rattle.labels.specs.Promised.{Build, FirstWithin};
+
+// The place of the first member that lies within e, or the count of members.
+pub fn first_within(list: &[Set], e: Set) -> usize
+    ensures { λ r. ⌜ FirstWithin (now (list .entry)) e r ⌝ }
+{
+    let count = list.len();
+    let mut i = 0;
+    let place = loop {
+        if count <= i {
+            break count;
+        }
+        if sets::within(list[i], e) {
+            break i;
+        }
+        i += 1;
+    };
+    place
+}
+
+// Whether e contains no set struck and none found.
+fn spared(struck: &[Set], found: &[Set], e: Set) -> bool
+    ensures { λ r. ⌜ r ≡ free (now (struck .entry)) (now (found .entry)) e ⌝ }
+{
+    if first_within(struck, e) < struck.len() {
+        return false;
+    }
+    first_within(found, e) == found.len()
+}
+
+// The first in listing order so far.
+enum Pick {
+    Nothing,
+    At(u32),
+}
+
+// The first so far, or e where e is spared and stands before it.
+fn offer(struck: &[Set], found: &[Set], first: Pick, e: Set) -> Pick
+    ensures { λ r. ⌜ picked r ≡ sooner (free (now (struck .entry)) (now (found .entry)) e) (picked first) e ⌝ }
+{
+    if spared(struck, found, e) {
+        match first {
+            Pick::Nothing => Pick::At(e),
+            Pick::At(x) => {
+                if sets::before(e, x) {
+                    Pick::At(e)
+                } else {
+                    Pick::At(x)
+                }
+            }
+        }
+    } else {
+        first
+    }
+}
+
+// Whether e does not stand before the first so far.
+fn late(first: Pick, e: Set) -> bool
+    ensures { λ r. ⌜ r ≡ lateBy (picked first) e ⌝ }
+{
+    match first {
+        Pick::Nothing => false,
+        Pick::At(x) => { if sets::before(e, x) { false } else { true } }
+    }
+}
+
+// The first so far, each set of the list offered.
+fn scan(list: &[Set], struck: &[Set], found: &[Set], first: Pick) -> Pick
+    ensures { λ r. ⌜ picked r ≡ best (free (now (struck .entry)) (now (found .entry))) (picked first) (now (list .entry)) ⌝ }
+{
+    let mut now = first;
+    let mut i = 0;
+    while i < list.len() {
+        now = offer(struck, found, now, list[i]);
+        i += 1;
+    }
+    now
+}
+
+// The first so far, each join of one member of the label of each support left offered. What is joined is cut where no join of it can come first.
+fn visit<'a>(
+    members: &'a [Set],
+    sizes: &'a [u8],
+    supports: &[u8],
+    struck: &[Set],
+    found: &[Set],
+    joined: Set,
+    first: Pick,
+) -> Pick
+    requires { ⌜ Layout (now members) (now sizes) × Ranged (now supports) ⌝ }
+    ensures { λ r. ⌜ picked r ≡ best (free (now (struck .entry)) (now (found .entry))) (picked first) (joins (lying (now (members .entry)) (now (sizes .entry))) joined (now (supports .entry))) ⌝ }
+{
+    if supports.len() < 1 {
+        return offer(struck, found, first, joined);
+    }
+    if !spared(struck, found, joined) {
+        return first;
+    }
+    if late(first, joined) {
+        return first;
+    }
+    let i = supports[0] as usize - 1;
+    let size = sizes[i] as usize;
+    let from = 12 * i;
+    let left = &supports[1..];
+    let mut now = first;
+    let mut k = 0;
+    while k < size {
+        now = visit(
+            members,
+            sizes,
+            left,
+            struck,
+            found,
+            sets::union(joined, members[from + k]),
+            now,
+        );
+        k += 1;
+    }
+    now
+}
+
+// The first so far, the joins of a justification offered if it is one of n.
+fn tried<'a>(
+    entry: Entry,
+    n: u8,
+    members: &'a [Set],
+    sizes: &'a [u8],
+    struck: &[Set],
+    found: &[Set],
+    first: Pick,
+) -> Pick
+    requires { ⌜ Layout (now members) (now sizes) × Few entry × Ranged (meaning entry .supports) ⌝ }
+    ensures { λ r. ⌜ picked r ≡ best (free (now (struck .entry)) (now (found .entry))) (picked first) (joinsFor (lying (now (members .entry)) (now (sizes .entry))) n (meaning entry ∷ [])) ⌝ }
+{
+    if entry.consequent != n {
+        return first;
+    }
+    let count = entry.count as usize;
+    let supports = entry.supports;
+    visit(members, sizes, &supports[..count], struck, found, 0, first)
+}
+
+// The first so far, the joins of all justifications of n held offered.
+fn search<'a>(
+    held: Held,
+    n: u8,
+    members: &'a [Set],
+    sizes: &'a [u8],
+    struck: &[Set],
+    found: &[Set],
+    first: Pick,
+) -> Pick
+    requires { ⌜ Layout (now members) (now sizes) × Joinable held ⌝ }
+    ensures { λ r. ⌜ picked r ≡ best (free (now (struck .entry)) (now (found .entry))) (picked first) (joinsFor (lying (now (members .entry)) (now (sizes .entry))) n (saidBy held)) ⌝ }
+{
+    let count = held.count;
+    let mut now = first;
+    let mut j = 0;
+    while j < count {
+        let entry = held.entries[j];
+        now = tried(entry, n, members, sizes, struck, found, now);
+        j += 1;
+    }
+    now
+}
+
+// The next member after those found: of the old list and the joins of all justifications of n held, the first that is spared.
+fn next<'a>(
+    held: Held,
+    n: u8,
+    members: &'a [Set],
+    sizes: &'a [u8],
+    old: &'a [Set],
+    struck: &[Set],
+    found: &[Set],
+) -> Pick
+    requires { ⌜ Layout (now members) (now sizes) × Joinable held ⌝ }
+    ensures { λ r. ⌜ picked r ≡ best (free (now (struck .entry)) (now (found .entry))) none (candidates (lying (now (members .entry)) (now (sizes .entry))) (now (old .entry)) (saidBy held) n) ⌝ }
+{
+    let first = scan(old, struck, found, Pick::Nothing);
+    search(held, n, members, sizes, struck, found, first)
+}
+
+// A list as it was built: its members, or full where the count is one above the limit.
+pub struct Built {
+    pub count: usize,
+    pub sets: [u32; 32],
+}
+
+// The list of n at the next stage, from the labels as they lie, the old list of n and the sets struck.
+pub fn build<'a>(
+    held: Held,
+    n: u8,
+    members: &'a [Set],
+    sizes: &'a [u8],
+    old: &'a [Set],
+    struck: &[Set],
+    limit: usize,
+) -> Built
+    requires { ⌜ Layout (now members) (now sizes) × Joinable held × (limit ≤ 32) ⌝ }
+    ensures { λ r. ⌜ Build held n (now (members .entry)) (now (sizes .entry)) (now (old .entry)) (now (struck .entry)) limit r ⌝ }
+{
+    let mut sets = [0u32; 32];
+    let mut count: usize = 0;
+    loop {
+        let pick = next(held, n, members, sizes, old, struck, &sets[..count]);
+        let Pick::At(e) = pick else {
+            return Built { count, sets };
+        };
+        if limit <= count {
+            return Built {
+                count: count + 1,
+                sets,
+            };
+        }
+        sets[count] = e;
+        count += 1;
+    }
+}

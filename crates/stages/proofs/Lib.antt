@@ -1,0 +1,6 @@
+pub mod Tables
+pub mod Writing
+pub mod Stages
+pub mod Nexts
+pub mod Same
+pub mod Walk

@@ -1,0 +1,170 @@
+-- From the lists of one stage to those of the next, list by list, over plain variables. Assumes nothing.
+use mathlib.Core.Bool.{Bool}
+use mathlib.Core.List.{List, [], _∷_}
+use mathlib.Core.Logic.{⊎-elim}
+use mathlib.Core.Path.{_∙_, _≡_, ap, ap₂, refl, subst, sym}
+use Prim.Native.Nat.{_+_, _<_, _≤_, suc, zero, ℕ}
+use native.Mathlib.Nat.{eq-or-lt-of-le, le-of-suc-le-suc, not-suc-le-zero}
+use native.Mathlib.Numerals.{add-one}
+use native.Mathlib.Omega.{arith}
+use lib.ListN.{getD, length, length-take, replicate, take}
+use lib.Seq.{take-all}
+use borrow.Author.Tests.{le-ltb, lt-ltb}
+use Rattle.labels.specs.Layout.{lying}
+use Rattle.labels.specs.Promised.{builtOf}
+use Rattle.labels.specs.declared.Built.{Built}
+use Rattle.replies.specs.declared.Reply.the-variants.{Done, Label, Nogoods}
+use Rattle.rules.proofs.Entries.{length-padded, unpadded}
+use Rattle.rules.proofs.Laws.{right-range}
+use Rattle.rules.specs.Held.{saidBy}
+use Rattle.rules.specs.declared.Held.{Held}
+use Rattle.stages.proofs.Stages.{lies, nogoods-lie}
+use Rattle.stages.proofs.Tables.{replicate-table}
+use Rattle.stages.proofs.Writing.{labels-more}
+use Rattle.stages.specs.Judged.{refusal}
+use Rattle.stages.specs.Lists.{listsOf}
+use Rattle.stages.specs.Steps.{Reached, firstLabels, fitted, fittedBy, stageBy, withLabel}
+use Rattle.stages.specs.declared.Judged.{Judged}
+use Rattle.stages.specs.declared.Lists.{Lists}
+use Rattle.theory.proofs.Lasting.{Upto, candidates-same}
+use Rattle.theory.proofs.Picks.{next-label, next-nogoods}
+use Rattle.theory.specs.Judge.{Stage, labelLong, limits, lowestLong, nogoodsLong, stageAt}
+use Rattle.theory.specs.Lists.{choose}
+use Rattle.theory.specs.Places.{padded, table}
+use Rattle.theory.specs.Step.{candidates, labelIn, picks}
+
+-- ---- what a built list says of the whole
+module _ (limit : ℕ) (X : List ℕ) (r : Built) (is : r ≡ builtOf limit (take (limit + 1) X)) where
+  built-count : r .count ≡ length (take (limit + 1) X)
+  unfolding builtOf
+  built-count = ap (λ (b : Built). b .count) is
+
+  pub built-over : limit < r .count → limit < length X
+  built-over h = omega (arith, built-count, length-take (limit + 1) X)
+
+  pub built-short : r .count ≤ limit → length X ≤ limit
+  built-short h = omega (arith, built-count, length-take (limit + 1) X)
+
+  pub built-length : r .count ≤ limit → r .count ≡ length X
+  built-length h = omega (arith, built-count, length-take (limit + 1) X)
+
+  pub built-sets : r .count ≤ limit → r .sets ≡ padded 0 32 X
+  unfolding builtOf
+  built-sets h =
+      let s : length X ≤ limit = built-short h in
+      ap (λ (b : Built). b .sets) is ∙ ap (λ (l : List ℕ). padded 0 32 (take limit l)) (take-all (limit + 1) X (omega arith)) ∙ ap (padded 0 32) (take-all limit X s)
+
+-- ---- the nogoods that are built, where they are not over
+pub built-whole : (X : List ℕ) (r : Built) → r ≡ builtOf 32 (take (32 + 1) X) → r .count ≤ 32 → r ≡ builtOf 32 X
+unfolding builtOf
+built-whole X r is h = is ∙ ap (builtOf 32) (take-all 33 X (omega (arith, built-short 32 X r is h)))
+
+module _ (X : List ℕ) (b : Built) (is : b ≡ builtOf 32 X) (few : b .count ≤ 32) where
+  whole-count : b .count ≡ length X
+  unfolding builtOf
+  whole-count = ap (λ (x : Built). x .count) is
+
+  pub whole-few : length X ≤ 32
+  whole-few = omega (arith, whole-count)
+
+  whole-sets : b .sets ≡ padded 0 32 X
+  unfolding builtOf
+  whole-sets = ap (λ (x : Built). x .sets) is ∙ ap (padded 0 32) (take-all 32 X whole-few)
+
+  pub whole-long : length (b .sets) ≡ 32
+  whole-long = ap length whole-sets ∙ length-padded 0 32 X
+
+  pub whole-taken : take (b .count) (b .sets) ≡ X
+  whole-taken = ap₂ (λ (n : ℕ) (l : List ℕ). take n l) whole-count whole-sets ∙ unpadded 0 32 X whole-few
+
+-- ---- the lists that are built
+module _ (h : Held) (l : Lists) (re : Reached h l) where
+  abbrev N : ℕ
+  N = h .assumptions + h .claims
+
+  abbrev old-stage : Stage
+  old-stage = stageBy h (l .depth)
+
+  abbrev new-stage : Stage
+  new-stage = stageBy h (l .depth + 1)
+
+  upto : Upto N (saidBy h)
+  upto j m s n = right-range h (re .joinable .right) j m .between s n .1
+
+  cands : (old old′ : List ℕ) (n : ℕ) → old ≡ old′ → candidates (lying (l .members) (l .sizes)) old (saidBy h) n ≡ candidates (labelIn (old-stage .labels)) old′ (saidBy h) n
+  cands old old′ n e =
+      candidates-same N (saidBy h) upto (lying (l .members) (l .sizes)) (labelIn (old-stage .labels)) old old′ n
+      (λ s q. lies (l .depth) old-stage (re .room) l (re .is) s (omega (arith, re .joinable .wide))) e
+
+  at-next : {X : Type 0} (f : Stage → X) → f (stageAt (h .assumptions) N (saidBy h) (suc (l .depth))) ≡ f new-stage
+  at-next f = ap (λ (k : ℕ). f (stageBy h k)) (sym (add-one (l .depth)))
+
+  pub nogoods-built : (r : Built) → r ≡ builtOf 32 (picks (32 + 1) [] [] (candidates (lying (l .members) (l .sizes)) (take (l .count) (l .nogoods)) (saidBy h) 0)) → r ≡ builtOf 32 (take (32 + 1) (new-stage .nogoods))
+  nogoods-built r e =
+      e ∙ ap (builtOf 32) (ap (picks 33 [] []) (cands (take (l .count) (l .nogoods)) (old-stage .nogoods) 0 (nogoods-lie (l .depth) old-stage (re .room) l (re .is)))
+      ∙ next-nogoods (h .assumptions) N (saidBy h) upto (l .depth) 33 ∙ at-next (λ s. take 33 (s .nogoods)))
+
+  pub label-built : (struck : List ℕ) → struck ≡ new-stage .nogoods → (i : ℕ) → i < N → (old : List ℕ) → old ≡ lying (l .members) (l .sizes) (i + 1)
+      → (r : Built) → r ≡ builtOf 12 (picks (12 + 1) struck [] (candidates (lying (l .members) (l .sizes)) old (saidBy h) (i + 1))) → r ≡ builtOf 12 (take (12 + 1) (getD (new-stage .labels) i []))
+  unfolding labelIn
+  label-built struck se i low old oe r e =
+      let a : i + 1 ≡ suc i = add-one i in
+      let o : old ≡ labelIn (old-stage .labels) (i + 1) = oe ∙ lies (l .depth) old-stage (re .room) l (re .is) (i + 1) (omega (arith, re .joinable .wide)) in
+      e ∙ ap (builtOf 12) (ap₂ (λ (b c : List ℕ). picks 13 b [] c) (se ∙ sym (at-next (λ s. s .nogoods))) (cands old (labelIn (old-stage .labels) (i + 1)) (i + 1) o)
+      ∙ next-label (h .assumptions) N (saidBy h) upto (l .depth) 13 (i + 1) (omega arith) ∙ at-next (λ s. take 13 (labelIn (s .labels) (i + 1))) ∙ ap (λ (n : ℕ). take 13 (labelIn (new-stage .labels) n)) a)
+
+-- ---- what the next stage says
+
+lowest-at : (limit n : ℕ) (ls : List (List ℕ)) (i : ℕ) → i < length ls → ((j : ℕ) → j < i → length (getD ls j []) ≤ limit) → limit < length (getD ls i []) → lowestLong limit n ls ≡ n + i
+unfolding lowestLong
+lowest-at limit n [] i h f o = absurd (not-suc-le-zero h)
+lowest-at limit n (l ∷ ls) zero h f o = ap (λ (b : Bool). choose b n (lowestLong limit (suc n) ls)) (lt-ltb limit (length l) o) ∙ omega arith
+lowest-at limit n (l ∷ ls) (suc i) h f o =
+    ap (λ (b : Bool). choose b n (lowestLong limit (suc n) ls)) (le-ltb limit (length l) (f 0 (omega arith)))
+    ∙ lowest-at limit (suc n) ls i (le-of-suc-le-suc h) (λ j p. f (suc j) (omega arith)) o ∙ omega arith
+
+pub lowest-none : (limit n : ℕ) (ls : List (List ℕ)) → ((j : ℕ) → j < length ls → length (getD ls j []) ≤ limit) → lowestLong limit n ls ≡ 0
+unfolding lowestLong
+lowest-none limit n [] f = refl
+lowest-none limit n (l ∷ ls) f =
+    ap (λ (b : Bool). choose b n (lowestLong limit (suc n) ls)) (le-ltb limit (length l) (f 0 (omega arith))) ∙ lowest-none limit (suc n) ls (λ j p. f (suc j) (omega arith))
+
+module _ (k : ℕ) (s : Stage) where
+  pub next-over : 32 < length (s .nogoods) → (r : Judged) → r ≡ refusal Nogoods → r ≡ fitted k s
+  unfolding fitted nogoodsLong
+  next-over h r e = e ∙ ap (λ (b : Bool). fittedBy b (labelLong limits s) (listsOf k s)) (sym (lt-ltb 32 (length (s .nogoods)) h))
+
+  module _ (few : length (s .nogoods) ≤ 32) (i : ℕ) (so : (j : ℕ) → j < i → length (getD (s .labels) j []) ≤ 12) where
+    pub next-beyond : i < length (s .labels) → 12 < length (getD (s .labels) i []) → (r : Judged) → r ≡ refusal (Label (i + 1)) → r ≡ fitted k s
+    unfolding fitted nogoodsLong labelLong
+    next-beyond low long r e =
+        let w : lowestLong 12 1 (s .labels) ≡ suc i = lowest-at 12 1 (s .labels) i low so long ∙ omega arith in
+        e ∙ ap (λ (n : ℕ). refusal (Label n)) (add-one i) ∙ sym (ap₂ (λ (b : Bool) (n : ℕ). fittedBy b n (listsOf k s)) (le-ltb 32 (length (s .nogoods)) few) w)
+
+    pub next-fits : length (s .labels) ≤ i → (l : Lists) → l ≡ listsOf k (firstLabels i s) → _≡_ {A = Judged} (record { reply = Done; lists = l }) (fitted k s)
+    unfolding fitted nogoodsLong labelLong
+    next-fits low l e =
+        let w : lowestLong 12 1 (s .labels) ≡ 0 = lowest-none 12 1 (s .labels) (λ j p. so j (omega arith)) in
+        ap (λ (x : Lists). record { reply = Done; lists = x }) (e ∙ ap (λ (ls : List (List ℕ)). listsOf k (record { nogoods = s .nogoods; labels = ls })) (take-all i (s .labels) low))
+        ∙ sym (ap₂ (λ (b : Bool) (n : ℕ). fittedBy b n (listsOf k s)) (le-ltb 32 (length (s .nogoods)) few) w)
+
+-- ---- the labels one after the other
+
+pub labels-none : (d : ℕ) (s : Stage) (b : Built) → b ≡ builtOf 32 (s .nogoods) → b .count ≤ 32
+    → _≡_ {A = Lists} (record { sizes = replicate 128 0; members = replicate 1536 0; count = b .count; nogoods = b .sets; depth = d }) (listsOf d (firstLabels 0 s))
+unfolding listsOf
+labels-none d s b e few =
+    ap₂ (λ (z m : List ℕ). filled z m (b .count) (b .sets)) (replicate-table 128 0) (replicate-table 1536 0) ∙ ap₂ (filled (table 128 (λ i. 0)) (table 1536 (λ i. 0))) (whole-count (s .nogoods) b e few) (whole-sets (s .nogoods) b e few)
+  where
+    filled : List ℕ → List ℕ → ℕ → List ℕ → Lists
+    filled z m c g = record { sizes = z; members = m; count = c; nogoods = g; depth = d }
+
+module _ (s : Stage) (i : ℕ) (r : Built) (is : r ≡ builtOf 12 (take (12 + 1) (getD (s .labels) i []))) (few : r .count ≤ 12) where
+  pub label-on : (d : ℕ) → i < 128 → (l : Lists) → l ≡ listsOf d (firstLabels i s) → (m : Lists) → m ≡ withLabel l i r → m ≡ listsOf d (firstLabels (i + 1) s)
+  label-on d low l le m me =
+      me ∙ ap (λ (x : Lists). withLabel x i r) le ∙ labels-more s i d low r (built-length 12 (getD (s .labels) i []) r is few) (built-sets 12 (getD (s .labels) i []) r is few)
+
+  pub short-on : ((j : ℕ) → j < i → length (getD (s .labels) j []) ≤ 12) → (j : ℕ) → j < i + 1 → length (getD (s .labels) j []) ≤ 12
+  short-on so j h =
+      ⊎-elim (λ (q : j ≡ i). subst (λ (x : ℕ). length (getD (s .labels) x []) ≤ 12) (sym q) (built-short 12 (getD (s .labels) i []) r is few)) (λ p. so j p)
+      (eq-or-lt-of-le (le-of-suc-le-suc (subst (λ (x : ℕ). j < x) (add-one i) h)))

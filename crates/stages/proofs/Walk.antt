@@ -1,0 +1,199 @@
+-- The walk over the stages, turn by turn, over plain variables. Assumes nothing.
+use mathlib.Core.Bool.{Bool, false, true}
+use mathlib.Core.List.{[]}
+use mathlib.Core.Logic.{⊎-elim}
+use mathlib.Core.Path.{_∙_, _≡_, ap, ap₂, refl, subst, sym}
+use Prim.Native.Nat.{_+_, _-_, _<_, _≤_, suc, zero, ℕ}
+use native.Mathlib.Decide.{decLt}
+use native.Mathlib.Omega.{arith}
+use lib.ListN.{getD, length}
+use borrow.Author.Tests.{le-ltb}
+use Rattle.replies.specs.Replies.{numberOf}
+use Rattle.replies.specs.declared.Reply.the-variants.{Done, Unsettled}
+use Rattle.rules.specs.Held.{saidBy}
+use Rattle.rules.specs.declared.Held.{Held}
+use Rattle.stages.proofs.Nexts.{lowest-none}
+use Rattle.stages.proofs.Same.{same-agree}
+use Rattle.stages.proofs.Stages.{start-is}
+use Rattle.stages.specs.Judged.{Judgeable, judgedBy, refusal}
+use Rattle.stages.specs.Lists.{firstStage, listsOf}
+use Rattle.stages.specs.Steps.{Reached, Room, fitted, fittedBy, sameLists, stageBy}
+use Rattle.stages.specs.declared.Judged.{Judged}
+use Rattle.stages.specs.declared.Lists.{Lists}
+use Rattle.theory.proofs.Judgement.{agree-elim, course-turn, stage-label, stage-length, stage-nogoods}
+use Rattle.theory.proofs.Lists.{either}
+use Rattle.theory.proofs.Start.{label-zero, label-zero-above, nogoods-zero}
+use Rattle.theory.specs.Judge.{Stage, Verdict, agree, course, judge, labelLong, labelOver, limits, nogoodsLong, nogoodsOver, settled, unsettled}
+use Rattle.theory.specs.Stages.{labelAt}
+
+-- what the next stage answers: done, with its lists, exactly when it has room
+module _ (k : ℕ) (s : Stage) (r : Judged) (is : r ≡ fitted k s) (n : ℕ) (number : n ≡ numberOf (r .reply)) where
+  step-room : n ≡ 0 → Room s
+  unfolding fitted
+  step-room z = go (nogoodsLong limits s) (labelLong limits s) refl refl is
+    where
+      go : (b : Bool) (m : ℕ) → nogoodsLong limits s ≡ b → labelLong limits s ≡ m → r ≡ fittedBy b m (listsOf k s) → Room s
+      go true m p q e = absurd (omega (arith, ap (λ (x : Judged). numberOf (x .reply)) e))
+      go false (suc m) p q e = absurd (omega (arith, ap (λ (x : Judged). numberOf (x .reply)) e))
+      go false zero p q e = record { few = p; short = q }
+
+  step-lists : n ≡ 0 → r .lists ≡ listsOf k s
+  unfolding fitted
+  step-lists z = let o = step-room z in ap (λ (x : Judged). x .lists) (is ∙ ap₂ (λ (b : Bool) (m : ℕ). fittedBy b m (listsOf k s)) (o .few) (o .short))
+
+  step-none : (n ≡ 0 → ⊥) → Room s → ⊥
+  unfolding fitted
+  step-none z o = z (number ∙ ap (λ (x : Judged). numberOf (x .reply)) (is ∙ ap₂ (λ (b : Bool) (m : ℕ). fittedBy b m (listsOf k s)) (o .few) (o .short)))
+
+-- ---- the stages T, each with N labels
+module _ (T : ℕ → Stage) (N : ℕ) (wide : N ≤ 128) (long : (k : ℕ) → length (T k .labels) ≡ N) where
+  -- what the stages from k on say
+  abbrev from : ℕ → Verdict
+  from k = course limits T (130 - k) k
+
+  agree-not : (k : ℕ) → Room (T k) → (Room (T (k + 1)) → ⊥) → agree (T k) (T (k + 1)) ≡ false
+  agree-not k o n = ⊎-elim (λ (e : agree (T k) (T (k + 1)) ≡ true). absurd (n (subst Room (agree-elim (T k) (T (k + 1)) e) o))) (λ e. e) (either (agree (T k) (T (k + 1))))
+
+  from-here : (k : ℕ) → k < 130 → Room (T k) → agree (T k) (T (k + 1)) ≡ true → from k ≡ settled k (T k)
+  from-here k h o e = course-turn limits T 130 k h ∙ rw (o .few, o .short, e)
+
+  from-on : (k : ℕ) → k < 130 → Room (T k) → agree (T k) (T (k + 1)) ≡ false → from k ≡ from (k + 1)
+  from-on k h o e = course-turn limits T 130 k h ∙ rw (o .few, o .short, e)
+
+  -- a stage over its limit ends the walk with the refusal that it answers
+  from-over : (k : ℕ) → k < 130 → (r : Judged) → r ≡ fitted k (T k) → (Room (T k) → ⊥) → r ≡ judgedBy (from k)
+  unfolding fitted
+  from-over k h r e none = go (nogoodsLong limits (T k)) (labelLong limits (T k)) refl refl e
+    where
+      go : (b : Bool) (m : ℕ) → nogoodsLong limits (T k) ≡ b → labelLong limits (T k) ≡ m → r ≡ fittedBy b m (listsOf k (T k)) → r ≡ judgedBy (from k)
+      go true m p q w = let v : from k ≡ nogoodsOver = course-turn limits T 130 k h ∙ rw p in w ∙ sym (ap judgedBy v)
+      go false (suc m) p q w = let v : from k ≡ labelOver (suc m) = course-turn limits T 130 k h ∙ rw (p, q) in w ∙ sym (ap judgedBy v)
+      go false zero p q w = absurd (none (record { few = p; short = q }))
+
+  from-end : from 130 ≡ unsettled
+  unfolding course
+  from-end = refl
+
+  -- ---- stage k, with its lists, and what the next one answers
+  module _ (k : ℕ) (l : Lists) (is : l ≡ listsOf k (T k)) (room : Room (T k)) (v : Verdict) (so : v ≡ from k) (r : Judged) (made : r ≡ fitted (k + 1) (T (k + 1))) (n : ℕ) (number : n ≡ numberOf (r .reply)) where
+    turn-refused : k < 129 → (n ≡ 0 → ⊥) → r ≡ judgedBy v
+    turn-refused low z =
+        let none : Room (T (k + 1)) → ⊥ = step-none (k + 1) (T (k + 1)) r made n number z in
+        from-over (k + 1) (omega arith) r made none ∙ sym (ap judgedBy (so ∙ from-on k (omega arith) room (agree-not k room none)))
+
+    module _ (z : n ≡ 0) (b : Bool) (same : b ≡ sameLists l (r .lists)) where
+      agreed : b ≡ agree (T k) (T (k + 1))
+      agreed =
+          same ∙ ap₂ sameLists is (step-lists (k + 1) (T (k + 1)) r made n number z)
+          ∙ same-agree N wide (T k) (T (k + 1)) (long k) (long (k + 1)) room (step-room (k + 1) (T (k + 1)) r made n number z) k (k + 1)
+
+      turn-settled : k < 130 → b ≡ true → _≡_ {A = Judged} (record { reply = Done; lists = l }) (judgedBy v)
+      turn-settled low e =
+          ap (λ (x : Lists). record { reply = Done; lists = x }) is ∙ sym (ap judgedBy (so ∙ from-here k low room (sym agreed ∙ e)))
+
+      turn-on : k < 130 → b ≡ false → v ≡ from (k + 1)
+      turn-on low e = so ∙ from-on k low room (sym agreed ∙ e)
+
+    -- stage 129
+    last-open : v ≡ from 130 → (x : Judged) → x ≡ refusal Unsettled → x ≡ judgedBy v
+    last-open e x w = w ∙ sym (ap judgedBy (e ∙ from-end))
+
+    end-refused : k ≡ 129 → (n ≡ 0 → ⊥) → (x : Judged) → x ≡ refusal Unsettled → x ≡ judgedBy v
+    end-refused e z x w =
+        let none : Room (T (k + 1)) → ⊥ = step-none (k + 1) (T (k + 1)) r made n number z in
+        let q : k + 1 ≡ 130 = omega arith in
+        last-open (so ∙ from-on k (omega arith) room (agree-not k room none) ∙ ap from q) x w
+
+    end-differs : k ≡ 129 → n ≡ 0 → (b : Bool) → b ≡ sameLists l (r .lists) → b ≡ false → (x : Judged) → x ≡ refusal Unsettled → x ≡ judgedBy v
+    end-differs e z b same f x w =
+        let q : k + 1 ≡ 130 = omega arith in
+        last-open (turn-on z b same (omega arith) f ∙ ap from q) x w
+
+-- ---- the stages of what is held
+
+-- what the stages from k on say
+abbrev pub fromStage : Held → ℕ → Verdict
+fromStage h k = course limits (stageBy h) (130 - k) k
+
+module _ (h : Held) (ok : Judgeable h) where
+  abbrev A : ℕ
+  A = h .assumptions
+
+  room-zero : Room (stageBy h 0)
+  unfolding nogoodsLong labelLong
+  room-zero = record {
+    few = let e : length (stageBy h 0 .nogoods) ≡ 0 = ap length (stage-nogoods A (A + h .claims) (saidBy h) 0 ∙ nogoods-zero A (saidBy h)) in le-ltb 32 (length (stageBy h 0 .nogoods)) (omega arith);
+    short = lowest-none 12 1 (stageBy h 0 .labels) (λ i p.
+        let q : i < A + h .claims = omega (arith, stage-length A (A + h .claims) (saidBy h) 0) in
+        let e : length (getD (stageBy h 0 .labels) i []) ≡ length (labelAt A (saidBy h) 0 (suc i)) = ap length (stage-label A (A + h .claims) (saidBy h) 0 i q) in
+        elim (decLt i A) [
+          | yes a ↦ (let z : length (labelAt A (saidBy h) 0 (suc i)) ≡ 1 = ap length (label-zero A (saidBy h) i a) in omega arith)
+          | no a ↦ (let z : length (labelAt A (saidBy h) 0 (suc i)) ≡ 0 = ap length (label-zero-above A (saidBy h) i (omega arith)) in omega arith)
+        ]);
+  }
+
+  module _ (l : Lists) (is : l ≡ listsOf 0 (firstStage A)) where
+    depth-zero : l .depth ≡ 0
+    unfolding listsOf
+    depth-zero = ap (λ (x : Lists). x .depth) is
+
+    pub judge-reached : Reached h l
+    judge-reached = record {
+      joinable = record { right = ok .right; wide = omega (arith, ok .assumptions, ok .claims) };
+      is = is ∙ sym (start-is A (h .claims) (saidBy h)) ∙ ap (λ (k : ℕ). listsOf k (stageBy h k)) (sym depth-zero);
+      room = subst (λ (k : ℕ). Room (stageBy h k)) (sym depth-zero) room-zero;
+      low = omega (arith, depth-zero);
+    }
+
+    pub judge-from : judge limits A (A + h .claims) (saidBy h) ≡ fromStage h (l .depth)
+    unfolding judge
+    judge-from = ap (fromStage h) (sym depth-zero)
+
+module _ (h : Held) (l : Lists) (re : Reached h l) (v : Verdict) (so : v ≡ fromStage h (l .depth)) (r : Judged) (made : r ≡ fitted (l .depth + 1) (stageBy h (l .depth + 1))) (n : ℕ) (number : n ≡ numberOf (r .reply)) where
+  abbrev N : ℕ
+  N = h .assumptions + h .claims
+
+  long : (k : ℕ) → length (stageBy h k .labels) ≡ N
+  long k = stage-length (h .assumptions) N (saidBy h) k
+
+  pub judge-refused : l .depth < 129 → (n ≡ 0 → ⊥) → r ≡ judgedBy v
+  judge-refused = turn-refused (stageBy h) N (re .joinable .wide) long (l .depth) l (re .is) (re .room) v so r made n number
+
+  pub last-refused : l .depth ≡ 129 → (n ≡ 0 → ⊥) → (x : Judged) → x ≡ refusal Unsettled → x ≡ judgedBy v
+  last-refused = end-refused (stageBy h) N (re .joinable .wide) long (l .depth) l (re .is) (re .room) v so r made n number
+
+  module _ (z : n ≡ 0) where
+    lists-is : r .lists ≡ listsOf (l .depth + 1) (stageBy h (l .depth + 1))
+    lists-is = step-lists (l .depth + 1) (stageBy h (l .depth + 1)) r made n number z
+
+    depth-is : r .lists .depth ≡ l .depth + 1
+    unfolding listsOf
+    depth-is = ap (λ (x : Lists). x .depth) lists-is
+
+    pub judge-less : l .depth < 129 → 129 - r .lists .depth < 129 - l .depth
+    judge-less low = omega (arith, depth-is)
+
+    pub judge-next : l .depth < 129 → Reached h (r .lists)
+    judge-next low = record {
+      joinable = re .joinable;
+      is = lists-is ∙ ap (λ (k : ℕ). listsOf k (stageBy h k)) (sym depth-is);
+      room = subst (λ (k : ℕ). Room (stageBy h k)) (sym depth-is) (step-room (l .depth + 1) (stageBy h (l .depth + 1)) r made n number z);
+      low = omega (arith, depth-is);
+    }
+
+    module _ (b : Bool) (same : b ≡ sameLists l (r .lists)) where
+      pub judge-settled : b ≡ true → _≡_ {A = Judged} (record { reply = Done; lists = l }) (judgedBy v)
+      judge-settled e = turn-settled (stageBy h) N (re .joinable .wide) long (l .depth) l (re .is) (re .room) v so r made n number z b same (omega (arith, re .low)) e
+
+      pub judge-on : b ≡ false → v ≡ fromStage h (r .lists .depth)
+      judge-on e = turn-on (stageBy h) N (re .joinable .wide) long (l .depth) l (re .is) (re .room) v so r made n number z b same (omega (arith, re .low)) e ∙ ap (fromStage h) (sym depth-is)
+
+      pub last-differs : l .depth ≡ 129 → b ≡ false → (x : Judged) → x ≡ refusal Unsettled → x ≡ judgedBy v
+      last-differs q e = end-differs (stageBy h) N (re .joinable .wide) long (l .depth) l (re .is) (re .room) v so r made n number q z b same e
+
+-- the walk ends at stage 129
+pub last-from : (h : Held) (l : Lists) → l .depth ≡ 129 → course limits (stageBy h) 1 129 ≡ fromStage h (l .depth)
+last-from h l e = ap (fromStage h) (sym e)
+
+pub last-is : (h : Held) (l : Lists) (v : Verdict) → v ≡ fromStage h (l .depth) → l .depth ≡ 129 → (r : Judged) → r ≡ judgedBy (course limits (stageBy h) 1 129) → r ≡ judgedBy v
+last-is h l v so e r is = is ∙ ap judgedBy (last-from h l e ∙ sym so)

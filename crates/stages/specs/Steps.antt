@@ -1,0 +1,55 @@
+-- One stage after the other, as the code hands them on. Assumes nothing.
+use mathlib.Core.Bool.{Bool, _&&_, false, true}
+use mathlib.Core.Path.{_≡_}
+use Prim.Native.Nat.{_*_, _+_, _≤_, suc, zero, ℕ}
+use lib.Dec.{eqb}
+use lib.ListN.{set, take}
+use lib.Seq.{paste}
+use Rattle.labels.specs.Layout.{Joinable}
+use Rattle.labels.specs.declared.Built.{Built}
+use Rattle.replies.specs.declared.Reply.the-variants.{Done, Label, Nogoods}
+use Rattle.rules.specs.Held.{saidBy}
+use Rattle.rules.specs.declared.Held.{Held}
+use Rattle.stages.specs.Judged.{refusal}
+use Rattle.stages.specs.Lists.{listsOf}
+use Rattle.stages.specs.declared.Judged.{Judged}
+use Rattle.stages.specs.declared.Lists.{Lists}
+use Rattle.theory.specs.Judge.{Stage, labelLong, limits, nogoodsLong, sameSets, stageAt}
+
+-- stage k of the justifications held
+abbrev pub stageBy : Held → ℕ → Stage
+stageBy h k = stageAt (h .assumptions) (h .assumptions + h .claims) (saidBy h) k
+
+-- the nogoods are over; a label is over; or the lists
+abbrev pub fittedBy : Bool → ℕ → Lists → Judged
+fittedBy true n l = refusal Nogoods
+fittedBy false (suc n) l = refusal (Label (suc n))
+fittedBy false zero l = record { reply = Done; lists = l }
+
+-- the lists of stage k, or the first of them that is over
+unfoldable pub fitted : ℕ → Stage → Judged
+fitted k s = fittedBy (nogoodsLong limits s) (labelLong limits s) (listsOf k s)
+
+-- no list of the stage is over
+pub record Room (s : Stage) : Type 0 where
+  pub few : nogoodsLong limits s ≡ false
+  pub short : labelLong limits s ≡ zero
+
+-- the lists are those of their stage, none is over, and the stage is 129 at most
+pub record Reached (h : Held) (l : Lists) : Type 0 where
+  pub joinable : Joinable h
+  pub is : l ≡ listsOf (l .depth) (stageBy h (l .depth))
+  pub room : Room (stageBy h (l .depth))
+  pub low : l .depth ≤ 129
+
+-- the first n labels of a stage, with its nogoods
+abbrev pub firstLabels : ℕ → Stage → Stage
+firstLabels n s = record { nogoods = s .nogoods; labels = take n (s .labels) }
+
+-- the label of the number i + 1 written
+abbrev pub withLabel : Lists → ℕ → Built → Lists
+withLabel l i b = record { sizes = set (l .sizes) i (b .count); members = paste (l .members) (12 * i) (b .sets) 12; count = l .count; nogoods = l .nogoods; depth = l .depth }
+
+-- all labels and nogoods are the same
+unfoldable pub sameLists : Lists → Lists → Bool
+sameLists l m = eqb (l .count) (m .count) && (sameSets (l .sizes) (m .sizes) && (sameSets (l .members) (m .members) && sameSets (l .nogoods) (m .nogoods)))
