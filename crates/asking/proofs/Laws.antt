@@ -1,0 +1,182 @@
+-- Question, context and member, test by test. Assumes nothing.
+use mathlib.Core.Bool.{false, true}
+use mathlib.Core.List.{List, [], _++_, _∷_, append-assoc}
+use mathlib.Core.Path.{_∙_, _≡_, ap, ap₂, refl, sym}
+use Prim.Native.Nat.{_*_, _+_, _-_, _<_, _≤_, suc, zero, ℕ}
+use native.Mathlib.Numerals.{add-one}
+use native.Mathlib.Omega.{arith}
+use lib.Dec.{ltb}
+use lib.ListN.{drop, getD, length, length-drop, length-take, set, take}
+use lib.Seq.{drop-cons, getD-drop, getD-take, length-take-le, set-at}
+use borrow.Author.Tests.{le-leb, le-ltb, lt-leb, lt-ltb}
+use Rattle.asking.specs.Asking.{Left, Room, byteOf, contextBytes, contextOf, contextReply, left, memberAt, memberOf, questionOf, standing}
+use Rattle.asking.specs.declared.Answer.{Answer}
+use Rattle.asking.specs.declared.Answer.the-variants.{Inconsistent, Refused, Supported, Unsupported}
+use Rattle.asking.specs.declared.Asked.{Asked}
+use Rattle.asking.specs.declared.Found.{Found}
+use Rattle.asking.specs.declared.Found.the-variants.{Is, Not}
+use Rattle.asking.specs.declared.Shown.{Shown}
+use Rattle.labels.proofs.First.{contains-first}
+use Rattle.labels.specs.Promised.{firstWithin}
+use Rattle.replies.specs.declared.Reply.the-variants.{Done, Number, Place, Shape, Short}
+use Rattle.shape.proofs.Elim.{label-few, lists-elim}
+use Rattle.stages.specs.declared.Lists.{Lists}
+use Rattle.store.proofs.Shapes.{shape-elim}
+use Rattle.store.specs.Calls.{answer}
+use Rattle.store.specs.Reading.{labelHeld, nogoodsHeld}
+use Rattle.store.specs.Shape.{rightShape, top}
+use Rattle.store.specs.declared.Store.{Store}
+use Rattle.theory.proofs.Places.{length-table}
+use Rattle.theory.specs.Cases.{from}
+use Rattle.theory.specs.Lists.{someOf}
+use Rattle.theory.specs.Places.{table}
+use Rattle.theory.specs.Sets.{contains, inRange}
+
+-- ---- a part of a list
+part-length : (l : List ℕ) (from count : ℕ) → from + count ≤ length l → length (take count (drop from l)) ≡ count
+part-length l from count h = simp (length-take, length-drop) (omega arith)
+
+pub meets-law : (l : List ℕ) (from count E r : ℕ) → from + count ≤ length l → r ≡ firstWithin (take (from + count - from) (drop from l)) E → ltb r count ≡ contains (take count (drop from l)) E
+meets-law l from count E r h e =
+    let n : from + count - from ≡ count = omega arith in
+    let p : List ℕ = take count (drop from l) in
+    ap (λ (x : ℕ). ltb x count) (e ∙ ap (λ (k : ℕ). firstWithin (take k (drop from l)) E) n)
+    ∙ ap (ltb (firstWithin p E)) (sym (part-length l from count h)) ∙ sym (contains-first p E)
+
+-- ---- what the lists say
+module _ (l : Lists) (E : ℕ) where
+  pub stands-struck : (n : ℕ) → contains (nogoodsHeld l) E ≡ true → Inconsistent ≡ standing l n E
+  unfolding standing
+  stands-struck n h = rw h
+
+  pub stands-falsity : contains (nogoodsHeld l) E ≡ false → Unsupported ≡ standing l 0 E
+  unfolding standing contains someOf
+  stands-falsity h = rw h
+
+  module _ (i : ℕ) (h : contains (nogoodsHeld l) E ≡ false) where
+    pub stands-yes : contains (labelHeld l (suc i)) E ≡ true → Supported ≡ standing l (suc i) E
+    unfolding standing
+    stands-yes k = rw (h, k)
+
+    pub stands-no : contains (labelHeld l (suc i)) E ≡ false → Unsupported ≡ standing l (suc i) E
+    unfolding standing
+    stands-no k = rw (h, k)
+
+-- the code's n - 1
+pub number-of : (n : ℕ) → (n ≡ 0 → ⊥) → suc (n - 1) ≡ n
+number-of n h = omega arith
+
+-- ---- members
+module _ (l : Lists) (place : ℕ) where
+  nogoods-length : l .count ≤ length (l .nogoods) → length (nogoodsHeld l) ≡ l .count
+  nogoods-length h = length-take-le (l .count) (l .nogoods) h
+
+  pub member-nogood-none : l .count ≤ length (l .nogoods) → l .count ≤ place → Not Place ≡ memberAt l 0 place
+  unfolding memberAt
+  member-nogood-none k h = rw (le-leb (length (nogoodsHeld l)) place (omega (arith, nogoods-length k)))
+
+  pub member-nogood : l .count ≤ length (l .nogoods) → place < l .count → Is (getD (l .nogoods) place 0) ≡ memberAt l 0 place
+  unfolding memberAt
+  member-nogood k h =
+      rw (lt-leb (length (nogoodsHeld l)) place (omega (arith, nogoods-length k))) (ap Is (sym (getD-take (l .count) (l .nogoods) place 0 h)))
+
+  module _ (i : ℕ) (fits : 12 * i + getD (l .sizes) i 0 ≤ length (l .members)) where
+    label-length : length (labelHeld l (suc i)) ≡ getD (l .sizes) i 0
+    label-length = part-length (l .members) (12 * i) (getD (l .sizes) i 0) fits
+
+    pub member-none : getD (l .sizes) i 0 ≤ place → Not Place ≡ memberAt l (suc i) place
+    unfolding memberAt
+    member-none h = rw (le-leb (length (labelHeld l (suc i))) place (omega (arith, label-length)))
+
+    pub member-is : place < getD (l .sizes) i 0 → Is (getD (l .members) (12 * i + place) 0) ≡ memberAt l (suc i) place
+    unfolding memberAt
+    member-is h =
+        rw (lt-leb (length (labelHeld l (suc i))) place (omega (arith, label-length)))
+        (ap Is (sym (getD-take (getD (l .sizes) i 0) (drop (12 * i) (l .members)) place 0 h ∙ getD-drop (12 * i) (l .members) place 0)))
+
+-- ---- the bytes of a context
+pub fill-none : (f : ℕ → ℕ) (out : List ℕ) → out ≡ table 0 f ++ drop 0 out
+unfolding table
+fill-none f out = refl
+
+pub table-push : (n : ℕ) (f : ℕ → ℕ) → table (n + 1) f ≡ table n f ++ (f n ∷ [])
+unfolding table
+table-push n f = ap (λ (k : ℕ). table k f) (add-one n) ∙ go n f
+  where
+    go : (n : ℕ) (f : ℕ → ℕ) → table (suc n) f ≡ table n f ++ (f n ∷ [])
+    go zero f = refl
+    go (suc n) f = ap (λ (l : List ℕ). f zero ∷ l) (go n (λ i. f (suc i)))
+
+pub fill-more : (f : ℕ → ℕ) (out : List ℕ) (i v : ℕ) → i < length out → v ≡ f i → set (table i f ++ drop i out) i v ≡ table (i + 1) f ++ drop (i + 1) out
+fill-more f out i v h e =
+    ap (λ (l : List ℕ). set (table i f ++ l) i v) (drop-cons out i 0 h)
+    ∙ set-at (table i f) (getD out i 0) (drop (suc i) out) v i (length-table i f)
+    ∙ ap₂ (λ (x k : ℕ). table i f ++ (x ∷ drop k out)) e (sym (add-one i))
+    ∙ sym (append-assoc (table i f) (f i ∷ []) (drop (i + 1) out))
+    ∙ ap (λ (l : List ℕ). l ++ drop (i + 1) out) (sym (table-push i f))
+
+-- ---- the calls
+module _ (s : Store) where
+  pub shape-room : rightShape s ≡ true → length (s .lists .nogoods) ≡ 32 → Room (s .lists)
+  shape-room t e =
+      let r = shape-elim s t in
+      let l = lists-elim (s .lists) (s .held .assumptions) (top (s .held)) (r .1) in
+      record { nogoods = omega (arith, l .nogoods .few); labels = label-few (s .lists) (s .held .assumptions) (top (s .held)) l }
+
+  pub few : rightShape s ≡ true → (s .held .assumptions ≤ 32) × (s .held .claims ≤ 96)
+  few t = let f = shape-elim s t .0 in (f .few, f .claims)
+
+  abbrev asked : Answer → Asked
+  asked a = record { answer = a; store = s }
+
+  abbrev shown : Found → Shown
+  shown a = record { answer = a; store = s }
+
+  pub question-shape : (n E : ℕ) → rightShape s ≡ false → asked (Refused Shape) ≡ asked (questionOf s n E)
+  unfolding questionOf
+  question-shape n E h = rw h
+
+  pub question-number : (n E : ℕ) → rightShape s ≡ true → top (s .held) < n → asked (Refused Number) ≡ asked (questionOf s n E)
+  unfolding questionOf
+  question-number n E h k = rw (h, lt-ltb (top (s .held)) n k)
+
+  pub question-set : (n E : ℕ) → rightShape s ≡ true → n ≤ top (s .held) → inRange (s .held .assumptions) E ≡ false → asked (Refused Number) ≡ asked (questionOf s n E)
+  unfolding questionOf
+  question-set n E h k r = rw (h, le-ltb (top (s .held)) n k, r)
+
+  pub question-stands : (n E : ℕ) → rightShape s ≡ true → n ≤ top (s .held) → inRange (s .held .assumptions) E ≡ true → (a : Answer) → a ≡ standing (s .lists) n E → asked a ≡ asked (questionOf s n E)
+  unfolding questionOf
+  question-stands n E h k r a e = rw (h, le-ltb (top (s .held)) n k, r) (ap asked e)
+
+  pub member-shape : (n place : ℕ) → rightShape s ≡ false → shown (Not Shape) ≡ shown (memberOf s n place)
+  unfolding memberOf
+  member-shape n place h = rw h
+
+  pub member-number : (n place : ℕ) → rightShape s ≡ true → top (s .held) < n → shown (Not Number) ≡ shown (memberOf s n place)
+  unfolding memberOf
+  member-number n place h k = rw (h, lt-ltb (top (s .held)) n k)
+
+  pub member-at : (n place : ℕ) → rightShape s ≡ true → n ≤ top (s .held) → (a : Found) → a ≡ memberAt (s .lists) n place → shown a ≡ shown (memberOf s n place)
+  unfolding memberOf
+  member-at n place h k a e = rw (h, le-ltb (top (s .held)) n k) (ap shown e)
+
+  module _ (E : ℕ) (out : List ℕ) where
+    abbrev goal : Left
+    goal = left (answer (contextReply s E (length out)) s) (contextBytes s E out)
+
+    pub context-shape : rightShape s ≡ false → left (answer Shape s) out ≡ goal
+    unfolding contextReply contextBytes
+    context-shape h = rw h
+
+    pub context-set : rightShape s ≡ true → inRange (s .held .assumptions) E ≡ false → left (answer Number s) out ≡ goal
+    unfolding contextReply contextBytes
+    context-set h r = rw (h, r)
+
+    pub context-short : rightShape s ≡ true → inRange (s .held .assumptions) E ≡ true → length out < top (s .held) + 1 → left (answer Short s) out ≡ goal
+    unfolding contextReply contextBytes
+    context-short h r k = rw (h, r, lt-ltb (length out) (top (s .held) + 1) k)
+
+    pub context-done : rightShape s ≡ true → inRange (s .held .assumptions) E ≡ true → top (s .held) + 1 ≤ length out
+        → (after : List ℕ) → after ≡ table (top (s .held) + 1) (λ n. byteOf (standing (s .lists) n E)) ++ drop (top (s .held) + 1) out → left (answer Done s) after ≡ goal
+    unfolding contextReply contextBytes contextOf
+    context-done h r k after e = rw (h, r, le-ltb (length out) (top (s .held) + 1) k) (ap (left (answer Done s)) e)

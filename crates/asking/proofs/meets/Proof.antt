@@ -1,0 +1,41 @@
+use native.Mathlib.Omega.{arith}
+use borrow.Author.Needs.{needs}
+use Rattle.asking.proofs.Laws.{meets-law}
+use Rattle.asking.proofs.meets.Statement.{statement}
+use Rattle.asking.proofs.meets.Tie as tie
+use Rattle.asking.proofs.meets.Reads as reads
+use Rattle.asking.proofs.meets.Lts as lts
+use Rattle.labels.proofs.first_within.Reads as first-within-reads
+
+add-to : tie.Need-add-to
+add-to c = search needs
+
+mul-first-within : tie.Need-mul-first-within
+mul-first-within c = search needs
+
+sub-first-within : tie.Need-sub-first-within
+sub-first-within c = search needs
+
+part-first-within-start : tie.Need-part-first-within-start
+part-first-within-start c = search needs
+
+part-first-within-end : tie.Need-part-first-within-end
+part-first-within-end c = search needs
+
+first-within-requires : tie.Need-first-within-requires
+first-within-requires c κs = search needs
+
+returns : tie.Need-returns
+returns c = let a = c .before .before .before .args in meets-law (a .l .now) (a .from) (a .count) (a .e) (c .first-within .result) (omega arith) (c .first-within .ensures)
+
+pub meets-spec : {M : Type 1} → statement M
+meets-spec =
+    tie.close
+    (tie.spec
+    add-to
+    mul-first-within
+    sub-first-within
+    part-first-within-start
+    part-first-within-end
+    first-within-requires
+    returns)

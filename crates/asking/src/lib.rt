@@ -1,0 +1,196 @@
+// Questions to a store, answered from its lists as they stand.
+use replies::Reply;
+use stages::Lists;
+use store::Outcome;
+use store::Store;
+ghost use mathlib.Core.List.{_++_};
+ghost use mathlib.Core.Path.{_≡_};
+ghost use Prim.Native.Nat.{_+_, _≤_, _<_};
+ghost use lib.ListN.{length, take, drop};
+ghost use Rattle.theory.specs.Sets.{contains};
+ghost use Rattle.theory.specs.Places.{table};
+ghost use Rattle.asking.specs.Asking.{Room, standing, byteOf, memberAt, Questioned, Contexted, Membered};
+
+// What a set is to a number.
+pub enum Answer {
+    Inconsistent,
+    Supported,
+    Unsupported,
+    Refused(Reply),
+}
+
+pub struct Asked {
+    pub answer: Answer,
+    pub store: Store,
+}
+
+// A member, or why there is none.
+pub enum Found {
+    Is(u32),
+    Not(Reply),
+}
+
+pub struct Shown {
+    pub answer: Found,
+    pub store: Store,
+}
+
+// Whether one of count sets from a place on lies within e.
+fn meets(l: &[u32], from: usize, count: usize, e: u32) -> bool
+    requires { ⌜ from + count ≤ length (now l) ⌝ }
+    ensures { λ r. ⌜ r ≡ contains (take count (drop from (now (l .entry)))) e ⌝ }
+{
+    let to = from + count;
+    labels::first_within(&l[from..to], e) < count
+}
+
+// What the store's lists say of n and e.
+fn stands(lists: Lists, n: usize, e: u32) -> Answer
+    requires { ⌜ Room lists × (n ≤ 128) ⌝ }
+    ensures { λ r. ⌜ r ≡ standing lists n e ⌝ }
+{
+    let count = lists.count;
+    if meets(&lists.nogoods, 0, count, e) {
+        return Answer::Inconsistent;
+    }
+    if n == 0 {
+        return Answer::Unsupported;
+    }
+    let i = n - 1;
+    let size = lists.sizes[i] as usize;
+    if meets(&lists.members, 12 * i, size, e) {
+        return Answer::Supported;
+    }
+    Answer::Unsupported
+}
+
+// Whether e is inconsistent, supports n, or neither.
+pub fn question(store: Store, n: u32, e: u32) -> Asked
+    ensures { λ r. ⌜ Questioned store n e r ⌝ }
+{
+    if store.shape() {
+        let held = store.held;
+        let a = held.assumptions;
+        let top = (a + held.claims) as u32;
+        if top < n {
+            return Asked {
+                answer: Answer::Refused(Reply::Number),
+                store,
+            };
+        }
+        if sets::low(e, a) {
+            let lists = store.lists;
+            let answer = stands(lists, n as usize, e);
+            return Asked { answer, store };
+        }
+        return Asked {
+            answer: Answer::Refused(Reply::Number),
+            store,
+        };
+    }
+    Asked {
+        answer: Answer::Refused(Reply::Shape),
+        store,
+    }
+}
+
+// The byte of n.
+fn byte(lists: Lists, n: usize, e: u32) -> u8
+    requires { ⌜ Room lists × (n ≤ 128) ⌝ }
+    ensures { λ r. ⌜ r ≡ byteOf (standing lists n e) ⌝ }
+{
+    let told = stands(lists, n, e);
+    match told {
+        Answer::Inconsistent => 2,
+        Answer::Supported => 1,
+        Answer::Unsupported => 0,
+        Answer::Refused(_) => 0,
+    }
+}
+
+// The bytes of the numbers below the end.
+fn fill(lists: Lists, e: u32, end: usize, out: &mut [u8])
+    requires { ⌜ Room lists × (end ≤ 129) × (end ≤ length (now out)) ⌝ }
+    ensures { λ _. ⌜ now (out .exit) ≡ table end (λ n. byteOf (standing lists n e)) ++ drop end (now (out .entry)) ⌝ }
+{
+    let mut i = 0;
+    while i < end {
+        out[i] = byte(lists, i, e);
+        i += 1;
+    }
+}
+
+// What e is to every number, a byte each.
+pub fn context(store: Store, e: u32, out: &mut [u8]) -> Outcome
+    ensures { λ r. ⌜ Contexted store e (now (out .entry)) r (now (out .exit)) ⌝ }
+{
+    if store.shape() {
+        let held = store.held;
+        let a = held.assumptions;
+        if sets::low(e, a) {
+            let end = (a + held.claims) as usize + 1;
+            if out.len() < end {
+                return Outcome {
+                    reply: Reply::Short,
+                    store,
+                };
+            }
+            let lists = store.lists;
+            fill(lists, e, end, out);
+            return Outcome {
+                reply: Reply::Done,
+                store,
+            };
+        }
+        return Outcome {
+            reply: Reply::Number,
+            store,
+        };
+    }
+    Outcome {
+        reply: Reply::Shape,
+        store,
+    }
+}
+
+// The member of a list at a place.
+fn at(lists: Lists, n: usize, place: usize) -> Found
+    requires { ⌜ Room lists × (n ≤ 128) ⌝ }
+    ensures { λ r. ⌜ r ≡ memberAt lists n place ⌝ }
+{
+    if n == 0 {
+        if lists.count <= place {
+            return Found::Not(Reply::Place);
+        }
+        return Found::Is(lists.nogoods[place]);
+    }
+    let i = n - 1;
+    let size = lists.sizes[i] as usize;
+    if size <= place {
+        return Found::Not(Reply::Place);
+    }
+    Found::Is(lists.members[12 * i + place])
+}
+
+// The member of n's label, or of the nogoods, at a place.
+pub fn member(store: Store, n: u32, place: usize) -> Shown
+    ensures { λ r. ⌜ Membered store n place r ⌝ }
+{
+    if store.shape() {
+        let held = store.held;
+        let top = (held.assumptions + held.claims) as u32;
+        if top < n {
+            return Shown {
+                answer: Found::Not(Reply::Number),
+                store,
+            };
+        }
+        let lists = store.lists;
+        let answer = at(lists, n as usize, place);
+        return Shown { answer, store };
+    }
+    Shown {
+        answer: Found::Not(Reply::Shape),
+        store,
+    }
+}

@@ -1,0 +1,203 @@
+-- From what the stages say to the answers of judging and adding. Assumes nothing.
+use mathlib.Core.Bool.{false, true}
+use mathlib.Core.List.{List, []}
+use mathlib.Core.Logic.{⊎-elim}
+use mathlib.Core.Path.{_∙_, _≡_, ap, ap₂, refl, subst, sym}
+use Prim.Native.Nat.{_+_, _<_, _≤_, ℕ}
+use native.Mathlib.Omega.{arith}
+use lib.ListN.{length}
+use borrow.Author.Tests.{eq-eqb, le-leb, le-ltb, lt-leb, lt-ltb, ne-eqb}
+use Rattle.replies.specs.Replies.{numberOf}
+use Rattle.replies.specs.declared.Reply.{Reply}
+use Rattle.replies.specs.declared.Reply.the-variants.{After, Already, Counts, Done, Ends, Falsity, Form, Full, Label, Long, Nogoods, Number, Place, Shape, Short, Supports, Unsettled}
+use Rattle.rules.proofs.Entries.{said-many}
+use Rattle.rules.proofs.Laws.{fitting-ranged, held-said, put-right, right-held, right-range}
+use Rattle.rules.proofs.Putting.{put-cases, put-length}
+use Rattle.rules.specs.Held.{fitting, heldOf, heldRight, meaning, put, saidBy}
+use Rattle.rules.specs.Items.{faultOf, justificationOf, sameJustification}
+use Rattle.rules.specs.declared.Entry.{Entry}
+use Rattle.rules.specs.declared.Held.{Held}
+use Rattle.stages.proofs.Stages.{start-is}
+use Rattle.stages.specs.Judged.{judgedBy}
+use Rattle.stages.specs.Lists.{firstStage, listsOf}
+use Rattle.stages.specs.declared.Judged.{Judged}
+use Rattle.stages.specs.declared.Lists.{Lists}
+use Rattle.store.proofs.Shapes.{Fitting, fits-elim, shape-elim}
+use Rattle.store.specs.Calls.{addOf, answer, joinedBy, judgedOf, noStore, ofVerdict, openOf, startStore, storeOf}
+use Rattle.store.specs.Shape.{heldFits, rightShape, top}
+use Rattle.store.specs.declared.Outcome.{Outcome}
+use Rattle.store.specs.declared.Store.{Store}
+use Rattle.theory.specs.Judge.{Verdict, judge, labelOver, limits, nogoodsOver, settled, unsettled}
+use Rattle.theory.specs.Lists.{someOf}
+use Rattle.theory.specs.Stages.{Justification}
+
+-- ---- what is held is the right shape of what it says
+
+pub again : (h : Held) → Fitting h → heldOf (h .assumptions) (h .claims) (saidBy h) ≡ h
+again h f = sym (right-held h (f .right))
+
+-- ---- the answer of the stages, as judging hands it on
+
+module _ (h : Held) where
+  abbrev stages-say : Verdict
+  stages-say = judge limits (h .assumptions) (h .assumptions + h .claims) (saidBy h)
+
+  judged-fits : heldFits h ≡ true → ofVerdict noStore (heldOf (h .assumptions) (h .claims) (saidBy h)) stages-say ≡ judgedOf h
+  unfolding judgedOf storeOf
+  judged-fits t = rw t
+
+  pub judged-shape : heldFits h ≡ false → answer Shape noStore ≡ judgedOf h
+  unfolding judgedOf
+  judged-shape t = rw t
+
+  module _ (t : heldFits h ≡ true) where
+    outcome : (v : Verdict) → stages-say ≡ v → ofVerdict noStore h v ≡ judgedOf h
+    outcome v e =
+        ap (ofVerdict noStore h) (sym e) ∙ ap (λ (k : Held). ofVerdict noStore k stages-say) (sym (again h (fits-elim h t))) ∙ judged-fits t
+
+    refused-by : (v : Verdict) → (numberOf (judgedBy v .reply) ≡ 0 → ⊥) → answer (judgedBy v .reply) noStore ≡ ofVerdict noStore h v
+    refused-by (settled d s) f = absurd (f refl)
+    refused-by nogoodsOver f = refl
+    refused-by (labelOver n) f = refl
+    refused-by unsettled f = refl
+
+    done-by : (v : Verdict) → numberOf (judgedBy v .reply) ≡ 0 → answer (judgedBy v .reply) (record { held = h; lists = judgedBy v .lists }) ≡ ofVerdict noStore h v
+    done-by (settled d s) e = refl
+    done-by nogoodsOver e = absurd (omega arith)
+    done-by (labelOver n) e = absurd (omega arith)
+    done-by unsettled e = absurd (omega arith)
+
+    pub judged-refused : (told : Judged) → told ≡ judgedBy stages-say → (numberOf (told .reply) ≡ 0 → ⊥) → answer (told .reply) noStore ≡ judgedOf h
+    judged-refused told e f =
+        ap (λ (j : Judged). answer (j .reply) noStore) e
+        ∙ refused-by stages-say (subst (λ (j : Judged). numberOf (j .reply) ≡ 0 → ⊥) e f)
+        ∙ outcome stages-say refl
+
+    pub judged-done : (told : Judged) → told ≡ judgedBy stages-say → numberOf (told .reply) ≡ 0 → answer (told .reply) (record { held = h; lists = told .lists }) ≡ judgedOf h
+    judged-done told e z =
+        ap (λ (j : Judged). answer (j .reply) (record { held = h; lists = j .lists })) e
+        ∙ done-by stages-say (subst (λ (j : Judged). numberOf (j .reply) ≡ 0) e z)
+        ∙ outcome stages-say refl
+
+-- ---- opening
+
+module _ (A M : ℕ) where
+  pub open-a : 32 < A → answer Counts noStore ≡ openOf A M
+  unfolding openOf
+  open-a h = rw (lt-ltb 32 A h)
+
+  pub open-m : A ≤ 32 → 96 < M → answer Counts noStore ≡ openOf A M
+  unfolding openOf
+  open-m a h = rw (le-ltb 32 A a, lt-ltb 96 M h)
+
+  pub open-done : A ≤ 32 → M ≤ 96 → answer Done (startStore A M) ≡ openOf A M
+  unfolding openOf
+  open-done a m = rw (le-ltb 32 A a, le-ltb 96 M m)
+
+-- ---- adding
+
+module _ (s : Store) (c : ℕ) (l : List ℕ) where
+  abbrev item : Reply
+  item = faultOf (top (s .held)) c l
+
+  pub add-shape : rightShape s ≡ false → answer Shape s ≡ addOf s c l
+  unfolding addOf
+  add-shape t = rw t
+
+  pub add-fault : rightShape s ≡ true → (numberOf item ≡ 0 → ⊥) → answer item s ≡ addOf s c l
+  unfolding addOf
+  add-fault t f = rw (t, ne-eqb (numberOf item) 0 f)
+
+  pub add-item : rightShape s ≡ true → numberOf item ≡ 0 → joinedBy s (justificationOf (top (s .held)) c l) ≡ addOf s c l
+  unfolding addOf
+  add-item t e = rw (t, eq-eqb (numberOf item) 0 e)
+
+-- a reply of number 0 is done
+pub is-done : (r : Reply) → numberOf r ≡ 0 → r ≡ Done
+is-done Done e = refl
+is-done Already e = absurd (omega arith)
+is-done Shape e = absurd (omega arith)
+is-done Counts e = absurd (omega arith)
+is-done Number e = absurd (omega arith)
+is-done Falsity e = absurd (omega arith)
+is-done Supports e = absurd (omega arith)
+is-done Full e = absurd (omega arith)
+is-done (Label n) e = absurd (omega arith)
+is-done Nogoods e = absurd (omega arith)
+is-done Unsettled e = absurd (omega arith)
+is-done Ends e = absurd (omega arith)
+is-done Form e = absurd (omega arith)
+is-done After e = absurd (omega arith)
+is-done Long e = absurd (omega arith)
+is-done Short e = absurd (omega arith)
+is-done Place e = absurd (omega arith)
+
+module _ (s : Store) (e : Entry) where
+  abbrev J : List Justification
+  J = saidBy (s .held)
+
+  abbrev larger : Held
+  larger = heldOf (s .held .assumptions) (s .held .claims) (put (meaning e) J)
+
+  pub join-already : someOf (sameJustification (meaning e)) J ≡ true → answer Already s ≡ joinedBy s (meaning e)
+  unfolding joinedBy
+  join-already t = rw t
+
+  pub join-full : someOf (sameJustification (meaning e)) J ≡ false → 256 ≤ s .held .count → answer Full s ≡ joinedBy s (meaning e)
+  unfolding joinedBy
+  join-full t h = rw (t, le-leb 256 (s .held .count) h)
+
+  module _ (t : rightShape s ≡ true) (f : fitting (top (s .held)) e ≡ true) (n : someOf (sameJustification (meaning e)) J ≡ false) (k : s .held .count < 256) where
+    fit : Fitting (s .held)
+    fit = shape-elim s t .0
+
+    larger-right : heldRight larger ≡ true
+    larger-right = put-right (s .held) e (fit .right) k f n
+
+    larger-fits : heldFits larger ≡ true
+    unfolding heldFits heldOf
+    larger-fits = rw (le-leb (s .held .assumptions) 32 (fit .few), le-leb (s .held .claims) 96 (fit .claims)) larger-right
+
+    larger-said : saidBy larger ≡ put (meaning e) J
+    larger-said =
+        held-said (s .held .assumptions) (s .held .claims) (put (meaning e) J) (omega (arith, put-length (meaning e) J, said-many (s .held) (fit .right)))
+        (λ j m. ⊎-elim (λ (q : j ≡ meaning e). subst (λ (i : Justification). length (i .supports) ≤ 4) (sym q) (fitting-ranged (top (s .held)) e f .few)) (λ i. right-range (s .held) (fit .right) j i .few) (put-cases (meaning e) J m))
+
+    judged-larger : judgedOf larger ≡ storeOf noStore (s .held .assumptions) (s .held .claims) (put (meaning e) J)
+    unfolding judgedOf heldOf
+    judged-larger = rw (larger-fits, larger-said)
+
+    join-stages : storeOf s (s .held .assumptions) (s .held .claims) (put (meaning e) J) ≡ joinedBy s (meaning e)
+    unfolding joinedBy
+    join-stages = rw (n, lt-leb 256 (s .held .count) k)
+
+    other : (h : Held) (v : Verdict) → (numberOf (ofVerdict noStore h v .reply) ≡ 0 → ⊥) → answer (ofVerdict noStore h v .reply) s ≡ ofVerdict s h v
+    other h (settled d g) q = absurd (q refl)
+    other h nogoodsOver q = refl
+    other h (labelOver m) q = refl
+    other h unsettled q = refl
+
+    same : (h : Held) (v : Verdict) → numberOf (ofVerdict noStore h v .reply) ≡ 0 → ofVerdict noStore h v ≡ ofVerdict s h v
+    same h (settled d g) q = refl
+    same h nogoodsOver q = absurd (omega arith)
+    same h (labelOver m) q = absurd (omega arith)
+    same h unsettled q = absurd (omega arith)
+
+    pub join-refused : (out : Outcome) → out ≡ judgedOf larger → (numberOf (out .reply) ≡ 0 → ⊥) → answer (out .reply) s ≡ joinedBy s (meaning e)
+    unfolding storeOf
+    join-refused out q z =
+        let r : out ≡ storeOf noStore (s .held .assumptions) (s .held .claims) (put (meaning e) J) = q ∙ judged-larger in
+        ap (λ (o : Outcome). answer (o .reply) s) r
+        ∙ other larger (judge limits (s .held .assumptions) (top (s .held)) (put (meaning e) J)) (subst (λ (o : Outcome). numberOf (o .reply) ≡ 0 → ⊥) r z)
+        ∙ join-stages
+
+    pub join-done : (out : Outcome) → out ≡ judgedOf larger → numberOf (out .reply) ≡ 0 → out ≡ joinedBy s (meaning e)
+    unfolding storeOf
+    join-done out q z =
+        let r : out ≡ storeOf noStore (s .held .assumptions) (s .held .claims) (put (meaning e) J) = q ∙ judged-larger in
+        r ∙ same larger (judge limits (s .held .assumptions) (top (s .held)) (put (meaning e) J)) (subst (λ (o : Outcome). numberOf (o .reply) ≡ 0) r z) ∙ join-stages
+
+-- ---- the store that holds nothing
+pub start-store : (A M : ℕ) (h : Held) (l : Lists) → h ≡ heldOf A M [] → l ≡ listsOf 0 (firstStage A) → _≡_ {A = Store} (record { held = h; lists = l }) (startStore A M)
+unfolding startStore
+start-store A M h l p q = ap₂ (λ (h : Held) (l : Lists). record { held = h; lists = l }) p (q ∙ sym (start-is A M []))

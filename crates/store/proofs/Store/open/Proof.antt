@@ -1,0 +1,48 @@
+use mathlib.Core.Path.{_∙_, ap}
+use native.Mathlib.Omega.{arith}
+use borrow.Author.Needs.{needs}
+use Rattle.replies.specs.declared.Reply.the-variants.{Counts, Done}
+use Rattle.store.proofs.Judging.{open-a, open-done, open-m}
+use Rattle.store.specs.Calls.{answer}
+use Rattle.store.proofs.Store.open.Statement.{statement}
+use Rattle.store.proofs.Store.open.Tie as tie
+use Rattle.store.proofs.Store.open.Reads as reads
+use Rattle.store.proofs.Store.open.Lts as lts
+use Rattle.store.proofs.start.Reads as start-reads
+
+start-requires : tie.Need-start-requires
+start-requires c κs = search needs
+
+returns : tie.Need-returns
+returns c = let a = c .before .before .args in ap (answer Counts) (c .start .ensures) ∙ open-a (a .assumptions) (a .claims) (omega arith)
+
+start-requires-2 : tie.Need-start-requires-2
+start-requires-2 c κs = search needs
+
+returns-2 : tie.Need-returns-2
+returns-2 c = let a = c .before .before .before .args in ap (answer Counts) (c .start2 .ensures) ∙ open-m (a .assumptions) (a .claims) (omega arith) (omega arith)
+
+cast-start : tie.Need-cast-start
+cast-start c = search needs
+
+cast-start-2 : tie.Need-cast-start-2
+cast-start-2 c = search needs
+
+start-requires-3 : tie.Need-start-requires-3
+start-requires-3 c κs = search needs
+
+returns-3 : tie.Need-returns-3
+returns-3 c = let a = c .before .before .before .args in ap (answer Done) (c .start3 .ensures) ∙ open-done (a .assumptions) (a .claims) (omega arith) (omega arith)
+
+pub open-spec : {M : Type 1} → statement M
+open-spec =
+    tie.close
+    (tie.spec
+    start-requires
+    returns
+    start-requires-2
+    returns-2
+    cast-start
+    cast-start-2
+    start-requires-3
+    returns-3)

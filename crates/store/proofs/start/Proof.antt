@@ -1,0 +1,20 @@
+use borrow.Author.Needs.{needs}
+use Rattle.store.proofs.Judging.{start-store}
+use Rattle.store.proofs.start.Statement.{statement}
+use Rattle.store.proofs.start.Tie as tie
+use Rattle.store.proofs.start.Reads as reads
+use Rattle.store.proofs.start.Lts as lts
+use Rattle.rules.proofs.Held.nothing.Reads as nothing-reads
+use Rattle.stages.proofs.start.Reads as start-reads
+
+nothing-requires : tie.Need-nothing-requires
+nothing-requires c κs = search needs
+
+start-requires : tie.Need-start-requires
+start-requires c κs = search needs
+
+returns : tie.Need-returns
+returns c = let a = c .before .before .args in start-store (a .a) (a .m) _ _ (c .before .nothing .ensures) (c .start .ensures)
+
+pub start-spec : {M : Type 1} → statement M
+start-spec = tie.close (tie.spec nothing-requires start-requires returns)

@@ -1,0 +1,84 @@
+-- Opening, judging what is held, and adding, as document 01 has them. Assumes nothing.
+use mathlib.Core.Bool.{Bool, _||_, not}
+use mathlib.Core.List.{List, []}
+use mathlib.Core.Path.{_≡_}
+use Prim.Native.Nat.{_+_, ℕ}
+use lib.Dec.{eqb, leb, ltb}
+use Rattle.replies.specs.Replies.{numberOf}
+use Rattle.replies.specs.declared.Reply.{Reply}
+use Rattle.replies.specs.declared.Reply.the-variants.{Already, Counts, Done, Full, Label, Nogoods, Shape, Unsettled}
+use Rattle.rules.specs.Held.{heldOf, put, saidBy}
+use Rattle.rules.specs.Items.{faultOf, justificationOf, sameJustification}
+use Rattle.rules.specs.declared.Held.{Held}
+use Rattle.stages.specs.Lists.{listsOf}
+use Rattle.store.specs.Shape.{heldFits, rightShape, top}
+use Rattle.store.specs.declared.Outcome.{Outcome}
+use Rattle.store.specs.declared.Store.{Store}
+use Rattle.theory.specs.Judge.{Verdict, judge, labelOver, limits, nogoodsOver, settled, stageAt, unsettled}
+use Rattle.theory.specs.Lists.{choose, someOf}
+use Rattle.theory.specs.Stages.{Justification}
+
+abbrev pub answer : Reply → Store → Outcome
+answer r s = record { reply = r; store = s }
+
+-- ---- opening
+
+-- a store that holds nothing, with its stage-0 labels and depth 0
+unfoldable pub startStore : ℕ → ℕ → Store
+startStore A M = record { held = heldOf A M []; lists = listsOf 0 (stageAt A (A + M) [] 0) }
+
+-- stands where no store is returned, and means nothing
+abbrev pub noStore : Store
+noStore = startStore 0 0
+
+unfoldable pub openOf : ℕ → ℕ → Outcome
+openOf A M =
+    choose (ltb 32 A || ltb 96 M) (answer Counts noStore)
+    (answer Done (startStore A M))
+
+abbrev pub Opened : ℕ → ℕ → Outcome → Type 0
+Opened A M r = r ≡ openOf A M
+
+-- ---- judging
+
+-- the store of h at its depth; a refusal hands back s
+abbrev pub ofVerdict : Store → Held → Verdict → Outcome
+ofVerdict s h (settled d stage) = answer Done (record { held = h; lists = listsOf d stage })
+ofVerdict s h nogoodsOver = answer Nogoods s
+ofVerdict s h (labelOver n) = answer (Label n) s
+ofVerdict s h unsettled = answer Unsettled s
+
+-- the stages of J, with A assumptions and M claims, from 0 upward
+unfoldable pub storeOf : Store → ℕ → ℕ → List Justification → Outcome
+storeOf s A M J = ofVerdict s (heldOf A M J) (judge limits A (A + M) J)
+
+-- the store of what is held, judged anew
+unfoldable pub judgedOf : Held → Outcome
+judgedOf h =
+    choose (not (heldFits h)) (answer Shape noStore)
+    (storeOf noStore (h .assumptions) (h .claims) (saidBy h))
+
+abbrev pub JudgedAnew : Held → Outcome → Type 0
+JudgedAnew h r = r ≡ judgedOf h
+
+-- ---- adding
+
+abbrev pub isDone : Reply → Bool
+isDone r = eqb (numberOf r) 0
+
+-- j, without fault, to a store of right shape: held already; 256 held already; then the stages of the enlarged set
+unfoldable pub joinedBy : Store → Justification → Outcome
+joinedBy s j =
+    choose (someOf (sameJustification j) (saidBy (s .held))) (answer Already s)
+    (choose (leb 256 (s .held .count)) (answer Full s)
+    (storeOf s (s .held .assumptions) (s .held .claims) (put j (saidBy (s .held)))))
+
+-- the shape, the faults of the item, then the rest
+unfoldable pub addOf : Store → ℕ → List ℕ → Outcome
+addOf s c l =
+    choose (not (rightShape s)) (answer Shape s)
+    (choose (not (isDone (faultOf (top (s .held)) c l))) (answer (faultOf (top (s .held)) c l) s)
+    (joinedBy s (justificationOf (top (s .held)) c l)))
+
+abbrev pub Added : Store → ℕ → List ℕ → Outcome → Type 0
+Added s c l r = r ≡ addOf s c l
