@@ -1,5 +1,5 @@
 -- Each entry held has few supports, and each of them a label. Assumes nothing.
-use mathlib.Core.List.{List, List·Memᴰ as Mem, [], _∷_, List·Memᴰ·head as here, List·Memᴰ·tail as there}
+use mathlib.Core.List.{List, List·Memᴰ as Mem, List·Memᴰ·head as here, List·Memᴰ·tail as there, [], _∷_}
 use mathlib.Core.Path.{refl}
 use Prim.Native.Nat.{_+_, _<_, suc, zero, ℕ}
 use native.Mathlib.Nat.{le-of-suc-le-suc, not-suc-le-zero}

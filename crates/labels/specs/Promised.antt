@@ -25,6 +25,6 @@ FirstWithin l E r = r ≡ firstWithin l E
 unfoldable pub builtOf : ℕ → List ℕ → Built
 builtOf limit l = record { count = length l; sets = padded 0 32 (take limit l) }
 
--- r is the list of n at the next stage, from the labels as they lie, the old list and the sets struck; members after the first above the limit are not looked for
+-- r is the list of n at the next stage, from the labels as they lie, its old list and the sets struck; of members above the limit one is counted
 abbrev pub Build : Held → ℕ → List ℕ → List ℕ → List ℕ → List ℕ → ℕ → Built → Type 0
 Build h n members sizes old struck limit r = r ≡ builtOf limit (picks (limit + 1) struck [] (candidates (lying members sizes) old (saidBy h) n))

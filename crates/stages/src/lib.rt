@@ -6,9 +6,9 @@ ghost use mathlib.Core.Path.{_≡_};
 ghost use Prim.Native.Nat.{_+_, _<_, _≤_};
 ghost use lib.ListN.{length};
 ghost use Rattle.theory.specs.Judge.{limits, course, sameSets};
-ghost use Rattle.labels.specs.Promised.{builtOf};
 ghost use Rattle.stages.specs.Judged.{Judge, Judgeable, Start, judgedBy, refusal};
-ghost use Rattle.stages.specs.Steps.{Reached, fitted, sameLists, stageBy, withLabel};
+ghost use Rattle.stages.specs.Lists.{listsOf};
+ghost use Rattle.stages.specs.Steps.{Reached, firstLabels, fitted, sameLists, stageBy, withLabel};
 
 // The labels and nogoods of a stage: label n at its own twelve places 12 (n - 1) up, its size beside it; unused places zero.
 pub struct Lists {
@@ -88,7 +88,7 @@ impl Lists {
         let count = self.count;
         let nogoods = self.nogoods;
         let none = [0u32; 1];
-        let later = labels::build(
+        let built = labels::build(
             held,
             0,
             &self.members,
@@ -97,36 +97,39 @@ impl Lists {
             &none[..0],
             32,
         );
-        if 32 < later.count {
+        if 32 < built.count {
             return refused(Reply::Nogoods);
         }
-        self.relabelled(held, later)
+        let sets = built.sets;
+        let depth = self.depth + 1;
+        let later = Lists {
+            sizes: [0u8; 128],
+            members: [0u32; 1536],
+            count: built.count,
+            nogoods: sets,
+            depth,
+        };
+        self.labelled(held, later)
     }
 
-    // The labels of the next stage, struck by its nogoods.
-    fn relabelled(self, held: Held, nogoods: Built) -> Judged
-        requires { ⌜ Reached held self × (nogoods ≡ builtOf 32 (stageBy held (self .depth + 1) .nogoods)) × (nogoods .count ≤ 32) ⌝ }
+    // The lists of the next stage, its labels struck by its nogoods, or the refusal; of those handed in only the nogoods stand yet.
+    fn labelled(self, held: Held, mut later: Lists) -> Judged
+        requires { ⌜ Reached held self × (later ≡ listsOf (self .depth + 1) (firstLabels 0 (stageBy held (self .depth + 1)))) × (later .count ≤ 32) ⌝ }
         ensures { λ r. ⌜ r ≡ fitted (self .depth + 1) (stageBy held (self .depth + 1)) ⌝ }
     {
         let old = self.members;
-        let count = nogoods.count;
-        let struck = nogoods.sets;
-        let mut later = Lists {
-            sizes: [0u8; 128],
-            members: [0u32; 1536],
-            count,
-            nogoods: struck,
-            depth: self.depth + 1,
-        };
+        let count = later.count;
+        let struck = later.nogoods;
         let top = held.assumptions + held.claims;
         let mut i = 0u8;
         while i < top {
+            let n = i + 1;
             let at = i as usize;
             let from = 12 * at;
             let end = from + self.sizes[at] as usize;
             let label = labels::build(
                 held,
-                i + 1,
+                n,
                 &self.members,
                 &self.sizes,
                 &old[from..end],
@@ -134,7 +137,7 @@ impl Lists {
                 12,
             );
             if 12 < label.count {
-                return refused(Reply::Label(i + 1));
+                return refused(Reply::Label(n));
             }
             later = later.with(at, label);
             i += 1;

@@ -1,12 +1,12 @@
 -- `stages::judge` meets its contract. Assumes nothing.
-use Rattle.theory.specs.Judge.{judge, limits}
-use Rattle.rules.specs.Held.{saidBy}
-use Rattle.stages.specs.Steps.{Reached}
-use Rattle.stages.proofs.Walk.{fromStage, judge-from, judge-less, judge-next, judge-on, judge-reached, judge-refused, judge-settled, last-is}
 use mathlib.Core.Path.{_≡_}
 use Prim.Native.Nat.{_+_, _-_}
 use native.Mathlib.Omega.{arith}
 use borrow.Author.Needs.{needs}
+use Rattle.rules.specs.Held.{saidBy}
+use Rattle.stages.proofs.Walk.{fromStage, judge-from, judge-less, judge-next, judge-on, judge-reached, judge-refused, judge-settled, last-is}
+use Rattle.stages.specs.Steps.{Reached}
+use Rattle.theory.specs.Judge.{judge, limits}
 use Rattle.stages.proofs.judge.Statement.{statement}
 use Rattle.stages.proofs.judge.Tie as tie
 

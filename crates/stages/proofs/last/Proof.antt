@@ -1,6 +1,6 @@
 -- `stages::last` meets its contract. Assumes nothing.
-use Rattle.stages.proofs.Walk.{judge-settled, last-differs, last-from, last-refused}
 use borrow.Author.Needs.{needs}
+use Rattle.stages.proofs.Walk.{judge-settled, last-differs, last-from, last-refused}
 use Rattle.stages.proofs.last.Statement.{statement}
 use Rattle.stages.proofs.last.Tie as tie
 

@@ -1,12 +1,12 @@
 -- `stages::Lists::next` meets its contract. Assumes nothing.
-use Rattle.stages.specs.Steps.{stageBy}
-use Rattle.stages.proofs.Stages.{layout, nogoods-few, nogoods-long}
-use Rattle.stages.proofs.Nexts.{built-over, built-whole, next-over, nogoods-built}
 use mathlib.Core.Path.{sym}
 use Prim.Native.Nat.{_+_}
 use native.Mathlib.Omega.{arith}
-use borrow.Author.Needs.{needs}
 use lib.Seq.{length-take-le}
+use borrow.Author.Needs.{needs}
+use Rattle.stages.proofs.Nexts.{built-over, labels-none, next-over, nogoods-built}
+use Rattle.stages.proofs.Stages.{layout, nogoods-few, nogoods-long}
+use Rattle.stages.specs.Steps.{stageBy}
 use Rattle.stages.proofs.Lists.next.Statement.{statement}
 use Rattle.stages.proofs.Lists.next.Tie as tie
 
@@ -18,8 +18,7 @@ array-share-prefix-nogoods c =
 slice-aggregate-build : tie.Need-slice-aggregate-build
 slice-aggregate-build c =
     let p = c .before .before .before .before .before .before .before .pre in
-    let l = c .before .before .before .before .before .before .before .args .t1 in
-    sym (length-take-le (l .count) (l .nogoods) (omega (arith, nogoods-few _ _ (p .room) _ (p .is), nogoods-long _ _ (p .room) _ (p .is))))
+    sym (length-take-le _ _ (omega (arith, nogoods-few _ _ (p .room) _ (p .is), nogoods-long _ _ (p .room) _ (p .is))))
 
 array-share-prefix-none : tie.Need-array-share-prefix-none
 array-share-prefix-none c = search needs
@@ -41,11 +40,14 @@ returns c =
     let m = nogoods-built (a .held) (a .t1) (c .before .before .before .before .before .before .before .before .before .before .before .before .pre) _ (c .before .before .before .build .ensures) in
     next-over _ _ (built-over 32 (stageBy (a .held) (a .t1 .depth + 1) .nogoods) _ m (c .before .if1 .taken)) _ (c .refused .ensures)
 
-relabelled-requires : tie.Need-relabelled-requires
-relabelled-requires c κs =
-    let a = c .before .before .before .before .before .before .before .before .before .before .before .args in
-    let m = nogoods-built (a .held) (a .t1) (c .before .before .before .before .before .before .before .before .before .before .before .pre) _ (c .before .before .build .ensures) in
-    (c .before .before .before .before .before .before .before .before .before .before .before .pre, built-whole _ _ m (c .if1 .left), c .if1 .left)
+add-depth : tie.Need-add-depth
+add-depth c = search needs
+
+labelled-requires : tie.Need-labelled-requires
+labelled-requires c κs =
+    let a = c .before .before .before .before .before .before .before .before .before .before .before .before .args in
+    let m = nogoods-built (a .held) (a .t1) (c .before .before .before .before .before .before .before .before .before .before .before .before .pre) _ (c .before .before .before .build .ensures) in
+    (c .before .before .before .before .before .before .before .before .before .before .before .before .pre, labels-none _ (stageBy (a .held) (a .t1 .depth + 1)) _ m (c .before .if1 .left), c .before .if1 .left)
 
 returns-2 : tie.Need-returns-2
 returns-2 c = search needs
@@ -61,5 +63,6 @@ next-spec =
     build-requires
     refused-requires
     returns
-    relabelled-requires
+    add-depth
+    labelled-requires
     returns-2)

@@ -1,35 +1,35 @@
--- `stages::Lists::relabelled` meets its contract. Assumes nothing.
+-- `stages::Lists::labelled` meets its contract. Assumes nothing.
+use mathlib.Core.List.{[]}
+use mathlib.Core.Path.{_≡_, sym}
+use Prim.Native.Nat.{_+_, _-_, _<_, _≤_, ℕ}
 use native.Mathlib.Nat.{not-suc-le-zero}
+use native.Mathlib.Omega.{arith}
+use lib.ListN.{getD, length}
+use lib.Seq.{length-take-le}
+use borrow.Author.Needs.{needs}
 use Rattle.rules.specs.Held.{saidBy}
-use Rattle.theory.proofs.Judgement.{stage-length}
+use Rattle.stages.proofs.Nexts.{built-over, label-built, label-on, next-beyond, next-fits, short-on, struck-few, struck-is, struck-long}
+use Rattle.stages.proofs.Stages.{layout, nogoods-few, nogoods-long, part-lies}
 use Rattle.stages.specs.Lists.{listsOf}
 use Rattle.stages.specs.Steps.{firstLabels, stageBy}
-use Rattle.stages.proofs.Stages.{layout, part-lies}
-use Rattle.stages.proofs.Nexts.{built-over, label-built, label-on, labels-none, next-beyond, next-fits, short-on, whole-few, whole-long, whole-taken}
-use mathlib.Core.Path.{_≡_, sym}
-use mathlib.Core.List.{[]}
-use Prim.Native.Nat.{ℕ, _+_, _-_, _≤_, _<_}
-use native.Mathlib.Omega.{arith}
-use borrow.Author.Needs.{needs}
-use lib.ListN.{length, getD}
-use lib.Seq.{length-take-le}
-use Rattle.stages.proofs.Lists.relabelled.Statement.{statement}
-use Rattle.stages.proofs.Lists.relabelled.Tie as tie
+use Rattle.theory.proofs.Judgement.{stage-length}
+use Rattle.stages.proofs.Lists.labelled.Statement.{statement}
+use Rattle.stages.proofs.Lists.labelled.Tie as tie
 
 abbrev Inv-loop : tie.InvT-loop
-Inv-loop held self old count struck later₀ top i₀ later i = (i ≤ top) × (later ≡ listsOf (self .depth + 1) (firstLabels i (stageBy held (self .depth + 1)))) × ((j : ℕ) → j < i → length (getD (stageBy held (self .depth + 1) .labels) j []) ≤ 12)
+Inv-loop held later₀ self old count struck top i₀ later i = (i ≤ top) × (later ≡ listsOf (self .depth + 1) (firstLabels i (stageBy held (self .depth + 1)))) × ((j : ℕ) → j < i → length (getD (stageBy held (self .depth + 1) .labels) j []) ≤ 12)
 
 abbrev μ-loop : tie.MeasureT-loop
-μ-loop held self old count struck later₀ top i₀ later i = top - i
-
-add-t19 : tie.Need-add-t19 Inv-loop μ-loop
-add-t19 c = omega (arith, c .before .before .pre .0 .low)
+μ-loop held later₀ self old count struck top i₀ later i = top - i
 
 add-top : tie.Need-add-top Inv-loop μ-loop
 add-top c = omega (arith, c .before .before .before .pre .0 .joinable .wide)
 
 loop-holds : tie.Need-loop-holds Inv-loop μ-loop
-loop-holds c = (omega arith, labels-none _ (stageBy (c .before .before .before .args .held) (c .before .before .before .args .t1 .depth + 1)) _ (c .before .before .before .pre .1) (c .before .before .before .pre .2), λ j h. absurd (not-suc-le-zero h))
+loop-holds c = (omega arith, c .before .before .before .pre .1, λ j h. absurd (not-suc-le-zero h))
+
+add-n : tie.Need-add-n Inv-loop μ-loop
+add-n c = omega (arith, c .before .before .before .before .before .pre .0 .joinable .wide)
 
 cast-at : tie.Need-cast-at Inv-loop μ-loop
 cast-at c = search needs
@@ -50,9 +50,6 @@ add-end c =
     let p = c .before .before .before .before .before .before .pre in
     omega (arith, layout _ _ (p .0 .room) _ (p .0 .is) .sizes-small (c .before .before .loop .i), p .0 .joinable .wide)
 
-add-build : tie.Need-add-build Inv-loop μ-loop
-add-build c = omega (arith, c .before .before .before .before .before .before .pre .0 .joinable .wide)
-
 mul-build : tie.Need-mul-build Inv-loop μ-loop
 mul-build c = search needs
 
@@ -71,21 +68,21 @@ part-build-end c =
 array-share-prefix-struck : tie.Need-array-share-prefix-struck Inv-loop μ-loop
 array-share-prefix-struck c =
     let p = c .before .before .before .before .before .before .before .before .before .before .before .before .before .pre in
-    omega (arith, whole-long _ _ (p .1) (p .2), p .2)
+    let a = c .before .before .before .before .before .before .before .before .before .before .before .before .before .args in
+    let o = p .0 in
+    omega (arith, p .2, struck-long _ (stageBy (a .held) (a .t1 .depth + 1)) _ (p .1) (p .2), nogoods-few _ _ (o .room) _ (o .is), nogoods-long _ _ (o .room) _ (o .is))
 
 slice-aggregate-build : tie.Need-slice-aggregate-build Inv-loop μ-loop
 slice-aggregate-build c =
     let p = c .before .before .before .before .before .before .before .before .before .before .before .before .before .before .pre in
-    let b = c .before .before .before .before .before .before .before .before .before .before .before .before .before .before .args .nogoods in
-    sym (length-take-le (b .count) (b .sets) (omega (arith, whole-long _ _ (p .1) (p .2), p .2)))
+    let a = c .before .before .before .before .before .before .before .before .before .before .before .before .before .before .args in
+    let o = p .0 in
+    sym (length-take-le _ _ (omega (arith, p .2, struck-long _ (stageBy (a .held) (a .t1 .depth + 1)) _ (p .1) (p .2), nogoods-few _ _ (o .room) _ (o .is), nogoods-long _ _ (o .room) _ (o .is))))
 
 build-requires : tie.Need-build-requires Inv-loop μ-loop
 build-requires c κs =
     let p = c .before .before .before .before .before .before .before .before .before .before .before .before .before .before .pre in
     (layout _ _ (p .0 .room) _ (p .0 .is), p .0 .joinable, omega arith)
-
-add-t36 : tie.Need-add-t36 Inv-loop μ-loop
-add-t36 c = search needs
 
 refused-requires : tie.Need-refused-requires Inv-loop μ-loop
 refused-requires c κs = search needs
@@ -95,10 +92,11 @@ returns c =
     let p = c .before .before .before .before .before .before .before .before .before .before .before .before .before .before .before .before .before .before .pre in
     let a = c .before .before .before .before .before .before .before .before .before .before .before .before .before .before .before .before .before .before .args in
     let l = c .before .before .before .before .before .before .before .before .before .before .before .before .before .before .loop in
+    let s = stageBy (a .held) (a .t1 .depth + 1) in
     let h : l .i < a .held .assumptions + a .held .claims = omega arith in
     let n = stage-length (a .held .assumptions) (a .held .assumptions + a .held .claims) (saidBy (a .held)) (a .t1 .depth + 1) in
-    let m = label-built (a .held) (a .t1) (p .0) _ (whole-taken _ _ (p .1) (p .2)) (l .i) h _ (part-lies (a .t1 .members) (a .t1 .sizes) (l .i)) _ (c .before .before .before .build .ensures) in
-    next-beyond _ _ (whole-few _ _ (p .1) (p .2)) (l .i) (l .inv .2) (omega arith) (built-over 12 (getD (stageBy (a .held) (a .t1 .depth + 1) .labels) (l .i) []) _ m (c .before .if1 .taken)) _ (c .refused .ensures)
+    let m = label-built (a .held) (a .t1) (p .0) _ (struck-is _ s _ (p .1) (p .2)) (l .i) h _ (part-lies (a .t1 .members) (a .t1 .sizes) (l .i)) _ (c .before .before .before .build .ensures) in
+    next-beyond _ _ (struck-few _ s _ (p .1) (p .2)) (l .i) (l .inv .2) (omega arith) (built-over 12 (getD (s .labels) (l .i) []) _ m (c .before .if1 .taken)) _ (c .refused .ensures)
 
 with-requires : tie.Need-with-requires Inv-loop μ-loop
 with-requires c κs = (omega (arith, c .before .before .before .before .before .before .before .before .before .before .before .before .before .before .before .before .before .pre .0 .joinable .wide), c .if1 .left)
@@ -114,9 +112,9 @@ loop-again c =
     let p = c .before .before .before .before .before .before .before .before .before .before .before .before .before .before .before .before .before .before .pre in
     let a = c .before .before .before .before .before .before .before .before .before .before .before .before .before .before .before .before .before .before .args in
     let l = c .before .before .before .before .before .before .before .before .before .before .before .before .before .before .loop in
-    let h : l .i < a .held .assumptions + a .held .claims = omega arith in
-    let m = label-built (a .held) (a .t1) (p .0) _ (whole-taken _ _ (p .1) (p .2)) (l .i) h _ (part-lies (a .t1 .members) (a .t1 .sizes) (l .i)) _ (c .before .before .before .build .ensures) in
     let s = stageBy (a .held) (a .t1 .depth + 1) in
+    let h : l .i < a .held .assumptions + a .held .claims = omega arith in
+    let m = label-built (a .held) (a .t1) (p .0) _ (struck-is _ s _ (p .1) (p .2)) (l .i) h _ (part-lies (a .t1 .members) (a .t1 .sizes) (l .i)) _ (c .before .before .before .build .ensures) in
     (omega arith, label-on s (l .i) _ m (c .before .if1 .left) _ (omega (arith, p .0 .joinable .wide)) _ (l .inv .1) _ (c .with .ensures), short-on s (l .i) _ m (c .before .if1 .left) (l .inv .2))
 
 returns-2 : tie.Need-returns-2 Inv-loop μ-loop
@@ -124,24 +122,24 @@ returns-2 c =
     let p = c .before .before .before .before .before .pre in
     let a = c .before .before .before .before .before .args in
     let l = c .before .loop in
+    let s = stageBy (a .held) (a .t1 .depth + 1) in
     let n = stage-length (a .held .assumptions) (a .held .assumptions + a .held .claims) (saidBy (a .held)) (a .t1 .depth + 1) in
-    next-fits _ _ (whole-few _ _ (p .1) (p .2)) (l .i) (l .inv .2) (omega arith) _ (l .inv .1)
+    next-fits _ _ (struck-few _ s _ (p .1) (p .2)) (l .i) (l .inv .2) (omega arith) _ (l .inv .1)
 
-pub relabelled-spec : {M : Type 1} → statement M
-relabelled-spec =
+pub labelled-spec : {M : Type 1} → statement M
+labelled-spec =
     tie.close
     (tie.spec
     Inv-loop
     μ-loop
-    add-t19
     add-top
     loop-holds
+    add-n
     cast-at
     mul-from
     element-copy-out-end
     cast-end
     add-end
-    add-build
     mul-build
     sub-build
     part-build-start
@@ -149,7 +147,6 @@ relabelled-spec =
     array-share-prefix-struck
     slice-aggregate-build
     build-requires
-    add-t36
     refused-requires
     returns
     with-requires
