@@ -1,0 +1,4 @@
+pub mod Bounds
+pub mod Fits
+pub mod Longest
+pub mod Rows

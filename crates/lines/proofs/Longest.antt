@@ -1,0 +1,96 @@
+-- How long a line can be, and that no call refuses lent bytes as long as the longest. Assumes nothing.
+use mathlib.Core.Bool.{true}
+use mathlib.Core.List.{List, [], _∷_}
+use mathlib.Core.Path.{_≡_, refl}
+use Prim.Native.Nat.{_*_, _<_, _^_, _≤_, suc, zero, ℕ}
+use native.Mathlib.Omega.{arith}
+use lib.Dec.{lit<}
+use lib.ListN.{drop, getD, length, length-take}
+use borrow.Author.Tests.{le-ltb}
+use Rattle.lines.proofs.Bounds.{bounded}
+use Rattle.lines.specs.Lines.{caseOf, caseText, fitted, lineOf, lineText, longest, refusalText, wordOf}
+use Rattle.lines.specs.declared.Written.the-variants.{Length}
+use Rattle.replies.specs.Replies.{numberOf}
+use Rattle.replies.specs.declared.Reply.{Reply}
+use Rattle.replies.specs.declared.Reply.the-variants.{After, Already, Counts, Done, Ends, Falsity, Form, Full, Label, Long, Nogoods, Number, Place, Shape, Short, Supports, Unsettled}
+use Rattle.store.specs.Reading.{listHeld}
+use Rattle.store.specs.Shape.{rightShape, top}
+use Rattle.store.specs.declared.Store.{Store}
+use Rattle.text.proofs.Digits.{digits-most}
+use Rattle.text.proofs.Lengths.{heading-length, refusal-length, row-length}
+use Rattle.text.specs.Texts.{word}
+
+-- ---- how long a line can be
+
+word-length : (n : ℕ) (l : List ℕ) → length (wordOf n l) ≤ 12
+unfolding wordOf word
+word-length zero l = omega arith
+word-length (suc i) [] = omega arith
+word-length (suc i) (E ∷ l) = omega arith
+
+nogood-length : (l : List ℕ) → length (wordOf 0 l) ≡ 7
+unfolding wordOf word
+nogood-length l = refl
+
+-- `0 nogood` and 32 sets, or a number of three digits, a word and 12 sets
+pub line-length : (s : Store) (n : ℕ) → rightShape s ≡ true → length (s .lists .nogoods) ≤ 32 → n ≤ 128 → length (lineText (s .lists) n) ≤ longest
+unfolding lineText
+line-length s zero t e h =
+    let l : List ℕ = listHeld (s .lists) 0 in
+    let b = bounded s t in
+    omega (arith, row-length 0 (wordOf 0 l) l, digits-most 0 0 (lit< tt), nogood-length l, length-take (s .lists .count) (s .lists .nogoods))
+line-length s (suc i) t e h =
+    let l : List ℕ = listHeld (s .lists) (suc i) in
+    let k : suc i < 1000 = omega arith in
+    omega (arith, row-length (suc i) (wordOf (suc i) l) l, digits-most 2 (suc i) k, word-length (suc i) l, bounded s t .sizes i h, length-take (getD (s .lists .sizes) i 0) (drop (12 * i) (s .lists .members)))
+
+pub case-length : (s : Store) → rightShape s ≡ true → length (caseText s) ≤ 19
+unfolding caseText
+case-length s t =
+    let b = bounded s t in
+    heading-length (s .held .assumptions) (s .held .claims) (s .held .count) (s .lists .depth) (omega arith) (omega arith) (omega arith) (omega arith)
+
+pub few-replies : (r : Reply) → numberOf r < 100
+few-replies Done = lit< tt
+few-replies Already = lit< tt
+few-replies Shape = lit< tt
+few-replies Counts = lit< tt
+few-replies Number = lit< tt
+few-replies Falsity = lit< tt
+few-replies Supports = lit< tt
+few-replies Full = lit< tt
+few-replies (Label n) = lit< tt
+few-replies Nogoods = lit< tt
+few-replies Unsettled = lit< tt
+few-replies Ends = lit< tt
+few-replies Form = lit< tt
+few-replies After = lit< tt
+few-replies Long = lit< tt
+few-replies Short = lit< tt
+few-replies Place = lit< tt
+
+pub refused-length : (r : Reply) (k : ℕ) → k < 2 ^ 32 → length (refusalText r k) ≤ 22
+unfolding refusalText
+refused-length r k h = refusal-length (numberOf r) k (few-replies r) h
+
+-- ---- where the lent bytes are as long as the longest line, nothing is refused with 15
+
+fits : (t out : List ℕ) → length t ≤ length out → fitted t out .answer ≡ Length (length t)
+unfolding fitted
+fits t out h = rw (le-ltb (length out) (length t) h)
+
+module _ (s : Store) (right : rightShape s ≡ true) (out : List ℕ) (room : longest ≤ length out) where
+  pub line-fits : length (s .lists .nogoods) ≤ 32 → (n : ℕ) → n ≤ top (s .held) → lineOf s n out .answer ≡ Length (length (lineText (s .lists) n))
+  unfolding lineOf
+  line-fits e n h =
+      let b = bounded s right in
+      let l : n ≤ 128 = omega arith in
+      let k : length (lineText (s .lists) n) ≤ longest = line-length s n right e l in
+      rw (right, le-ltb (top (s .held)) n h) (fits (lineText (s .lists) n) out (omega arith))
+
+  pub case-fits : caseOf s out .answer ≡ Length (length (caseText s))
+  unfolding caseOf
+  case-fits = rw right (fits (caseText s) out (omega (arith, case-length s right)))
+
+pub refusal-fits : (r : Reply) (k : ℕ) (out : List ℕ) → k < 2 ^ 32 → longest ≤ length out → fitted (refusalText r k) out .answer ≡ Length (length (refusalText r k))
+refusal-fits r k out h room = fits (refusalText r k) out (omega (arith, refused-length r k h))

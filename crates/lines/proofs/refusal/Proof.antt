@@ -1,0 +1,64 @@
+-- `lines::refusal` meets its contract. Assumes nothing.
+use mathlib.Core.Path.{_∙_, _≡_, ap, sym}
+use Prim.Native.Nat.{_<_, _^_, _≤_, ℕ}
+use native.Mathlib.Omega.{arith}
+use lib.ListN.{length}
+use lib.Seq.{length-take-le}
+use Rattle.lines.proofs.Longest.{few-replies}
+use Rattle.lines.proofs.Fits.{refusal-rest}
+use Rattle.lines.specs.Lines.{refusalText}
+use Rattle.text.proofs.Lengths.{refusal-length}
+use Rattle.text.proofs.Writing.{blank-room, front-room, front-taken}
+use Rattle.text.specs.Texts.{refusal as textOf}
+use borrow.Author.Needs.{needs}
+use Rattle.lines.proofs.refusal.Statement.{statement}
+use Rattle.lines.proofs.refusal.Tie as tie
+
+-- the text with the number that the call gave
+same : (c : tie.After-number) → let s = c .before .before in textOf (c .number .result) (s .args .«record») ≡ refusalText (s .args .reply) (s .args .«record»)
+unfolding refusalText
+same c = ap (λ (r : ℕ). textOf r (c .before .before .args .«record»)) (c .number .ensures)
+
+refusing : (c : tie.After-number) (k : ℕ) → k < 2 ^ 32 → length (textOf (c .number .result) k) ≤ 22
+refusing c k h = refusal-length (c .number .result) k (omega (arith, c .number .ensures, few-replies (c .before .before .args .reply))) h
+
+number-requires : tie.Need-number-requires
+number-requires c κs = search needs
+
+cast-number : tie.Need-cast-number
+cast-number c = search needs
+
+slice-aggregate-refused : tie.Need-slice-aggregate-refused
+slice-aggregate-refused c = search needs
+
+refused-requires : tie.Need-refused-requires
+refused-requires c κs = let s = c .before .before .before in blank-room 22 (textOf (c .before .number .result) (s .args .«record»)) (refusing (c .before) _ (s .fits .«record» .fits))
+
+array-share-prefix-text : tie.Need-array-share-prefix-text
+array-share-prefix-text c = front-room (c .before .refused .ensures)
+
+slice-aggregate-fit : tie.Need-slice-aggregate-fit
+slice-aggregate-fit c = sym (length-take-le _ _ (front-room (c .before .before .refused .ensures)))
+
+fit-requires : tie.Need-fit-requires
+fit-requires c κs = search needs
+
+same-length : tie.Need-same-length
+same-length c = search needs
+
+returns : tie.Need-returns
+returns c = let s = c .before .before .before .before .before .before .before .before .before .before in refusal-rest (s .args .reply) (s .args .«record») _ (front-taken (c .before .before .before .before .before .before .refused .ensures) ∙ same (c .before .before .before .before .before .before .before .before)) (c .before .before .fit .ensures)
+
+pub refusal-spec : {M : Type 1} → statement M
+refusal-spec =
+    tie.close
+    (tie.spec
+    number-requires
+    cast-number
+    slice-aggregate-refused
+    refused-requires
+    array-share-prefix-text
+    slice-aggregate-fit
+    fit-requires
+    same-length
+    returns)

@@ -1,0 +1,104 @@
+-- The lines of the listing, as document 01 has them, and the calls that write them into lent bytes. Assumes nothing.
+use mathlib.Core.Bool.{not}
+use mathlib.Core.List.{List, [], _++_, _∷_}
+use mathlib.Core.Option.{Option, none, some}
+use mathlib.Core.Path.{_≡_}
+use Prim.Native.Nat.{_*_, _+_, suc, zero, ℕ}
+use lib.Dec.{ltb}
+use lib.ListN.{drop, length}
+use Rattle.lines.specs.declared.Listed.{Listed}
+use Rattle.lines.specs.declared.Written.{Written}
+use Rattle.lines.specs.declared.Written.the-variants.{Length, Refused}
+use Rattle.replies.specs.Replies.{numberOf}
+use Rattle.replies.specs.declared.Reply.{Reply}
+use Rattle.replies.specs.declared.Reply.the-variants.{Number, Shape, Short}
+use Rattle.stages.specs.declared.Lists.{Lists}
+use Rattle.store.specs.Reading.{listHeld}
+use Rattle.store.specs.Shape.{rightShape, top}
+use Rattle.store.specs.declared.Store.{Store}
+use Rattle.text.specs.Texts.{heading, refusal, row, word}
+use Rattle.theory.specs.Lists.{choose}
+
+-- ---- the lines
+
+-- the word of n, whose list is l: `nogood` for 0; for the others `supported`, or `unsupported` where the label is empty
+unfoldable pub wordOf : ℕ → List ℕ → List ℕ
+wordOf zero l = word " nogood"
+wordOf (suc i) [] = word " unsupported"
+wordOf (suc i) (E ∷ l) = word " supported"
+
+-- the number, its word and the members of its list
+unfoldable pub lineText : Lists → ℕ → List ℕ
+lineText t n = row 32 n (wordOf n (listHeld t n)) (listHeld t n)
+
+-- line one: `case`, A, M, distinct justifications held, depth
+unfoldable pub caseText : Store → List ℕ
+caseText s = heading (s .held .assumptions) (s .held .claims) (s .held .count) (s .lists .depth)
+
+-- `refused`, the reply's number, and the record being read
+unfoldable pub refusalText : Reply → ℕ → List ℕ
+refusalText r k = refusal (numberOf r) k
+
+-- no line of a store of right shape is longer: `0 nogood`, 32 sets of 88 bytes after a space, a newline
+abbrev pub longest : ℕ
+longest = 8 + 32 * 89 + 1
+
+-- ---- the calls
+
+-- what a call that writes leaves: its answer and the lent bytes
+pub record Wrote : Type 0 where
+  pub answer : Written
+  pub bytes : List ℕ
+
+-- a refusal reports no length and keeps every byte
+abbrev pub kept : Reply → List ℕ → Wrote
+kept r out = record { answer = Refused r; bytes = out }
+
+-- 15 where the lent bytes are shorter than the text; else the text and its length, bytes after it kept
+unfoldable pub fitted : List ℕ → List ℕ → Wrote
+fitted t out =
+    choose (ltb (length out) (length t)) (kept Short out)
+    (record { answer = Length (length t); bytes = t ++ drop (length t) out })
+
+-- the text line of n: refusals 2, 4, 15 in this order
+unfoldable pub lineOf : Store → ℕ → List ℕ → Wrote
+lineOf s n out =
+    choose (not (rightShape s)) (kept Shape out)
+    (choose (ltb (top (s .held)) n) (kept Number out)
+    (fitted (lineText (s .lists) n) out))
+
+-- the first line: refusals 2, 15
+unfoldable pub caseOf : Store → List ℕ → Wrote
+caseOf s out =
+    choose (not (rightShape s)) (kept Shape out)
+    (fitted (caseText s) out)
+
+-- the answer r and the lent bytes after the call are those of w
+abbrev pub Leaves : Wrote → Written → List ℕ → Type 0
+Leaves w r after = record { answer = r; bytes = after } ≡ w
+
+-- .. and the store in the answer is the one that came in
+abbrev pub Hands : Store → Wrote → Listed → List ℕ → Type 0
+Hands s w r after = (r ≡ record { answer = w .answer; store = s }) × (after ≡ w .bytes)
+
+-- what the call of the line of n promises
+abbrev pub Lined : Store → ℕ → List ℕ → Listed → List ℕ → Type 0
+Lined s n out r after = Hands s (lineOf s n out) r after
+
+-- what the call of the first line promises
+abbrev pub CaseLined : Store → List ℕ → Listed → List ℕ → Type 0
+CaseLined s out r after = Hands s (caseOf s out) r after
+
+-- what the call of a refusal's line promises: 15 alone can be refused
+abbrev pub RefusalLined : Reply → ℕ → List ℕ → Written → List ℕ → Type 0
+RefusalLined reply k out r after = Leaves (fitted (refusalText reply k) out) r after
+
+-- the document's number of each answer
+abbrev pub writtenNumber : Written → ℕ
+writtenNumber (Length n) = 0
+writtenNumber (Refused r) = numberOf r
+
+-- the length that it reports; a refusal reports none
+abbrev pub writtenLength : Written → Option ℕ
+writtenLength (Length n) = some n
+writtenLength (Refused r) = none

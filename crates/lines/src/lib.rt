@@ -1,0 +1,127 @@
+// The lines of the listing, into lent bytes.
+use replies::Reply;
+use sets::Set;
+use store::Store;
+ghost use mathlib.Core.Bool.{true};
+ghost use mathlib.Core.Path.{_≡_};
+ghost use Prim.Native.Nat.{_≤_};
+ghost use Rattle.store.specs.Shape.{rightShape};
+ghost use Rattle.text.specs.Texts.{row};
+ghost use Rattle.text.specs.Writing.{Put, Room};
+ghost use Rattle.lines.specs.Lines.{CaseLined, Leaves, Lined, RefusalLined, fitted, lineText, wordOf};
+
+// No line of a store of right shape is longer, and no line of a refusal.
+pub const LONGEST: usize = 2857;
+
+// The length of a line, or why there is none.
+pub enum Written {
+    Length(usize),
+    Refused(Reply),
+}
+
+// The answer, and the store that came in.
+pub struct Listed {
+    pub answer: Written,
+    pub store: Store,
+}
+
+// The text into the lent bytes, where they are long enough.
+fn fit(text: &[u8], out: &mut [u8]) -> Written
+    ensures { λ r. ⌜ Leaves (fitted (now (text .entry)) (now (out .entry))) r (now (out .exit)) ⌝ }
+{
+    let length = text.len();
+    if out.len() < length {
+        return Written::Refused(Reply::Short);
+    }
+    text::copy(text, 0, out);
+    Written::Length(length)
+}
+
+// The text of the line of n with its list.
+fn worded(n: u32, list: &[Set], out: &mut [u8]) -> usize
+    requires { ⌜ Room (row 32 n (wordOf n (now list)) (now list)) 0 (now out) ⌝ }
+    ensures { λ r. ⌜ Put (row 32 n (wordOf n (now (list .entry))) (now (list .entry))) 0 (now (out .entry)) (now (out .exit)) r ⌝ }
+{
+    if n == 0 {
+        return text::line(n, b" nogood", list, out);
+    }
+    if list.len() == 0 {
+        return text::line(n, b" unsupported", list, out);
+    }
+    text::line(n, b" supported", list, out)
+}
+
+// The text of the line of n.
+fn lined(store: Store, n: u32, out: &mut [u8]) -> usize
+    requires { ⌜ (rightShape store ≡ true) × (n ≤ 128) × Room (lineText (store .lists) n) 0 (now out) ⌝ }
+    ensures { λ r. ⌜ Put (lineText (store .lists) n) 0 (now (out .entry)) (now (out .exit)) r ⌝ }
+{
+    let lists = store.lists;
+    if n == 0 {
+        let count = lists.count;
+        let nogoods = lists.nogoods;
+        return worded(n, &nogoods[..count], out);
+    }
+    let i = (n - 1) as usize;
+    let from = 12 * i;
+    let to = from + lists.sizes[i] as usize;
+    let members = lists.members;
+    worded(n, &members[from..to], out)
+}
+
+// The line of n as the listing has it, its newline included.
+pub fn line(store: Store, n: u32, out: &mut [u8]) -> Listed
+    ensures { λ r. ⌜ Lined store n (now (out .entry)) r (now (out .exit)) ⌝ }
+{
+    if !store.shape() {
+        return Listed {
+            answer: Written::Refused(Reply::Shape),
+            store,
+        };
+    }
+    let held = store.held;
+    if ((held.assumptions + held.claims) as u32) < n {
+        return Listed {
+            answer: Written::Refused(Reply::Number),
+            store,
+        };
+    }
+    let mut text = [0u8; LONGEST];
+    let end = lined(store, n, &mut text);
+    let answer = fit(&text[..end], out);
+    Listed { answer, store }
+}
+
+// The first line of the listing.
+pub fn case_line(store: Store, out: &mut [u8]) -> Listed
+    ensures { λ r. ⌜ CaseLined store (now (out .entry)) r (now (out .exit)) ⌝ }
+{
+    if !store.shape() {
+        return Listed {
+            answer: Written::Refused(Reply::Shape),
+            store,
+        };
+    }
+    let held = store.held;
+    let lists = store.lists;
+    let mut text = [0u8; 19];
+    let end = text::head(
+        held.assumptions as u32,
+        held.claims as u32,
+        held.count as u32,
+        lists.depth as u32,
+        &mut text,
+    );
+    let answer = fit(&text[..end], out);
+    Listed { answer, store }
+}
+
+// The line of a refusal and of the record being read.
+pub fn refusal(reply: Reply, record: u32, out: &mut [u8]) -> Written
+    ensures { λ r. ⌜ RefusalLined reply «record» (now (out .entry)) r (now (out .exit)) ⌝ }
+{
+    let number = replies::number(reply) as u32;
+    let mut text = [0u8; 22];
+    let end = text::refused(number, record, &mut text);
+    fit(&text[..end], out)
+}
