@@ -1,0 +1,5 @@
+pub mod Gathering
+pub mod Midway
+pub mod Whole
+pub mod Cases
+pub mod Loading

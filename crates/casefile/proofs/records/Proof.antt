@@ -1,0 +1,81 @@
+-- `records` meets its contract. The loop: what the file says is what its rest says after what is held. Assumes nothing.
+use mathlib.Core.Path.{sym, _∙_}
+use Prim.Native.Nat.{_-_}
+use native.Mathlib.Omega.{arith}
+use borrow.Author.Needs.{needs}
+use Rattle.casefile.proofs.Midway.{Midway, midway-none, midway-bad, midway-room, midway-more, midway-after, midway-all}
+use Rattle.casefile.proofs.records.Statement.{statement}
+use Rattle.casefile.proofs.records.Tie as tie
+
+abbrev Inv-loop : tie.InvT-loop
+Inv-loop bytes from assumptions claims count top held₀ at₀ r₀ held at r = Midway bytes from assumptions claims count held at r
+
+abbrev μ-loop : tie.MeasureT-loop
+μ-loop bytes from assumptions claims count top held₀ at₀ r₀ held at r = count - r
+
+add-top : tie.Need-add-top Inv-loop μ-loop
+add-top c = omega (arith, c .before .pre .1)
+
+nothing-requires : tie.Need-nothing-requires Inv-loop μ-loop
+nothing-requires c κs = search needs
+
+loop-holds : tie.Need-loop-holds Inv-loop μ-loop
+loop-holds c = midway-none _ _ _ _ _ _ (c .nothing .ensures) (c .before .before .pre .0)
+
+record-requires : tie.Need-record-requires Inv-loop μ-loop
+record-requires c κs = c .before .before .before .before .pre .1
+
+number-requires : tie.Need-number-requires Inv-loop μ-loop
+number-requires c κs = search needs
+
+add-refused : tie.Need-add-refused Inv-loop μ-loop
+add-refused c = omega (arith, c .before .before .before .before .before .before .before .pre .2, c .before .before .before .loop-test .taken)
+
+refused-requires : tie.Need-refused-requires Inv-loop μ-loop
+refused-requires c κs = search needs
+
+returns : tie.Need-returns Inv-loop μ-loop
+returns c = c .refused .ensures ∙ midway-bad _ _ _ _ _ _ _ _ (c .before .before .before .before .before .loop .inv) (c .before .before .before .before .loop-test .taken) _ (c .before .before .before .«record» .ensures) (λ e. c .before .if1 .taken (c .before .before .number .ensures ∙ e))
+
+with-requires : tie.Need-with-requires Inv-loop μ-loop
+with-requires c κs = midway-room _ _ _ _ _ _ _ _ (c .before .before .before .before .before .loop .inv) (c .before .before .before .before .loop-test .taken) _ (c .before .before .before .«record» .ensures) (sym (c .before .before .number .ensures) ∙ c .before .if1 .left) (c .before .before .before .before .before .before .before .before .pre .2)
+
+add-r : tie.Need-add-r Inv-loop μ-loop
+add-r c = omega (arith, c .before .before .before .before .before .before .before .before .before .pre .2, c .before .before .before .before .before .loop-test .taken)
+
+loop-less : tie.Need-loop-less Inv-loop μ-loop
+loop-less c = omega arith
+
+loop-again : tie.Need-loop-again Inv-loop μ-loop
+loop-again c = midway-more _ _ _ _ _ _ _ _ (c .before .before .before .before .before .before .loop .inv) (c .before .before .before .before .before .loop-test .taken) _ (c .before .before .before .before .«record» .ensures) (sym (c .before .before .before .number .ensures) ∙ c .before .before .if1 .left) (c .before .before .before .before .before .before .before .before .before .pre .2) _ (c .with .ensures)
+
+refused-requires-2 : tie.Need-refused-requires-2 Inv-loop μ-loop
+refused-requires-2 c κs = search needs
+
+returns-2 : tie.Need-returns-2 Inv-loop μ-loop
+returns-2 c = c .refused2 .ensures ∙ midway-after _ _ _ _ _ _ _ _ (c .before .before .before .loop .inv) (c .before .before .loop-test .left) (c .before .if2 .taken)
+
+returns-3 : tie.Need-returns-3 Inv-loop μ-loop
+returns-3 c = midway-all _ _ _ _ _ _ _ _ (c .before .before .loop .inv) (c .before .loop-test .left) (c .if2 .left)
+
+pub records-spec : {M : Type 1} → statement M
+records-spec =
+    tie.close
+    (tie.spec
+    Inv-loop
+    μ-loop
+    add-top
+    nothing-requires
+    loop-holds
+    record-requires
+    number-requires
+    add-refused
+    refused-requires
+    returns
+    with-requires
+    add-r
+    loop-less
+    loop-again
+    refused-requires-2
+    returns-2
+    returns-3)

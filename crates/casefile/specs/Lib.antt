@@ -1,0 +1,3 @@
+pub mod Case
+pub mod Steps
+pub mod Load
