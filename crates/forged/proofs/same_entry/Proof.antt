@@ -1,0 +1,57 @@
+use borrow.Author.Needs.{needs}
+use Prim.Native.Nat.{_-_, _≤_}
+use Rattle.forged.proofs.same_entry.Statement.{statement}
+use Rattle.forged.proofs.same_entry.Tie as tie
+
+abbrev Inv-loop : tie.InvT-loop
+Inv-loop s t i₀ i = i ≤ 4
+
+abbrev μ-loop : tie.MeasureT-loop
+μ-loop s t i₀ i = 4 - i
+
+returns : tie.Need-returns Inv-loop μ-loop
+returns c = search needs
+
+returns-2 : tie.Need-returns-2 Inv-loop μ-loop
+returns-2 c = search needs
+
+loop-holds : tie.Need-loop-holds Inv-loop μ-loop
+loop-holds c = search needs
+
+array-read-if3 : tie.Need-array-read-if3 Inv-loop μ-loop
+array-read-if3 c = search needs
+
+array-read-if3-2 : tie.Need-array-read-if3-2 Inv-loop μ-loop
+array-read-if3-2 c = search needs
+
+returns-3 : tie.Need-returns-3 Inv-loop μ-loop
+returns-3 c = search needs
+
+add-i : tie.Need-add-i Inv-loop μ-loop
+add-i c = search needs
+
+loop-less : tie.Need-loop-less Inv-loop μ-loop
+loop-less c = search needs
+
+loop-again : tie.Need-loop-again Inv-loop μ-loop
+loop-again c = search needs
+
+returns-4 : tie.Need-returns-4 Inv-loop μ-loop
+returns-4 c = search needs
+
+pub same-entry-spec : {M : Type 1} → statement M
+same-entry-spec =
+    tie.close
+    (tie.spec
+    Inv-loop
+    μ-loop
+    returns
+    returns-2
+    loop-holds
+    array-read-if3
+    array-read-if3-2
+    returns-3
+    add-i
+    loop-less
+    loop-again
+    returns-4)

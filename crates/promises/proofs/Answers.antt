@@ -1,0 +1,145 @@
+-- The answers of question, context and member on a made store, over what was put in. Assumes nothing.
+use mathlib.Core.Bool.{Bool, false, true}
+use mathlib.Core.List.{List, _++_}
+use mathlib.Core.Logic.{_↔_, _⊎_, inl, inr, ⊎-elim}
+use mathlib.Core.Path.{_∙_, _≡_, ap, ap₂, refl, subst, sym}
+use Prim.Native.Nat.{_+_, _<_, _^_, _≤_, suc, zero, ℕ}
+use native.Mathlib.Omega.{arith}
+use lib.Dec.{ltb}
+use lib.ListN.{drop, length}
+use borrow.Author.Tests.{le-ltb, lt-ltb}
+use Rattle.asking.specs.Asking.{byteOf, contextBytes, contextOf, contextReply, left, memberAt, memberOf, questionOf, standing}
+use Rattle.asking.specs.declared.Answer.{Answer}
+use Rattle.asking.specs.declared.Answer.the-variants.{Inconsistent, Refused, Supported, Unsupported}
+use Rattle.asking.specs.declared.Found.the-variants.{Not}
+use Rattle.promises.proofs.Form.{Form, form-a, form-m}
+use Rattle.promises.proofs.Refusals.{bad-context, bad-member, bad-question, too-short}
+use Rattle.promises.proofs.Right.{form-right}
+use Rattle.promises.proofs.Telling.{form-carries, form-contradicts, form-label, form-nogoods}
+use Rattle.promises.specs.Demand2.{ListsSmallest, QuestionSays, atPlace, byteBy, listedFor}
+use Rattle.replies.specs.declared.Reply.{Reply}
+use Rattle.replies.specs.declared.Reply.the-variants.{Done, Number, Short}
+use Rattle.stages.proofs.Tables.{table-same}
+use Rattle.store.specs.Calls.{answer, isDone}
+use Rattle.store.specs.Reading.{labelHeld, listHeld, nogoodsHeld}
+use Rattle.store.specs.Shape.{top}
+use Rattle.store.specs.declared.Store.{Store}
+use Rattle.theory.proofs.Demands.{carries-means}
+use Rattle.theory.proofs.Lists.{same-test}
+use Rattle.theory.specs.Demands.{carries, contradicts}
+use Rattle.theory.specs.Lists.{choose}
+use Rattle.theory.specs.Places.{table}
+use Rattle.theory.specs.Sets.{contains, inRange}
+use Rattle.theory.specs.Stages.{Justification}
+
+-- ---- the answer over what was put in
+
+module _ (H : List Justification) (n E : ℕ) where
+  abbrev pub answerBy : Answer
+  answerBy = choose (contradicts H E) Inconsistent (choose (carries H E n) Supported Unsupported)
+
+  answer-told : QuestionSays H n E answerBy
+  answer-told = go (contradicts H E) (carries H E n) refl refl
+    where
+      go : (c k : Bool) → contradicts H E ≡ c → carries H E n ≡ k → QuestionSays H n E (choose c Inconsistent (choose k Supported Unsupported))
+      go true k p q = p
+      go false true p q = q
+      go false false p q = (p, q)
+
+  answer-back : (a : Answer) → QuestionSays H n E a → answerBy ≡ a
+  answer-back Inconsistent h = rw h
+  answer-back Supported h = let c : contradicts H E ≡ false = carries-means H E n .0 h .0 in rw (c, h)
+  answer-back Unsupported h = let c : contradicts H E ≡ false = h .0 in let k : carries H E n ≡ false = h .1 in rw (c, k)
+  answer-back (Refused r) h = absurd h
+
+  pub answer-says : (a : Answer) → (answerBy ≡ a) ↔ QuestionSays H n E a
+  answer-says a = (λ e. subst (QuestionSays H n E) e answer-told, answer-back a)
+
+  byte-by : byteOf answerBy ≡ byteBy H E n
+  byte-by = go (contradicts H E) (carries H E n)
+    where
+      go : (c k : Bool) → byteOf (choose c Inconsistent (choose k Supported Unsupported)) ≡ choose c 2 (choose k 1 0)
+      go true k = refl
+      go false true = refl
+      go false false = refl
+
+-- ---- a made store
+
+module _ {A M : ℕ} {H : List Justification} {s : Store} (f : Form A M H s) where
+  standing-by : (n E : ℕ) → n ≤ A + M → E < 2 ^ A → standing (s .lists) n E ≡ answerBy H n E
+  unfolding standing
+  standing-by n E l h =
+      let g : Bool = contains (nogoodsHeld (s .lists)) E in
+      let b : Bool = contains (labelHeld (s .lists) n) E in
+      ap (λ (x : Bool). choose x Inconsistent (choose b Supported Unsupported)) (form-contradicts f E h)
+      ∙ go (contradicts H E) refl (λ c. same-test (λ k. form-carries f n E l h .1 (form-contradicts f E h ∙ c, k)) (λ k. form-carries f n E l h .0 k .1))
+    where
+      go : (c : Bool) → contradicts H E ≡ c → (contradicts H E ≡ false → contains (labelHeld (s .lists) n) E ≡ carries H E n)
+          → choose c Inconsistent (choose (contains (labelHeld (s .lists) n) E) Supported Unsupported) ≡ choose c Inconsistent (choose (carries H E n) Supported Unsupported)
+      go true e k = refl
+      go false e k = ap (λ (x : Bool). choose x Supported Unsupported) (k e)
+
+  tops : top (s .held) ≡ A + M
+  tops = ap₂ (λ (a m : ℕ). a + m) (form-a f) (form-m f)
+
+  set-in : (E : ℕ) → E < 2 ^ A → inRange (s .held .assumptions) E ≡ true
+  unfolding inRange
+  set-in E h = ap (λ (a : ℕ). ltb E (2 ^ a)) (form-a f) ∙ lt-ltb E (2 ^ A) h
+
+  -- what holds of 2 ^ A holds of it as the store has it
+  width : (P : ℕ → Type 0) → P (2 ^ A) → P (2 ^ (s .held .assumptions))
+  width P h = subst (λ (a : ℕ). P (2 ^ a)) (sym (form-a f)) h
+
+  number-in : (n : ℕ) → n ≤ A + M → ltb (top (s .held)) n ≡ false
+  number-in n h = ap (λ (k : ℕ). ltb k n) tops ∙ le-ltb (A + M) n h
+
+  -- ---- question
+
+  question-by : (n E : ℕ) → n ≤ A + M → E < 2 ^ A → questionOf s n E ≡ answerBy H n E
+  unfolding questionOf
+  question-by n E l h = rw (form-right f, number-in n l, set-in E h) (standing-by n E l h)
+
+  pub form-question : (n E : ℕ) → n ≤ A + M → E < 2 ^ A → (a : Answer) → (questionOf s n E ≡ a) ↔ QuestionSays H n E a
+  form-question n E l h a = let r = answer-says H n E a in let e = question-by n E l h in (λ q. r .0 (sym e ∙ q), λ q. e ∙ r .1 q)
+
+  pub form-question-number : (n E : ℕ) → (A + M < n) ⊎ (2 ^ A ≤ E) → questionOf s n E ≡ Refused Number
+  form-question-number n E h = bad-question s (form-right f) n E (⊎-elim (λ p. inl (omega (arith, tops))) (λ p. inr (width (λ (w : ℕ). w ≤ E) p)) h)
+
+  -- ---- context
+
+  context-of : (E : ℕ) → E < 2 ^ A → contextOf s E ≡ table (A + M + 1) (byteBy H E)
+  unfolding contextOf
+  context-of E h =
+      ap (λ (k : ℕ). table (k + 1) (λ n. byteOf (standing (s .lists) n E))) tops
+      ∙ table-same (A + M + 1) (λ n. byteOf (standing (s .lists) n E)) (byteBy H E) 0 (λ n p. ap byteOf (standing-by n E (omega arith) h) ∙ byte-by H n E)
+
+  done-at : (E : ℕ) (out : List ℕ) → E < 2 ^ A → A + M + 1 ≤ length out → contextReply s E (length out) ≡ Done
+  unfolding contextReply
+  done-at E out h k = rw (form-right f, set-in E h, le-ltb (length out) (top (s .held) + 1) (omega (arith, tops)))
+
+  pub form-context : (E : ℕ) (out : List ℕ) → E < 2 ^ A → A + M + 1 ≤ length out
+      → left (answer (contextReply s E (length out)) s) (contextBytes s E out) ≡ left (answer Done s) (table (A + M + 1) (byteBy H E) ++ drop (A + M + 1) out)
+  unfolding contextBytes
+  form-context E out h k =
+      ap₂ (λ (r : Reply) (l : List ℕ). left (answer r s) l) (done-at E out h k)
+      (ap (λ (r : Reply). choose (isDone r) (contextOf s E ++ drop (top (s .held) + 1) out) out) (done-at E out h k)
+      ∙ ap₂ (λ (l : List ℕ) (n : ℕ). l ++ drop (n + 1) out) (context-of E h) tops)
+
+  pub form-context-number : (E room : ℕ) → 2 ^ A ≤ E → contextReply s E room ≡ Number
+  form-context-number E room h = bad-context s (form-right f) E room (width (λ (w : ℕ). w ≤ E) h)
+
+  pub form-context-short : (E room : ℕ) → E < 2 ^ A → room < A + M + 1 → contextReply s E room ≡ Short
+  form-context-short E room h k = too-short s (form-right f) E room (width (λ (w : ℕ). E < w) h) (omega (arith, tops))
+
+  -- ---- member
+
+  list-smallest : (n : ℕ) → n ≤ A + M → ListsSmallest A (listedFor H n) (listHeld (s .lists) n)
+  list-smallest zero h = form-nogoods f
+  list-smallest (suc i) h = form-label f (suc i) h
+
+  pub form-member : (n : ℕ) → n ≤ A + M → (l : List ℕ) × ListsSmallest A (listedFor H n) l × ((place : ℕ) → memberOf s n place ≡ atPlace l place)
+  unfolding memberOf memberAt
+  form-member n h = (listHeld (s .lists) n, list-smallest n h, λ place. rw (form-right f, number-in n h))
+
+  pub form-member-number : (n place : ℕ) → A + M < n → memberOf s n place ≡ Not Number
+  form-member-number n place h = bad-member s (form-right f) n place (omega (arith, tops))

@@ -1,0 +1,218 @@
+-- A made store is the store of what was put in, judged once. Assumes nothing.
+use mathlib.Core.Bool.{Bool, _||_, false, not, true}
+use mathlib.Core.List.{List, List·Memᴰ·cases-cons, List·Memᴰ as Mem, [], _∷_}
+use mathlib.Core.Logic.{⊎-elim}
+use mathlib.Core.Path.{_∙_, _≡_, ap, ap₂, refl, subst, sym}
+use Prim.Native.Nat.{_+_, _≤_, ℕ}
+use native.Mathlib.Omega.{arith}
+use lib.Dec.{eqb, leb, ltb}
+use lib.ListN.{length}
+use borrow.Author.Tests.{eqb-true, leb-false, ltb-false}
+use Rattle.promises.proofs.InOrder.{in-order-from, in-order-is, in-order-members, in-order-new, in-order-ordered}
+use Rattle.promises.proofs.Opening.{judge-none}
+use Rattle.promises.proofs.Refusals.{add-keeps}
+use Rattle.promises.specs.Calls.{ours}
+use Rattle.promises.specs.Made.{HoldsExactly, Made, SameMembers, added, asked, contexted, inOrder, opened, refused, shown}
+use Rattle.replies.specs.Replies.{numberOf}
+use Rattle.replies.specs.declared.Reply.{Reply}
+use Rattle.replies.specs.declared.Reply.the-variants.{Already, Counts, Done, Full, Shape}
+use Rattle.rules.proofs.Laws.{Ranged, faultless-ranged, held-said}
+use Rattle.rules.proofs.Putting.{put-length}
+use Rattle.rules.specs.Held.{heldOf, ordered, put, saidBy}
+use Rattle.rules.specs.Items.{faultOf, justificationOf, sameJustification}
+use Rattle.rules.specs.declared.Held.{Held}
+use Rattle.stages.specs.Lists.{listsOf}
+use Rattle.store.proofs.Judging.{is-done}
+use Rattle.store.specs.Calls.{addOf, answer, isDone, joinedBy, noStore, ofVerdict, openOf, startStore, storeOf}
+use Rattle.store.specs.Shape.{rightShape}
+use Rattle.store.specs.declared.Outcome.{Outcome}
+use Rattle.store.specs.declared.Store.{Store}
+use Rattle.theory.proofs.Lists.{clash}
+use Rattle.theory.specs.Judge.{Stage, Verdict, judge, labelOver, limits, nogoodsOver, settled, unsettled}
+use Rattle.theory.specs.Lists.{choose, someOf}
+use Rattle.theory.specs.Stages.{Justification}
+
+-- ---- an answer 0 met no refusal
+
+pub done-store : (s t : Store) → answer Done s ≡ answer Done t → s ≡ t
+done-store s t e = ap (λ (a : Outcome). a .store) e
+
+pub pass : (b : Bool) (x rest : Outcome) (t : Store) → (numberOf (x .reply) ≡ 0 → ⊥) → choose b x rest ≡ answer Done t → (b ≡ false) × (rest ≡ answer Done t)
+pass true x rest t n e = absurd (n (ap (λ (a : Outcome). numberOf (a .reply)) e))
+pass false x rest t n e = (refl, e)
+
+-- the store of a verdict that is answered 0
+pub record Settled (h : Held) (v : Verdict) (t : Store) : Type 0 where
+  pub depth : ℕ
+  pub stage : Stage
+  pub verdict : v ≡ settled depth stage
+  pub is : t ≡ record { held = h; lists = listsOf depth stage }
+
+pub settled-only : (s t : Store) (h : Held) (v : Verdict) → ofVerdict s h v ≡ answer Done t → Settled h v t
+settled-only s t h (settled d g) e = record { depth = d; stage = g; verdict = refl; is = sym (done-store (record { held = h; lists = listsOf d g }) t e) }
+settled-only s t h nogoodsOver e = let z : _≡_ {A = ℕ} 9 0 = ap (λ (a : Outcome). numberOf (a .reply)) e in absurd (omega arith)
+settled-only s t h (labelOver n) e = let z : _≡_ {A = ℕ} 8 0 = ap (λ (a : Outcome). numberOf (a .reply)) e in absurd (omega arith)
+settled-only s t h unsettled e = let z : _≡_ {A = ℕ} 10 0 = ap (λ (a : Outcome). numberOf (a .reply)) e in absurd (omega arith)
+
+-- what a refusal would hand back does not matter where the answer is 0
+done-by : (s s′ t : Store) (h : Held) (v : Verdict) → ofVerdict s h v ≡ answer Done t → ofVerdict s′ h v ≡ answer Done t
+done-by s s′ t h v e = let r = settled-only s t h v e in ap (ofVerdict s′ h) (r .verdict) ∙ ap (answer Done) (sym (r .is))
+
+-- ---- the form of a made store
+
+pub record Form (A M : ℕ) (H : List Justification) (s : Store) : Type 0 where
+  pub few : A ≤ 32
+  pub claims : M ≤ 96
+  pub room : length (inOrder H) ≤ 256
+  pub ranged : (j : Justification) → Mem j H → Ranged (A + M) j
+  pub store : storeOf noStore A M (inOrder H) ≡ answer Done s
+
+module _ {A M : ℕ} {H : List Justification} {s : Store} (f : Form A M H s) where
+  pub form-settled : Settled (heldOf A M (inOrder H)) (judge limits A (A + M) (inOrder H)) s
+  unfolding storeOf
+  form-settled = settled-only noStore s (heldOf A M (inOrder H)) (judge limits A (A + M) (inOrder H)) (f .store)
+
+  pub form-held : s .held ≡ heldOf A M (inOrder H)
+  form-held = ap (λ (x : Store). x .held) (form-settled .is)
+
+  pub form-lists : s .lists ≡ listsOf (form-settled .depth) (form-settled .stage)
+  form-lists = ap (λ (x : Store). x .lists) (form-settled .is)
+
+  pub form-ranged : (j : Justification) → Mem j (inOrder H) → Ranged (A + M) j
+  form-ranged j m = f .ranged j (in-order-from H m)
+
+  pub form-said : saidBy (s .held) ≡ inOrder H
+  form-said = ap saidBy form-held ∙ held-said A M (inOrder H) (f .room) (λ j m. form-ranged j m .few)
+
+  pub form-a : s .held .assumptions ≡ A
+  unfolding heldOf
+  form-a = ap (λ (h : Held). h .assumptions) form-held
+
+  pub form-m : s .held .claims ≡ M
+  unfolding heldOf
+  form-m = ap (λ (h : Held). h .claims) form-held
+
+  pub form-count : s .held .count ≡ length (inOrder H)
+  unfolding heldOf
+  form-count = ap (λ (h : Held). h .count) form-held
+
+  pub form-exactly : HoldsExactly A M H s
+  form-exactly = record {
+    members = subst (λ (J : List Justification). SameMembers J H) (sym form-said) (in-order-members H);
+    order = ap ordered form-said ∙ in-order-ordered H;
+    held = form-held ∙ ap (heldOf A M) (sym form-said);
+    depth = form-settled .depth;
+    stage = form-settled .stage;
+    judged = ap (judge limits A (A + M)) form-said ∙ form-settled .verdict;
+    lists = form-lists;
+    store = f .store;
+  }
+
+-- ---- what adding answers, over plain parts of the store
+
+abbrev pub tried : Store → Bool → ℕ → ℕ → ℕ → List Justification → ℕ → List ℕ → Outcome
+tried s right A M n J c l =
+    choose (not right) (answer Shape s)
+    (choose (not (isDone (faultOf (A + M) c l))) (answer (faultOf (A + M) c l) s)
+    (choose (someOf (sameJustification (justificationOf (A + M) c l)) J) (answer Already s)
+    (choose (leb 256 n) (answer Full s)
+    (storeOf s A M (put (justificationOf (A + M) c l) J)))))
+
+add-tried : (s : Store) (c : ℕ) (l : List ℕ) → addOf s c l ≡ tried s (rightShape s) (s .held .assumptions) (s .held .claims) (s .held .count) (saidBy (s .held)) c l
+unfolding addOf joinedBy
+add-tried s c l = refl
+
+tried-same : (s : Store) (right : Bool) (A A′ M M′ n n′ : ℕ) (J J′ : List Justification) (c : ℕ) (l : List ℕ) → A ≡ A′ → M ≡ M′ → n ≡ n′ → J ≡ J′ → tried s right A M n J c l ≡ tried s right A′ M′ n′ J′ c l
+tried-same s right A A′ M M′ n n′ J J′ c l a m k j =
+    ap₂ (λ (x y : ℕ). tried s right x y n J c l) a m ∙ ap₂ (λ (x : ℕ) (K : List Justification). tried s right A′ M′ x K c l) k j
+
+pub form-add : {A M : ℕ} {H : List Justification} {s : Store} → Form A M H s → (c : ℕ) (l : List ℕ) → addOf s c l ≡ tried s (rightShape s) A M (length (inOrder H)) (inOrder H) c l
+form-add {A} {M} {H} {s} f c l =
+    add-tried s c l
+    ∙ tried-same s (rightShape s) (s .held .assumptions) A (s .held .claims) M (s .held .count) (length (inOrder H)) (saidBy (s .held)) (inOrder H) c l (form-a f) (form-m f) (form-count f) (form-said f)
+
+-- ---- one more
+
+abbrev Counted : Reply → Type 0
+Counted r = numberOf r ≡ 0 → ⊥
+
+fault-not : (r : Reply) → isDone r ≡ false → Counted r
+fault-not r h e = let z : _≡_ {A = Bool} true false = sym (ap (λ (n : ℕ). eqb n 0) e) ∙ h in absurd (false-true z)
+  where
+    false-true : _≡_ {A = Bool} true false → ⊥
+    false-true z = let q : _≡_ {A = ℕ} 0 1 = cc in omega arith
+
+module _ {A M : ℕ} {H : List Justification} {s t : Store} (f : Form A M H s) (c : ℕ) (l : List ℕ) (e : addOf s c l ≡ answer Done t) where
+  abbrev i : Justification
+  i = justificationOf (A + M) c l
+
+  pub form-next : Form A M (i ∷ H) t
+  unfolding storeOf
+  form-next =
+      let J : List Justification = inOrder H in
+      let x : Reply = faultOf (A + M) c l in
+      let p₁ = pass (not (rightShape s)) (answer Shape s) _ t (λ (z : _≡_ {A = ℕ} 2 0). omega arith) (sym (form-add f c l) ∙ e) in
+      let p₂ = pass-fault (isDone x) x refl (p₁ .1) in
+      let p₃ = pass (someOf (sameJustification i) J) (answer Already s) _ t (λ (z : _≡_ {A = ℕ} 1 0). omega arith) (p₂ .1) in
+      let p₄ = pass (leb 256 (length J)) (answer Full s) _ t (λ (z : _≡_ {A = ℕ} 7 0). omega arith) (p₃ .1) in
+      let o : inOrder (i ∷ H) ≡ put i J = in-order-new i H (p₃ .0) in
+      record {
+        few = f .few;
+        claims = f .claims;
+        room = omega (arith, ap length o, put-length i J, leb-false 256 (length J) (p₄ .0));
+        ranged = λ j m. ⊎-elim (λ (q : j ≡ i). subst (Ranged (A + M)) (sym q) (faultless-ranged (A + M) c l (p₂ .0))) (λ k. f .ranged j k) (List·Memᴰ·cases-cons m);
+        store = ap (storeOf noStore A M) o ∙ done-by s noStore t (heldOf A M (put i J)) (judge limits A (A + M) (put i J)) (p₄ .1);
+      }
+    where
+      pass-fault : (b : Bool) (x : Reply) {rest : Outcome} → isDone x ≡ b → choose (not b) (answer x s) rest ≡ answer Done t → (x ≡ Done) × (rest ≡ answer Done t)
+      pass-fault true x h q = (is-done x (eqb-true (numberOf x) 0 h), q)
+      pass-fault false x h q = absurd (fault-not x h (ap (λ (a : Outcome). numberOf (a .reply)) q))
+
+-- ---- the theorem
+
+-- the store of nothing held
+none-store : (A M : ℕ) → storeOf noStore A M [] ≡ answer Done (startStore A M)
+unfolding storeOf startStore
+none-store A M = ap (ofVerdict noStore (heldOf A M [])) (judge-none A (A + M))
+
+open-form : (A M : ℕ) (s : Store) → openOf A M ≡ answer Done s → Form A M [] s
+unfolding openOf inOrder
+open-form A M s e =
+    let p = pass (ltb 32 A || ltb 96 M) (answer Counts noStore) _ s (λ (z : _≡_ {A = ℕ} 3 0). omega arith) e in
+    record {
+      few = ltb-false 32 A (neither-left (ltb 32 A) (ltb 96 M) (p .0));
+      claims = ltb-false 96 M (neither-right (ltb 32 A) (ltb 96 M) (p .0));
+      room = omega arith;
+      ranged = λ j m. elim m [ ];
+      store = none-store A M ∙ p .1;
+    }
+  where
+    neither-left : (a b : Bool) → a || b ≡ false → a ≡ false
+    neither-left true b h = h
+    neither-left false b h = refl
+
+    neither-right : (a b : Bool) → a || b ≡ false → b ≡ false
+    neither-right true b h = clash refl h
+    neither-right false b h = h
+
+-- the store of a set of justifications, judged once: so loading is to make it
+pub judged-form : (A M : ℕ) (J H : List Justification) (s : Store) → A ≤ 32 → M ≤ 96 → length J ≤ 256 → ((j : Justification) → Mem j J → Ranged (A + M) j)
+    → ordered J ≡ true → SameMembers J H → storeOf noStore A M J ≡ answer Done s → Form A M H s
+judged-form A M J H s few claims room ranged order same e =
+    let o : J ≡ inOrder H = in-order-is J H order same in
+    record { few = few; claims = claims; room = omega (arith, ap length o); ranged = λ j m. ranged j (same j .1 m); store = ap (storeOf noStore A M) (sym o) ∙ e }
+
+module _ {A M : ℕ} where
+  pub made-form : {H : List Justification} {s : Store} → Made ours A M H s → Form A M H s
+  made-form (opened {s = s} e) = open-form A M s e
+  made-form (added c l m e) = form-next (made-form m) c l e
+  made-form (refused {H = H} {s = s} {t = t} c l r m e n) =
+      let k : addOf s c l .store ≡ s = add-keeps s c l (λ q. n (sym (ap (λ (a : Outcome). a .reply) e) ∙ q)) in
+      subst (Form A M H) (sym k ∙ ap (λ (a : Outcome). a .store) e) (made-form m)
+  made-form (asked {H = H} n E m e) = subst (Form A M H) e (made-form m)
+  made-form (contexted {H = H} E out m e) = subst (Form A M H) e (made-form m)
+  made-form (shown {H = H} n place m e) = subst (Form A M H) e (made-form m)
+
+  -- a made store holds exactly what was put in
+  pub made-holds : {H : List Justification} {s : Store} → Made ours A M H s → HoldsExactly A M H s
+  made-holds m = form-exactly (made-form m)

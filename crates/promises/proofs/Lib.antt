@@ -1,0 +1,16 @@
+pub mod InOrder
+pub mod Opening
+pub mod Refusals
+pub mod Form
+pub mod Right
+pub mod Sameness
+pub mod Telling
+pub mod Full
+pub mod Answers
+pub mod Adding
+pub mod Truth
+pub mod Promises
+pub mod OneAnswer
+pub mod Small
+pub mod Cases
+pub mod Wrong

@@ -1,0 +1,37 @@
+-- Every contract is an equation, so it allows one result. Assumes nothing.
+use mathlib.Core.Path.{_∙_, _≡_, ap, sym}
+use Rattle.asking.specs.Asking.{Left}
+use Rattle.promises.specs.OneAnswer.{One, OneAnswer}
+
+one : {X : Type 0} (x : X) → One (λ r. r ≡ x)
+one x r r′ p q = p ∙ sym q
+
+pub one-answer : OneAnswer
+one-answer = record {
+  open-one = λ A M. one _;
+  add-one = λ s c l. one _;
+  judged-one = λ h. one _;
+  shape-one = λ s. one _;
+  question-one = λ s n E. one _;
+  context-one = λ s E out r r′ after after′ p q. (ap (λ (x : Left). x .outcome) (p ∙ sym q), ap (λ (x : Left). x .bytes) (p ∙ sym q));
+  member-one = λ s n place. one _;
+  number-one = λ r. one _;
+  union-one = λ a b. one _;
+  within-one = λ a b. one _;
+  without-one = λ a b. one _;
+  only-one = λ k. one _;
+  has-one = λ E k. one _;
+  before-one = λ a b. one _;
+  low-one = λ E A. one _;
+  fault-one = λ N c l. one _;
+  canonical-one = λ N c l. one _;
+  nothing-one = λ A M. one _;
+  right-one = λ h. one _;
+  holds-one = λ h e. one _;
+  insert-one = λ h e. one _;
+  first-within-one = λ l E. one _;
+  build-one = λ h n members sizes old struck limit. one _;
+  start-one = λ A. one _;
+  judge-one = λ h. one _;
+  lists-one = λ l A N. one _;
+}

@@ -1,0 +1,83 @@
+-- Made stores that hold the same are one store: demand 3 of our calls. Assumes nothing.
+use mathlib.Core.Bool.{true}
+use mathlib.Core.List.{List, List·Memᴰ·append-cases, List·Memᴰ·cases-cons, List·Memᴰ as Mem, Memᴰ·append-left, Memᴰ·append-right, _++_, _∷_, List·Memᴰ·head as here, List·Memᴰ·tail as there}
+use mathlib.Core.Logic.{⊎-elim}
+use mathlib.Core.Path.{_∙_, _≡_, ap, sym}
+use Prim.Native.Nat.{_+_, ℕ}
+use lib.ListN.{length}
+use Rattle.promises.proofs.Form.{Form, done-store, form-add, form-exactly, made-form, tried}
+use Rattle.promises.proofs.InOrder.{in-order-same, in-order-to}
+use Rattle.promises.proofs.Right.{form-right}
+use Rattle.promises.specs.Calls.{Calls, ours}
+use Rattle.promises.specs.Demand3.{Demand3, Same}
+use Rattle.promises.specs.Made.{Made, SameMembers, added, inOrder}
+use Rattle.replies.specs.declared.Reply.the-variants.{Already, Done}
+use Rattle.rules.proofs.Order.{mem-same}
+use Rattle.rules.specs.Held.{saidBy}
+use Rattle.rules.specs.Items.{faultOf, justificationOf, sameJustification}
+use Rattle.store.specs.Calls.{addOf, answer, noStore, storeOf}
+use Rattle.store.specs.Reading.{labelHeld, nogoodsHeld}
+use Rattle.store.specs.Shape.{rightShape}
+use Rattle.store.specs.declared.Store.{Store}
+use Rattle.theory.specs.Lists.{someOf}
+use Rattle.theory.specs.Stages.{Justification}
+
+same-members-trans : {H K L : List Justification} → SameMembers H K → SameMembers K L → SameMembers H L
+same-members-trans f g j = (λ m. g j .0 (f j .0 m), λ m. f j .1 (g j .1 m))
+
+same-members-sym : {H K : List Justification} → SameMembers H K → SameMembers K H
+same-members-sym f j = (f j .1, f j .0)
+
+one-store : (C : Calls) {s t : Store} → s ≡ t → Same C s t
+one-store C e = record {
+  label = λ n. ap (λ (x : Store). labelHeld (x .lists) n) e;
+  nogoods = ap (λ (x : Store). nogoodsHeld (x .lists)) e;
+  depth = ap (λ (x : Store). x .lists .depth) e;
+  adding = λ c l. ap (λ (x : Store). C .adding x c l) e;
+  question = λ n E. ap (λ (x : Store). C .question x n E) e;
+  context = λ E out. ap (λ (x : Store). C .context x E out) e;
+  member = λ n place. ap (λ (x : Store). C .member x n place) e;
+  store = e;
+}
+
+module _ {A M : ℕ} where
+  pub form-same : {H K : List Justification} {s t : Store} → Form A M H s → Form A M K t → SameMembers H K → s ≡ t
+  form-same {H} {K} {s} {t} f g m = done-store s t (sym (f .store) ∙ ap (storeOf noStore A M) (in-order-same H K m) ∙ g .store)
+
+  -- two made stores whose calls put the same in are equal
+  pub same-store : {H K : List Justification} {s t : Store} → Made ours A M H s → Made ours A M K t → SameMembers H K → s ≡ t
+  same-store p q m = form-same (made-form p) (made-form q) m
+
+  same-held : {H K : List Justification} {s t : Store} → Made ours A M H s → Made ours A M K t → SameMembers (saidBy (s .held)) (saidBy (t .held)) → s ≡ t
+  same-held p q m =
+      same-store p q
+      (same-members-trans (same-members-sym (form-exactly (made-form p) .members)) (same-members-trans m (form-exactly (made-form q) .members)))
+
+  add-already : {H : List Justification} {s : Store} (c : ℕ) (l : List ℕ) → Form A M H s → faultOf (A + M) c l ≡ Done
+      → Mem (justificationOf (A + M) c l) H → addOf s c l ≡ answer Already s
+  add-already {H} {s} c l f d m =
+      form-add f c l ∙ already (form-right f) d (mem-same (justificationOf (A + M) c l) (inOrder H) (in-order-to m))
+    where
+      already : rightShape s ≡ true → faultOf (A + M) c l ≡ Done → someOf (sameJustification (justificationOf (A + M) c l)) (inOrder H) ≡ true
+          → tried s (rightShape s) A M (length (inOrder H)) (inOrder H) c l ≡ answer Already s
+      already p q r = rw (p, q, r)
+
+both : (H K : List Justification) (j : Justification) → Mem j (H ++ K) → Mem j (K ++ H)
+both H K j m = ⊎-elim (λ a. Memᴰ·append-right K a) (λ b. Memᴰ·append-left H b) (List·Memᴰ·append-cases H m)
+
+crossed : (i k : Justification) (H : List Justification) (j : Justification) → Mem j (k ∷ i ∷ H) → Mem j (i ∷ k ∷ H)
+crossed i k H j m =
+    ⊎-elim (λ a. there (here a)) (λ b. ⊎-elim (λ a. here a) (λ n. there (there n)) (List·Memᴰ·cases-cons b)) (List·Memᴰ·cases-cons m)
+
+pub demand-3 : Demand3 ours
+demand-3 = record {
+  put-in = λ p q m. one-store ours (same-store p q m);
+  held = λ p q m. one-store ours (same-held p q m);
+  any-order = λ H K p q. one-store ours (same-store p q (λ j. (both H K j, both K H j)));
+  two-orders = λ {A = A} {M = M} {H = H} c d l m p a b e f.
+      let i : Justification = justificationOf (A + M) c l in
+      let k : Justification = justificationOf (A + M) d m in
+      one-store ours (same-store (added d m (added c l p a) b) (added c l (added d m p e) f) (λ j. (crossed i k H j, crossed k i H j)));
+  repeated = λ c l p d m. add-already c l (made-form p) d m;
+  in-between = λ p q. one-store ours (same-store p q (λ j. (λ m. m, λ m. m)));
+}

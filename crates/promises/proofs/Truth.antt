@@ -1,0 +1,41 @@
+-- Demand 2 of our calls. Assumes nothing.
+use mathlib.Core.List.{List}
+use mathlib.Core.Path.{_≡_}
+use Prim.Native.Nat.{_≤_, ℕ}
+use lib.ListN.{length}
+use borrow.Author.Tests.{le-ltb}
+use Rattle.promises.proofs.Adding.{form-adding}
+use Rattle.promises.proofs.Answers.{form-context, form-context-number, form-context-short, form-member, form-member-number, form-question, form-question-number}
+use Rattle.promises.proofs.Form.{Form, made-form}
+use Rattle.promises.proofs.Telling.{form-depth, form-label, form-label-at, form-later, form-nogoods, form-nogoods-at}
+use Rattle.promises.specs.Calls.{ours}
+use Rattle.promises.specs.Demand2.{Demand2, Tells}
+use Rattle.replies.specs.declared.Reply.the-variants.{Done}
+use Rattle.store.specs.Calls.{openOf}
+use Rattle.store.specs.declared.Store.{Store}
+use Rattle.theory.specs.Stages.{Justification}
+
+form-tells : {A M : ℕ} {H : List Justification} {s : Store} → Form A M H s → Tells ours A M H s
+form-tells f = record {
+  question = form-question f;
+  question-number = form-question-number f;
+  context = form-context f;
+  context-number = λ E out h. form-context-number f E (length out) h;
+  context-short = λ E out h k. form-context-short f E (length out) h k;
+  label = form-label f;
+  nogoods = form-nogoods f;
+  member = form-member f;
+  member-number = form-member-number f;
+  depth = form-depth f;
+  label-at = form-label-at f;
+  nogoods-at = form-nogoods-at f;
+  later = form-later f;
+  adding = form-adding f;
+}
+
+pub opens : (A M : ℕ) → A ≤ 32 → M ≤ 96 → openOf A M .reply ≡ Done
+unfolding openOf
+opens A M a m = rw (le-ltb 32 A a, le-ltb 96 M m)
+
+pub demand-2 : Demand2 ours
+demand-2 = record { opens = opens; tells = λ m. form-tells (made-form m) }

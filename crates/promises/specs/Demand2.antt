@@ -1,0 +1,101 @@
+-- Demand 2, over what was put in and not over the store's arrays: answers, labels, nogoods, the depth, and when a list is called full. Assumes nothing.
+use mathlib.Core.Bool.{Bool, false, true}
+use mathlib.Core.List.{List, List·Memᴰ as Mem, _++_}
+use mathlib.Core.Logic.{_↔_, _⊎_}
+use mathlib.Core.Path.{_≡_}
+use Prim.Native.Nat.{_+_, _<_, _^_, _≤_, suc, zero, ℕ}
+use lib.Dec.{leb}
+use lib.ListN.{drop, getD, length}
+use Rattle.asking.specs.Asking.{left}
+use Rattle.asking.specs.declared.Answer.{Answer}
+use Rattle.asking.specs.declared.Answer.the-variants.{Inconsistent, Refused, Supported, Unsupported}
+use Rattle.asking.specs.declared.Found.{Found}
+use Rattle.asking.specs.declared.Found.the-variants.{Is, Not}
+use Rattle.promises.specs.Calls.{Calls}
+use Rattle.promises.specs.Made.{Made}
+use Rattle.promises.specs.Room.{AddSays}
+use Rattle.replies.specs.declared.Reply.{Reply}
+use Rattle.replies.specs.declared.Reply.the-variants.{Done, Number, Place, Short}
+use Rattle.store.specs.Calls.{answer}
+use Rattle.store.specs.Reading.{labelHeld, nogoodsHeld}
+use Rattle.store.specs.declared.Store.{Store}
+use Rattle.theory.specs.Demands.{carries, contradicts}
+use Rattle.theory.specs.Judge.{stageAt}
+use Rattle.theory.specs.Lists.{choose, sortedBy}
+use Rattle.theory.specs.Places.{table}
+use Rattle.theory.specs.Sets.{before, within}
+use Rattle.theory.specs.Stages.{Justification, labelAt, nogoodsAt}
+
+-- ---- questions
+
+-- when each answer is given, of a number n and a set E in range
+abbrev pub QuestionSays : List Justification → ℕ → ℕ → Answer → Type 0
+QuestionSays H n E Inconsistent = contradicts H E ≡ true
+-- the set contradicts nothing and n follows from it by the rules held
+QuestionSays H n E Supported = carries H E n ≡ true
+QuestionSays H n E Unsupported = (contradicts H E ≡ false) × (carries H E n ≡ false)
+QuestionSays H n E (Refused r) = ⊥
+
+-- 2 if E is inconsistent, else 1 if n is supported, else 0
+abbrev pub byteBy : List Justification → ℕ → ℕ → ℕ
+byteBy H E n = choose (contradicts H E) 2 (choose (carries H E n) 1 0)
+
+-- ---- lists
+
+-- E has P, and no smaller set inside it has
+pub record Smallest (A : ℕ) (P : ℕ → Bool) (E : ℕ) : Type 0 where
+  pub range : E < 2 ^ A
+  pub has : P E ≡ true
+  pub no-smaller : (F : ℕ) → within F E ≡ true → P F ≡ true → F ≡ E
+
+-- the smallest sets that have P, all of them, once, in listing order
+pub record ListsSmallest (A : ℕ) (P : ℕ → Bool) (l : List ℕ) : Type 0 where
+  pub exactly : (E : ℕ) → Mem E l ↔ Smallest A P E
+  pub order : sortedBy before l ≡ true
+
+-- what is listed for n: for 0 the sets that contradict themselves, else those that carry n
+abbrev pub listedFor : List Justification → ℕ → ℕ → Bool
+listedFor H zero E = contradicts H E
+listedFor H (suc i) E = carries H E (suc i)
+
+-- the set at that place of a list
+abbrev pub atPlace : List ℕ → ℕ → Found
+atPlace l place = choose (leb (length l) place) (Not Place) (Is (getD l place 0))
+
+-- the least k for which all labels and nogoods at k and k + 1 agree
+pub record IsDepth (A N : ℕ) (H : List Justification) (k : ℕ) : Type 0 where
+  pub agrees : stageAt A N H k ≡ stageAt A N H (suc k)
+  pub least : (i : ℕ) → i < k → stageAt A N H i ≡ stageAt A N H (suc i) → ⊥
+
+-- ---- a store s with A assumptions and M claims, in which H was put
+
+pub record Tells (C : Calls) (A M : ℕ) (H : List Justification) (s : Store) : Type 0 where
+  -- for every number and every set of assumptions
+  pub question : (n E : ℕ) → n ≤ A + M → E < 2 ^ A → (a : Answer) → (C .question s n E .answer ≡ a) ↔ QuestionSays H n E a
+  -- a number above A + M, or an assumption above A in the set
+  pub question-number : (n E : ℕ) → (A + M < n) ⊎ (2 ^ A ≤ E) → C .question s n E .answer ≡ Refused Number
+  -- byte n, for n from 0 to A + M; bytes from A + M + 1 on are kept
+  pub context : (E : ℕ) (out : List ℕ) → E < 2 ^ A → A + M + 1 ≤ length out → C .context s E out ≡ left (answer Done s) (table (A + M + 1) (byteBy H E) ++ drop (A + M + 1) out)
+  pub context-number : (E : ℕ) (out : List ℕ) → 2 ^ A ≤ E → C .context s E out .outcome .reply ≡ Number
+  pub context-short : (E : ℕ) (out : List ℕ) → E < 2 ^ A → length out < A + M + 1 → C .context s E out .outcome .reply ≡ Short
+  -- each label lists the sets of this kind that have no smaller one inside them, all of them, once; so do the nogoods
+  pub label : (n : ℕ) → n ≤ A + M → ListsSmallest A (λ E. carries H E n) (labelHeld (s .lists) n)
+  pub nogoods : ListsSmallest A (contradicts H) (nogoodsHeld (s .lists))
+  -- member reads them, place by place
+  pub member : (n : ℕ) → n ≤ A + M → (l : List ℕ) × ListsSmallest A (listedFor H n) l × ((place : ℕ) → C .member s n place .answer ≡ atPlace l place)
+  pub member-number : (n place : ℕ) → A + M < n → C .member s n place .answer ≡ Not Number
+  -- the depth; the store's labels and nogoods are those at the depth, and every later stage agrees with them
+  pub depth : IsDepth A (A + M) H (s .lists .depth)
+  pub label-at : (n : ℕ) → n ≤ A + M → labelHeld (s .lists) n ≡ labelAt A H (s .lists .depth) n
+  pub nogoods-at : nogoodsHeld (s .lists) ≡ nogoodsAt A H (s .lists .depth)
+  pub later : (k : ℕ) → s .lists .depth ≤ k → stageAt A (A + M) H (s .lists .depth) ≡ stageAt A (A + M) H k
+  -- when adding gives each reply: full exactly when the call comes as far as its stages and these need more room than the limits give
+  pub adding : (c : ℕ) (l : List ℕ) (r : Reply) → (C .adding s c l .reply ≡ r) ↔ AddSays A M H c l r
+
+-- ---- the demand
+
+pub record Demand2 (C : Calls) : Type 0 where
+  -- a store can be opened
+  pub opens : (A M : ℕ) → A ≤ 32 → M ≤ 96 → C .opening A M .reply ≡ Done
+  -- every store made by the calls tells the truth of what was put in
+  pub tells : {A M : ℕ} {H : List Justification} {s : Store} → Made C A M H s → Tells C A M H s

@@ -1,0 +1,41 @@
+-- Demand 3: two stores made by the calls, with the same counts of assumptions and claims, that hold the same rules, however they came there. Assumes nothing.
+use mathlib.Core.List.{List, List·Memᴰ as Mem, _++_}
+use mathlib.Core.Path.{_≡_}
+use Prim.Native.Nat.{_+_, ℕ}
+use Rattle.promises.specs.Calls.{Calls}
+use Rattle.promises.specs.Made.{Made, SameMembers}
+use Rattle.replies.specs.declared.Reply.the-variants.{Already, Done}
+use Rattle.rules.specs.Held.{saidBy}
+use Rattle.rules.specs.Items.{faultOf, justificationOf}
+use Rattle.store.specs.Calls.{answer}
+use Rattle.store.specs.Reading.{labelHeld, nogoodsHeld}
+use Rattle.store.specs.declared.Store.{Store}
+use Rattle.theory.specs.Stages.{Justification}
+
+-- every label, the nogoods, the depth and the answer to every next call is the same in both, refusals included
+pub record Same (C : Calls) (s t : Store) : Type 0 where
+  pub label : (n : ℕ) → labelHeld (s .lists) n ≡ labelHeld (t .lists) n
+  pub nogoods : nogoodsHeld (s .lists) ≡ nogoodsHeld (t .lists)
+  pub depth : s .lists .depth ≡ t .lists .depth
+  pub adding : (c : ℕ) (l : List ℕ) → C .adding s c l ≡ C .adding t c l
+  pub question : (n E : ℕ) → C .question s n E ≡ C .question t n E
+  pub context : (E : ℕ) (out : List ℕ) → C .context s E out ≡ C .context t E out
+  pub member : (n place : ℕ) → C .member s n place ≡ C .member t n place
+  -- they are one store, so whatever is made of them is the same
+  pub store : s ≡ t
+
+pub record Demand3 (C : Calls) : Type 0 where
+  -- the same was put in by the calls answered 0
+  pub put-in : {A M : ℕ} {H K : List Justification} {s t : Store} → Made C A M H s → Made C A M K t → SameMembers H K → Same C s t
+  -- the same rules are held
+  pub held : {A M : ℕ} {H K : List Justification} {s t : Store} → Made C A M H s → Made C A M K t → SameMembers (saidBy (s .held)) (saidBy (t .held)) → Same C s t
+  -- added in any order
+  pub any-order : {A M : ℕ} (H K : List Justification) {s t : Store} → Made C A M (H ++ K) s → Made C A M (K ++ H) t → Same C s t
+  -- .. two in particular
+  pub two-orders : {A M : ℕ} {H : List Justification} {s s₁ s₂ t₁ t₂ : Store} (c d : ℕ) (l m : List ℕ) → Made C A M H s
+      → C .adding s c l ≡ answer Done s₁ → C .adding s₁ d m ≡ answer Done s₂ → C .adding s d m ≡ answer Done t₁ → C .adding t₁ c l ≡ answer Done t₂ → Same C s₂ t₂
+  -- repeated: what was put in, its supports handed over in any order and repeated, is held already
+  pub repeated : {A M : ℕ} {H : List Justification} {s : Store} (c : ℕ) (l : List ℕ) → Made C A M H s → faultOf (A + M) c l ≡ Done
+      → Mem (justificationOf (A + M) c l) H → C .adding s c l ≡ answer Already s
+  -- with refused calls, and calls that read, in between
+  pub in-between : {A M : ℕ} {H : List Justification} {s t : Store} → Made C A M H s → Made C A M H t → Same C s t

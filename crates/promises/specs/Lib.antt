@@ -1,0 +1,10 @@
+pub mod Calls
+pub mod Made
+pub mod Demand1
+pub mod Room
+pub mod Demand2
+pub mod Demand3
+pub mod Promises
+pub mod OneAnswer
+pub mod Cases
+pub mod Wrong

@@ -1,0 +1,58 @@
+-- Stores made by the calls, with what was put in; and what such a store holds. Assumes nothing.
+use mathlib.Core.Bool.{true}
+use mathlib.Core.List.{List, List·Memᴰ as Mem, [], _∷_}
+use mathlib.Core.Logic.{_↔_}
+use mathlib.Core.Path.{_≡_}
+use Prim.Native.Nat.{_+_, ℕ}
+use Rattle.promises.specs.Calls.{Calls}
+use Rattle.replies.specs.declared.Reply.{Reply}
+use Rattle.replies.specs.declared.Reply.the-variants.{Done}
+use Rattle.rules.specs.Held.{heldOf, ordered, put, saidBy}
+use Rattle.rules.specs.Items.{justificationOf, sameJustification}
+use Rattle.stages.specs.Lists.{listsOf}
+use Rattle.store.specs.Calls.{answer, noStore, storeOf}
+use Rattle.store.specs.Shape.{rightShape}
+use Rattle.store.specs.declared.Store.{Store}
+use Rattle.theory.specs.Judge.{Stage, judge, limits, settled}
+use Rattle.theory.specs.Lists.{choose, someOf}
+use Rattle.theory.specs.Stages.{Justification}
+
+-- s came about by calls of C, with A assumptions and M claims; H is what the calls answered 0 put in, the last first
+pub data Made (C : Calls) (A M : ℕ) : List Justification → Store → Type 0 where
+  -- by opening
+  opened : {s : Store} → C .opening A M ≡ answer Done s → Made C A M [] s
+  -- by adding, answered 0
+  added : {H : List Justification} {s t : Store} (c : ℕ) (l : List ℕ) → Made C A M H s → C .adding s c l ≡ answer Done t → Made C A M (justificationOf (A + M) c l ∷ H) t
+  -- a refused adding handed t back
+  refused : {H : List Justification} {s t : Store} (c : ℕ) (l : List ℕ) (r : Reply) → Made C A M H s → C .adding s c l ≡ answer r t → (r ≡ Done → ⊥) → Made C A M H t
+  -- a call that reads handed t back
+  asked : {H : List Justification} {s t : Store} (n E : ℕ) → Made C A M H s → C .question s n E .store ≡ t → Made C A M H t
+  contexted : {H : List Justification} {s t : Store} (E : ℕ) (out : List ℕ) → Made C A M H s → C .context s E out .outcome .store ≡ t → Made C A M H t
+  shown : {H : List Justification} {s t : Store} (n place : ℕ) → Made C A M H s → C .member s n place .store ≡ t → Made C A M H t
+
+-- the same members, however often and in whatever order
+abbrev pub SameMembers : List Justification → List Justification → Type 0
+SameMembers H K = (j : Justification) → Mem j H ↔ Mem j K
+
+-- the justifications of H in held order, each once
+unfoldable pub inOrder : List Justification → List Justification
+inOrder [] = []
+inOrder (j ∷ H) = let later : List Justification = inOrder H in choose (someOf (sameJustification j) later) later (put j later)
+
+-- s holds exactly H, as a set, in held order and each once, and its lists are those of the stages of that set
+pub record HoldsExactly (A M : ℕ) (H : List Justification) (s : Store) : Type 0 where
+  pub members : SameMembers (saidBy (s .held)) H
+  pub order : ordered (saidBy (s .held)) ≡ true
+  pub held : s .held ≡ heldOf A M (saidBy (s .held))
+  pub depth : ℕ
+  pub stage : Stage
+  pub judged : judge limits A (A + M) (saidBy (s .held)) ≡ settled depth stage
+  pub lists : s .lists ≡ listsOf depth stage
+  -- that is: the store of the set, judged once
+  pub store : storeOf noStore A M (inOrder H) ≡ answer Done s
+
+-- of every store made by the calls
+pub record Stores (C : Calls) : Type 0 where
+  pub holds : {A M : ℕ} {H : List Justification} {s : Store} → Made C A M H s → HoldsExactly A M H s
+  -- its shape is right: no call on it answers 2
+  pub right : {A M : ℕ} {H : List Justification} {s : Store} → Made C A M H s → rightShape s ≡ true

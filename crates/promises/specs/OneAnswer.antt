@@ -1,0 +1,53 @@
+-- Two results that one contract allows are equal: for every public function, and for the lent bytes. Assumes nothing.
+use mathlib.Core.List.{List}
+use mathlib.Core.Path.{_≡_}
+use Prim.Native.Nat.{ℕ}
+use Rattle.asking.specs.Asking.{Contexted, Membered, Questioned}
+use Rattle.labels.specs.Promised.{Build, FirstWithin}
+use Rattle.replies.specs.Replies.{Numbered}
+use Rattle.replies.specs.declared.Reply.{Reply}
+use Rattle.rules.specs.Promised.{Canonical, Faulted, HoldingNothing, Inserted, IsHeld, IsRight}
+use Rattle.rules.specs.declared.Entry.{Entry}
+use Rattle.rules.specs.declared.Held.{Held}
+use Rattle.sets.specs.Promised.{Before, Has, Low, Only, Union, Within, Without}
+use Rattle.shape.specs.Shape.{ListsRight}
+use Rattle.stages.specs.Judged.{Judge, Start}
+use Rattle.stages.specs.declared.Lists.{Lists}
+use Rattle.store.specs.Calls.{Added, JudgedAnew, Opened}
+use Rattle.store.specs.Shape.{RightShape}
+use Rattle.store.specs.declared.Outcome.{Outcome}
+use Rattle.store.specs.declared.Store.{Store}
+
+-- what the contract says of a result holds of one at most
+abbrev pub One : {X : Type 0} → (X → Type 0) → Type 0
+One {X} P = (r r′ : X) → P r → P r′ → r ≡ r′
+
+pub record OneAnswer : Type 0 where
+  -- the product's calls
+  pub open-one : (A M : ℕ) → One (Opened A M)
+  pub add-one : (s : Store) (c : ℕ) (l : List ℕ) → One (Added s c l)
+  pub judged-one : (h : Held) → One (JudgedAnew h)
+  pub shape-one : (s : Store) → One (RightShape s)
+  pub question-one : (s : Store) (n E : ℕ) → One (Questioned s n E)
+  pub context-one : (s : Store) (E : ℕ) (out : List ℕ) (r r′ : Outcome) (after after′ : List ℕ) → Contexted s E out r after → Contexted s E out r′ after′ → (r ≡ r′) × (after ≡ after′)
+  pub member-one : (s : Store) (n place : ℕ) → One (Membered s n place)
+  -- the functions below them
+  pub number-one : (r : Reply) → One (Numbered r)
+  pub union-one : (a b : ℕ) → One (Union a b)
+  pub within-one : (a b : ℕ) → One (Within a b)
+  pub without-one : (a b : ℕ) → One (Without a b)
+  pub only-one : (k : ℕ) → One (Only k)
+  pub has-one : (E k : ℕ) → One (Has E k)
+  pub before-one : (a b : ℕ) → One (Before a b)
+  pub low-one : (E A : ℕ) → One (Low E A)
+  pub fault-one : (N c : ℕ) (l : List ℕ) → One (Faulted N c l)
+  pub canonical-one : (N c : ℕ) (l : List ℕ) → One (Canonical N c l)
+  pub nothing-one : (A M : ℕ) → One (HoldingNothing A M)
+  pub right-one : (h : Held) → One (IsRight h)
+  pub holds-one : (h : Held) (e : Entry) → One (IsHeld h e)
+  pub insert-one : (h : Held) (e : Entry) → One (Inserted h e)
+  pub first-within-one : (l : List ℕ) (E : ℕ) → One (FirstWithin l E)
+  pub build-one : (h : Held) (n : ℕ) (members sizes old struck : List ℕ) (limit : ℕ) → One (Build h n members sizes old struck limit)
+  pub start-one : (A : ℕ) → One (Start A)
+  pub judge-one : (h : Held) → One (Judge h)
+  pub lists-one : (l : Lists) (A N : ℕ) → One (ListsRight l A N)

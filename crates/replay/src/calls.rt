@@ -1,0 +1,238 @@
+// One call each: its fields read, the call made, its reply printed.
+use crate::sets_of;
+use asking::Answer;
+use asking::Found;
+use lines::Written;
+use printing::count;
+use printing::say;
+use replies::Reply;
+use script::Read;
+use store::Store;
+
+// What a line that is no call prints.
+fn bad(number: u32) {
+    say(b"bad line ");
+    count(number);
+    say(b"\n");
+}
+
+// A refusal, and the number that it names.
+fn refused(reply: Reply) {
+    say(b"refused ");
+    count(replies::number(reply) as u32);
+    if let Reply::Label(n) = reply {
+        say(b" ");
+        count(n as u32);
+    }
+    say(b"\n");
+}
+
+// open A M
+pub fn open(rest: &[u8], number: u32, store: Store) -> Store {
+    let mut values = [0u32; 32769];
+    let read = script::numbers(rest, 0, &mut values);
+    let Read::Count(n) = read else {
+        bad(number);
+        return store;
+    };
+    if n != 2 {
+        bad(number);
+        return store;
+    }
+    let out = Store::open(values[0], values[1]);
+    let reply = out.reply;
+    if replies::number(reply) != 0 {
+        refused(reply);
+        return store;
+    }
+    say(b"done\n");
+    out.store
+}
+
+// load XX ..
+pub fn load(rest: &[u8], number: u32, store: Store) -> Store {
+    let mut bytes = [0u8; 32769];
+    let read = script::bytes(rest, 0, &mut bytes);
+    let Read::Count(n) = read else {
+        bad(number);
+        return store;
+    };
+    if 4096 < n {
+        say(b"refused 14 0\n");
+        return store;
+    }
+    let out = casefile::load(&bytes[..n]);
+    let reply = out.reply;
+    if replies::number(reply) != 0 {
+        say(b"refused ");
+        count(replies::number(reply) as u32);
+        say(b" ");
+        count(out.record);
+        if let Reply::Label(named) = reply {
+            say(b" ");
+            count(named as u32);
+        }
+        say(b"\n");
+        return store;
+    }
+    say(b"done\n");
+    out.store
+}
+
+// add C S..
+pub fn add(rest: &[u8], number: u32, store: Store) -> Store {
+    let mut values = [0u32; 32769];
+    let read = script::numbers(rest, 0, &mut values);
+    let Read::Count(n) = read else {
+        bad(number);
+        return store;
+    };
+    if n < 1 {
+        bad(number);
+        return store;
+    }
+    if 32769 < n {
+        return store;
+    }
+    let out = store.add(values[0], &values[1..n]);
+    let reply = out.reply;
+    let replied = replies::number(reply);
+    if replied == 0 {
+        say(b"done\n");
+        return out.store;
+    }
+    if replied == 1 {
+        say(b"already held\n");
+    } else {
+        refused(reply);
+    }
+    out.store
+}
+
+// ask N K..
+fn ask(n: u32, set: &[u32], number: u32, store: Store) {
+    if sets_of::has_zero(set) {
+        bad(number);
+        return;
+    }
+    if sets_of::has_above(set) {
+        refused(Reply::Number);
+        return;
+    }
+    let out = asking::question(store, n, sets_of::set_of(set));
+    let answer = out.answer;
+    match answer {
+        Answer::Inconsistent => say(b"inconsistent\n"),
+        Answer::Supported => say(b"supported\n"),
+        Answer::Unsupported => say(b"unsupported\n"),
+        Answer::Refused(reply) => refused(reply),
+    }
+}
+
+// The first n bytes as numbers, a space between two.
+fn values(bytes: [u8; 129], n: usize) {
+    for i in 0..n {
+        if i < 129 {
+            if 0 < i {
+                say(b" ");
+            }
+            count(bytes[i] as u32);
+        }
+    }
+    say(b"\n");
+}
+
+// context K..
+fn context(set: &[u32], number: u32, store: Store) {
+    if sets_of::has_zero(set) {
+        bad(number);
+        return;
+    }
+    if sets_of::has_above(set) {
+        refused(Reply::Number);
+        return;
+    }
+    let mut bytes = [0u8; 129];
+    let out = asking::context(store, sets_of::set_of(set), &mut bytes);
+    let reply = out.reply;
+    if replies::number(reply) != 0 {
+        refused(reply);
+        return;
+    }
+    let held = store.held;
+    values(bytes, held.assumptions as usize + held.claims as usize + 1);
+}
+
+// member N P
+fn member(n: u32, place: u32, store: Store) {
+    let out = asking::member(store, n, place as usize);
+    let answer = out.answer;
+    match answer {
+        Found::Is(set) => {
+            printing::set(set);
+            say(b"\n");
+        }
+        Found::Not(reply) => refused(reply),
+    }
+}
+
+// line N
+fn line(n: u32, store: Store) {
+    let mut text = [0u8; lines::LONGEST];
+    let out = lines::line(store, n, &mut text);
+    let answer = out.answer;
+    match answer {
+        Written::Length(length) => {
+            if length <= lines::LONGEST {
+                say(&text[..length]);
+            }
+        }
+        Written::Refused(reply) => refused(reply),
+    }
+}
+
+// The calls that read.
+pub fn read(word: &[u8], rest: &[u8], number: u32, store: Store) {
+    let mut fields = [0u32; 32769];
+    let read = script::numbers(rest, 0, &mut fields);
+    let Read::Count(n) = read else {
+        bad(number);
+        return;
+    };
+    if 32769 < n {
+        return;
+    }
+    if script::same(word, b"context") {
+        return context(&fields[..n], number, store);
+    }
+    if script::same(word, b"list") {
+        if n == 0 {
+            return printing::listing(store);
+        }
+        return bad(number);
+    }
+    if n < 1 {
+        return bad(number);
+    }
+    if script::same(word, b"ask") {
+        return ask(fields[0], &fields[1..n], number, store);
+    }
+    named(word, n, fields[0], fields[1], number, store);
+}
+
+// line N, member N P; anything else is no call.
+fn named(word: &[u8], n: usize, first: u32, second: u32, number: u32, store: Store) {
+    if script::same(word, b"line") {
+        if n == 1 {
+            return line(first, store);
+        }
+        return bad(number);
+    }
+    if script::same(word, b"member") {
+        if n == 2 {
+            return member(first, second, store);
+        }
+        return bad(number);
+    }
+    bad(number);
+}

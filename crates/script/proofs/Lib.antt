@@ -1,0 +1,7 @@
+pub mod Places
+pub mod Fields
+pub mod Lines
+pub mod Numerals
+pub mod Reading
+pub mod Words
+pub mod Cases

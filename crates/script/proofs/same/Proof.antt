@@ -1,0 +1,70 @@
+-- `script::same` meets its contract. The invariant: the bytes from `i` on decide. Assumes nothing.
+use mathlib.Core.Path.{_∙_, _≡_, refl, sym}
+use Prim.Native.Nat.{_-_, _≤_}
+use native.Mathlib.Omega.{arith}
+use lib.Dec.{eqb}
+use lib.ListN.{drop, length}
+use Rattle.script.proofs.Words.{alike-end, alike-hit, alike-lengths, alike-miss}
+use Rattle.theory.specs.Lists.{alike}
+use Rattle.script.proofs.same.Statement.{statement}
+use Rattle.script.proofs.same.Tie as tie
+
+abbrev Inv-loop : tie.InvT-loop
+Inv-loop field word i₀ i = (i ≤ length field) × (alike eqb field word ≡ alike eqb (drop i field) (drop i word))
+
+abbrev μ-loop : tie.MeasureT-loop
+μ-loop field word i₀ i = length field - i
+
+returns : tie.Need-returns Inv-loop μ-loop
+returns c =
+    let a = c .before .args in
+    sym (alike-lengths (a .field .now) (a .word .now) (omega (arith, c .if1 .taken)))
+
+loop-holds : tie.Need-loop-holds Inv-loop μ-loop
+loop-holds c = (omega arith, refl)
+
+shared-slice-read-if2 : tie.Need-shared-slice-read-if2 Inv-loop μ-loop
+shared-slice-read-if2 c = omega arith
+
+shared-slice-read-if2-2 : tie.Need-shared-slice-read-if2-2 Inv-loop μ-loop
+shared-slice-read-if2-2 c = omega arith
+
+returns-2 : tie.Need-returns-2 Inv-loop μ-loop
+returns-2 c =
+    let l = c .before .before .before .before .loop in
+    let a = c .before .before .before .before .before .before .args in
+    sym (l .inv .1 ∙ alike-miss (a .field .now) (a .word .now) (l .i) (omega arith) (omega (arith, c .before .before .before .before .before .if1 .left)) (c .if2 .taken))
+
+add-i : tie.Need-add-i Inv-loop μ-loop
+add-i c = omega arith
+
+loop-less : tie.Need-loop-less Inv-loop μ-loop
+loop-less c = omega arith
+
+loop-again : tie.Need-loop-again Inv-loop μ-loop
+loop-again c =
+    let l = c .before .before .before .before .loop in
+    let a = c .before .before .before .before .before .before .args in
+    (omega arith, l .inv .1 ∙ alike-hit (a .field .now) (a .word .now) (l .i) (omega arith) (omega (arith, c .before .before .before .before .before .if1 .left)) (c .if2 .left))
+
+returns-3 : tie.Need-returns-3 Inv-loop μ-loop
+returns-3 c =
+    let l = c .before .loop in
+    let a = c .before .before .before .args in
+    sym (l .inv .1 ∙ alike-end (a .field .now) (a .word .now) (l .i) (omega arith) (omega (arith, c .before .before .if1 .left)))
+
+pub same-spec : {M : Type 1} → statement M
+same-spec =
+    tie.close
+    (tie.spec
+    Inv-loop
+    μ-loop
+    returns
+    loop-holds
+    shared-slice-read-if2
+    shared-slice-read-if2-2
+    returns-2
+    add-i
+    loop-less
+    loop-again
+    returns-3)

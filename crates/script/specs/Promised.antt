@@ -1,0 +1,40 @@
+-- What each public function of this crate promises of its answer r. Assumes nothing.
+use mathlib.Core.Bool.{Bool}
+use mathlib.Core.List.{List}
+use mathlib.Core.Path.{_≡_}
+use Prim.Native.Nat.{ℕ}
+use lib.Dec.{eqb}
+use lib.ListN.{drop}
+use Rattle.script.specs.Script.{fieldAt, fieldsOf, hexByte, lineEnd, numeral, numeralOf, readInto}
+use Rattle.script.specs.declared.Numeral.{Numeral}
+use Rattle.script.specs.declared.Read.{Read}
+use Rattle.script.specs.declared.Span.{Span}
+use Rattle.theory.specs.Lists.{alike}
+
+-- the end of the line from a place on
+abbrev pub IsLineEnd : List ℕ → ℕ → ℕ → Type 0
+IsLineEnd script from r = r ≡ lineEnd script from
+
+-- the first field from a place on
+abbrev pub IsField : List ℕ → ℕ → Span → Type 0
+IsField line from r = r ≡ fieldAt line from
+
+-- the number that a field is
+abbrev pub IsNumber : List ℕ → Numeral → Type 0
+IsNumber field r = r ≡ numeralOf (numeral field)
+
+-- the byte that a field is
+abbrev pub IsHex : List ℕ → Numeral → Type 0
+IsHex field r = r ≡ numeralOf (hexByte field)
+
+-- all fields from a place on, as numbers
+abbrev pub AreNumbers : List ℕ → ℕ → List ℕ → List ℕ → Read → Type 0
+AreNumbers line from entry exit r = (r, exit) ≡ readInto numeral (fieldsOf (drop from line)) entry
+
+-- all fields from a place on, as hex bytes
+abbrev pub AreBytes : List ℕ → ℕ → List ℕ → List ℕ → Read → Type 0
+AreBytes line from entry exit r = (r, exit) ≡ readInto hexByte (fieldsOf (drop from line)) entry
+
+-- whether a field is a word
+abbrev pub IsSame : List ℕ → List ℕ → Bool → Type 0
+IsSame field word r = r ≡ alike eqb field word

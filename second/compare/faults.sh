@@ -1,0 +1,72 @@
+#!/bin/sh
+# Sees that the comparison can fail: builds the second program with one fault
+# at a time, hands it in as "ours", and shows the last line of each run.
+# Use, from the folder that holds src and compare:  sh compare/faults.sh COMPARE SECOND [SEED]
+set -eu
+compare=$1
+second=$2
+seed=${3:-1}
+work=$(mktemp -d)
+missed=0
+
+# fault NAME FILE CHANGE: one run with the file changed by the sed command.
+fault() {
+    name=$1 file=$2 change=$3
+    rm -rf "$work/src"
+    cp -r src "$work/src"
+    sed "$change" "src/program/$file" > "$work/src/program/$file"
+    if cmp -s "src/program/$file" "$work/src/program/$file"; then
+        echo "$name: the change found no place"; missed=1; return
+    fi
+    # With one way of finding the stages for all cases, a fault in it shows.
+    case $file in by_joins.rs) sed -i 's/if a <= FEW_ASSUMPTIONS {/if a > 99 {/' "$work/src/program/stages.rs";; esac
+    rustc -O --edition 2021 -A warnings -o "$work/faulty" "$work/src/main.rs"
+    printf '#!/bin/sh\nexec %s/faulty list\n' "$work" > "$work/list.sh"
+    printf '#!/bin/sh\nexec %s/faulty replay\n' "$work" > "$work/replay.sh"
+    chmod +x "$work/list.sh" "$work/replay.sh"
+    if "$compare" "$work/list.sh" "$work/replay.sh" "$second" "$seed" > "$work/out"; then
+        echo "$name: NOT SEEN"; missed=1
+    else
+        echo "$name: $(tail -n 1 "$work/out")"
+        grep '^difference\|^group' "$work/out" | cut -c1-70 | sort | uniq -c | sed 's/^/    /'
+    fi
+}
+
+fault "listing order by number alone" rule.rs 's/(set.count_ones(), \*set)/*set/'
+fault "nogoods not struck at a later stage" by_joins.rs \
+    's/let label = self.next_list(n, &next\[0\]);/let label = self.next_list(n, if self.stage == 0 { \&next[0] } else { \&[] });/'
+fault "label limit 11" rule.rs 's/MOST_MEMBERS: usize = 12/MOST_MEMBERS: usize = 11/'
+fault "label limit 13" rule.rs 's/MOST_MEMBERS: usize = 12/MOST_MEMBERS: usize = 13/'
+fault "nogood limit 31" rule.rs 's/MOST_NOGOODS: usize = 32/MOST_NOGOODS: usize = 31/'
+fault "nogood limit 33" rule.rs 's/MOST_NOGOODS: usize = 32/MOST_NOGOODS: usize = 33/'
+fault "struck with the nogoods of the stage before" by_joins.rs \
+    's/self.next_list(n, &next\[0\])/self.next_list(n, \&self.lists[0])/'
+fault "old members not struck" by_joins.rs \
+    's/if !has_one_of(set, nogoods) {/if true {/'
+fault "8 before 9 at one stage" by_joins.rs \
+    's/if nogoods.len() > MOST_NOGOODS {/if nogoods.len() > MOST_NOGOODS \&\& (1..self.lists.len()).all(|n| self.next_list(n, \&nogoods).len() <= MOST_MEMBERS) {/'
+fault "8 names the highest" by_joins.rs \
+    's/return Err(Over::Label(n as u32));/return Err(Over::Label((n..self.lists.len()).filter(|\&k| self.next_list(k, \&next[0]).len() > MOST_MEMBERS).last().unwrap() as u32));/'
+fault "struck once, when the nogood is found" by_joins.rs \
+    's/^        let mut joins = vec!\[0\];/        let new: Vec<Set> = nogoods.iter().copied().filter(|x| !self.lists[0].contains(x)).collect(); let nogoods = \&new[..]; let mut joins = vec![0];/'
+fault "a new member compared with older ones only one way" by_joins.rs \
+    's/self.sets.retain(|&other| !inside(set, other));//'
+fault "room for 40 half-made joins" by_joins.rs \
+    's/^            joins = longer.sets;/            joins = longer.sets; joins.truncate(40);/'
+fault "refused for more than 40 half-made joins" by_joins.rs \
+    's/^            joins = longer.sets;/            joins = longer.sets; if joins.len() > 40 { list.sets = joins; return; }/'
+fault "room for 33 in a half-built list" by_joins.rs \
+    's/^                list.put(join);/                if list.sets.len() < 33 { list.put(join); }/;s/rules.sort_by_key.*//'
+fault "depth at least 1" stages.rs 's/if next == lists {/if next == lists \&\& depth > 0 {/'
+fault "depth from what follows, nogoods or not" by_subsets.rs \
+    's/^        Ok(lists)/        lists.push(vec![self.follows.iter().map(|bits| count(bits) as u32).sum()]); Ok(lists)/'
+fault "7 before 1" store.rs \
+    's/if self.held.contains(&rule) {/if self.held.len() < MOST_HELD \&\& self.held.contains(\&rule) {/'
+fault "5 before 4" store.rs \
+    's/refuse_if(consequent > last/refuse_if(supports.contains(\&0), 5)?; refuse_if(consequent > last/'
+fault "a refused load empties the store" script.rs \
+    's/^        Err(Fault {/        Err(Fault { refusal: Refusal { number: 13, .. }, .. }) if { *store = Store::open(0, 0).unwrap(); false } => unreachable!(),\n        Err(Fault {/'
+fault "4,096 bytes refused" listing.rs 's/input.len() > MOST_BYTES/input.len() >= MOST_BYTES/'
+fault "record of 13 one too high" case_file.rs 's/return Err(at_record(count)(Refusal::plain(13)));/return Err(at_record(count + 1)(Refusal::plain(13)));/'
+rm -rf "$work"
+if [ $missed = 0 ]; then echo "all faults seen"; else echo "faults.sh: FAILED"; exit 1; fi

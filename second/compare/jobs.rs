@@ -1,0 +1,60 @@
+//! Running the programs, and the inputs as jobs for the workers.
+
+use crate::scripts::Group;
+use std::io::{Read, Write};
+use std::process::{Command, Stdio};
+use std::sync::mpsc;
+use std::time::Duration;
+
+/// Which of the two programs an input is for.
+#[derive(Clone, Copy, Debug, PartialEq, Eq)]
+pub enum Program {
+    List,
+    Replay,
+}
+
+/// One input: what kind it is, the reply if it is known beforehand, and the
+/// group of a script.
+pub struct Job {
+    pub kind: &'static str,
+    pub program: Program,
+    pub input: Vec<u8>,
+    pub expected: Option<Vec<u8>>,
+    pub group: Option<Group>,
+}
+
+/// No call of the product takes so long.
+const PATIENCE: Duration = Duration::from_secs(60);
+
+/// Run a program on an input and hand back all it printed.
+pub fn run(program: &str, words: &[&str], input: &[u8]) -> Result<Vec<u8>, String> {
+    let mut child = Command::new(program)
+        .args(words)
+        .stdin(Stdio::piped())
+        .stdout(Stdio::piped())
+        .stderr(Stdio::null())
+        .spawn()
+        .map_err(|error| format!("{program} does not start: {error}"))?;
+    let mut stdin = child.stdin.take().expect("a pipe to the program");
+    let mut stdout = child.stdout.take().expect("a pipe from the program");
+    let input = input.to_vec();
+    // It may stop reading early, as with input that is too long: no matter.
+    std::thread::spawn(move || drop(stdin.write_all(&input)));
+    let (send, receive) = mpsc::channel();
+    std::thread::spawn(move || {
+        let mut output = Vec::new();
+        let read = stdout.read_to_end(&mut output);
+        drop(send.send(read.map(|_| output)));
+    });
+    let output = receive.recv_timeout(PATIENCE);
+    if output.is_err() {
+        drop(child.kill());
+    }
+    let status = child.wait().map_err(|error| error.to_string())?;
+    match output {
+        Err(_) => Err(format!("no answer after {} seconds", PATIENCE.as_secs())),
+        Ok(Err(error)) => Err(error.to_string()),
+        Ok(Ok(_)) if status.code().is_none() => Err(format!("it was ended: {status}")),
+        Ok(Ok(output)) => Ok(output),
+    }
+}

@@ -1,0 +1,248 @@
+//! Compares a product's two programs with the second program, byte for byte,
+//! on thousands of inputs made from a seed.
+//!
+//!   compare OURS_LIST OURS_REPLAY SECOND SEED
+//!
+//! OURS_LIST lists a case file from standard input, OURS_REPLAY replays a
+//! script. The second program is built in; the program SECOND itself is run
+//! on the named cases and on some of the others, to see that it is the same.
+//!
+//! Build: rustc -O --edition 2021 -o compare compare/main.rs
+
+mod cases;
+mod files;
+mod jobs;
+mod named;
+#[allow(dead_code)]
+#[path = "../src/program/mod.rs"]
+mod program;
+mod scripts;
+mod tally;
+
+use jobs::{Job, Program};
+use program::random::Random;
+use program::{listing, script};
+use std::collections::HashMap;
+use std::sync::atomic::{AtomicUsize, Ordering};
+use tally::Tally;
+
+const WORKERS: usize = 2;
+const LEAST_FILES: usize = 20_000;
+const LEAST_SCRIPTS: usize = 5_000;
+const LEAST_GROUPS: usize = 100;
+/// One in so many inputs also goes to the program SECOND.
+const SAMPLE: usize = 40;
+/// So many differences are shown; at so many the work ends.
+const SHOWN: usize = 5;
+const ENOUGH: usize = 20;
+
+struct Paths {
+    list: String,
+    replay: String,
+    second: String,
+}
+
+/// What a worker found.
+#[derive(Default)]
+struct Findings {
+    tally: Tally,
+    compared: usize,
+    sampled: usize,
+    differences: Vec<String>,
+    /// For each group, the common ends of those scripts whose bringing lines
+    /// were all done.
+    ends: HashMap<usize, Vec<(String, Vec<u8>)>>,
+}
+
+fn main() {
+    let words: Vec<String> = std::env::args().skip(1).collect();
+    let seed = words.get(3).and_then(|word| word.parse::<u64>().ok());
+    let (4, Some(seed)) = (words.len(), seed) else {
+        eprintln!("use: compare OURS_LIST OURS_REPLAY SECOND SEED");
+        std::process::exit(2);
+    };
+    let paths = Paths {
+        list: words[0].clone(),
+        replay: words[1].clone(),
+        second: words[2].clone(),
+    };
+    let jobs = all_jobs(seed);
+    let findings = work(&paths, &jobs);
+    std::process::exit(report(seed, &jobs, &findings));
+}
+
+/// The named cases, then the files and scripts.
+fn all_jobs(seed: u64) -> Vec<Job> {
+    let mut jobs = Vec::new();
+    for case in named::all() {
+        let expected = Some(case.expected.into_bytes());
+        jobs.push(Job { kind: case.name, program: case.program, input: case.input, expected, group: None });
+    }
+    let named = jobs.len();
+    for file in files::all(&mut Random::new(seed)) {
+        jobs.push(Job { kind: file.kind, program: Program::List, input: file.bytes, expected: None, group: None });
+    }
+    for script in scripts::all(&mut Random::new(!seed)) {
+        let (kind, input, group) = (script.kind, script.bytes, script.group);
+        jobs.push(Job { kind, program: Program::Replay, input, expected: None, group });
+    }
+    // All kinds mixed, so that a difference of any kind shows early.
+    Random::new(seed).shuffle(&mut jobs[named..]);
+    jobs
+}
+
+/// Share the jobs among the workers and put their findings together.
+fn work(paths: &Paths, jobs: &[Job]) -> Findings {
+    let next = AtomicUsize::new(0);
+    let differences = AtomicUsize::new(0);
+    let worker = || {
+        let mut findings = Findings::default();
+        while differences.load(Ordering::Relaxed) < ENOUGH {
+            let place = next.fetch_add(1, Ordering::Relaxed);
+            let Some(job) = jobs.get(place) else { break };
+            let before = findings.differences.len();
+            let sampled = job.expected.is_some() || place % SAMPLE == 0;
+            one_job(paths, job, sampled, &mut findings);
+            differences.fetch_add(findings.differences.len() - before, Ordering::Relaxed);
+        }
+        findings
+    };
+    let mut all = Findings::default();
+    std::thread::scope(|scope| {
+        let handles: Vec<_> = (0..WORKERS).map(|_| scope.spawn(worker)).collect();
+        for handle in handles {
+            all.take_in(handle.join().expect("a worker"));
+        }
+    });
+    all.compare_ends();
+    all
+}
+
+/// Run one input through both and compare.
+fn one_job(paths: &Paths, job: &Job, sampled: bool, findings: &mut Findings) {
+    let second = match job.program {
+        Program::List => {
+            let listed = listing::list(&job.input);
+            findings.tally.count_file(&listed);
+            listed.text
+        }
+        Program::Replay => {
+            let replies = script::replay(&job.input);
+            findings.tally.count_script(&replies);
+            findings.keep_end(job, &replies);
+            script::text_of(&replies)
+        }
+    };
+    if let Some(expected) = &job.expected {
+        findings.judge(job, "the document", Ok(expected.clone()), "second", &second);
+    }
+    if sampled {
+        let word = if job.program == Program::List { "list" } else { "replay" };
+        let program = jobs::run(&paths.second, &[word], &job.input);
+        findings.judge(job, "the program SECOND", program, "second", &second);
+        findings.sampled += 1;
+    }
+    let path = if job.program == Program::List { &paths.list } else { &paths.replay };
+    let ours = jobs::run(path, &[], &job.input);
+    findings.judge(job, "ours", ours, "second", &second);
+    findings.compared += 1;
+}
+
+impl Findings {
+    /// Note a difference between two outputs.
+    fn judge(&mut self, job: &Job, one: &str, output: Result<Vec<u8>, String>, two: &str, other: &[u8]) {
+        let said = match output {
+            Ok(output) if output == other => return,
+            Ok(output) => String::from_utf8_lossy(&output).into_owned(),
+            Err(trouble) => format!("({trouble})\n"),
+        };
+        self.differences.push(format!(
+            "difference ({}, {:?}); input as hex:\n{}\n{one}:\n{said}{two}:\n{}",
+            job.kind,
+            job.program,
+            hex(&job.input),
+            String::from_utf8_lossy(other)
+        ));
+    }
+
+    /// Keep the common end of a script of a group if all that was to be brought
+    /// in was done or already held.
+    fn keep_end(&mut self, job: &Job, replies: &[script::Reply]) {
+        let Some(group) = &job.group else { return };
+        let brought = |reply: &&script::Reply| group.bringing.contains(&reply.line);
+        if replies.iter().filter(brought).all(|reply| reply.number <= 1) {
+            let end = replies.iter().filter(|reply| reply.line >= group.end);
+            let text = end.map(|reply| reply.text.as_str()).collect();
+            self.ends.entry(group.number).or_default().push((text, job.input.clone()));
+        }
+    }
+
+    /// Within a group all ends kept are the same.
+    fn compare_ends(&mut self) {
+        for (number, ends) in &self.ends {
+            for (text, input) in &ends[1..] {
+                if *text != ends[0].0 {
+                    self.differences.push(format!(
+                        "group {number}: two orders end differently; inputs as hex:\n{}\n{}\none:\n{}two:\n{text}",
+                        hex(&ends[0].1), hex(input), ends[0].0
+                    ));
+                }
+            }
+        }
+    }
+
+    /// The groups in which at least two orders could be compared.
+    fn groups_compared(&self) -> usize {
+        self.ends.values().filter(|ends| ends.len() > 1).count()
+    }
+
+    fn take_in(&mut self, other: Findings) {
+        self.tally.take_in(&other.tally);
+        self.compared += other.compared;
+        self.sampled += other.sampled;
+        self.differences.extend(other.differences);
+        for (number, ends) in other.ends {
+            self.ends.entry(number).or_default().extend(ends);
+        }
+    }
+}
+
+fn hex(bytes: &[u8]) -> String {
+    bytes.iter().map(|byte| format!("{byte:02x} ")).collect::<String>().trim_end().to_string()
+}
+
+/// Print the table and the verdict; the exit code.
+fn report(seed: u64, jobs: &[Job], findings: &Findings) -> i32 {
+    for difference in findings.differences.iter().take(SHOWN) {
+        println!("{difference}");
+    }
+    let named = jobs.iter().filter(|job| job.expected.is_some()).count();
+    let scripts = jobs.iter().filter(|job| job.expected.is_none() && job.program == Program::Replay).count();
+    let files = jobs.len() - named - scripts;
+    println!("seed {seed}: {named} named cases, {files} files, {scripts} scripts");
+    println!("{} inputs also went to the program SECOND", findings.sampled);
+    println!("{} groups of scripts: the same justifications in several orders", findings.groups_compared());
+    findings.tally.print();
+    let mut faults = findings.tally.too_few();
+    for (what, count, least) in [
+        ("files", files, LEAST_FILES),
+        ("scripts", scripts, LEAST_SCRIPTS),
+        ("groups of scripts", findings.groups_compared(), LEAST_GROUPS),
+    ] {
+        if count < least {
+            faults.push(format!("only {count} {what}"));
+        }
+    }
+    let differences = findings.differences.len();
+    if differences > 0 {
+        let more = if differences >= ENOUGH { " or more (ended early)" } else { "" };
+        println!("compare: FAILED, {differences} differences{more}");
+        return 1;
+    }
+    if !faults.is_empty() {
+        println!("compare: FAILED, {}", faults.join("; "));
+        return 1;
+    }
+    println!("{} passed, 0 failed", findings.compared);
+    0
+}

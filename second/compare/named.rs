@@ -1,0 +1,186 @@
+//! The named cases of document 01, each with its reply written out from that
+//! document.
+
+use crate::cases::{number, Case};
+use crate::jobs::Program;
+
+pub struct Named {
+    pub name: &'static str,
+    pub program: Program,
+    pub input: Vec<u8>,
+    pub expected: String,
+}
+
+pub fn all() -> Vec<Named> {
+    let mut cases = listed_case();
+    cases.extend(number_forms());
+    cases.extend(thirteen_singles());
+    cases.extend(premise_first());
+    cases.extend(premise_fifteen());
+    cases.extend(pairs());
+    cases.extend(five_supports());
+    cases.extend(held_256());
+    cases
+}
+
+fn file(name: &'static str, input: Vec<u8>, expected: &str) -> Named {
+    Named { name, program: Program::List, input, expected: expected.to_string() }
+}
+
+fn script(name: &'static str, input: String, expected: String) -> Named {
+    Named { name, program: Program::Replay, input: input.into_bytes(), expected }
+}
+
+/// The listing line of each of the first `last` assumptions, alone.
+fn singles(last: u32) -> String {
+    (1..=last).map(|k| format!("{k} supported {{{k}}}\n")).collect()
+}
+
+fn listed_case() -> Vec<Named> {
+    let bytes = vec![3, 2, 4, 4, 1, 1, 4, 2, 2, 3, 5, 2, 2, 4, 0, 2, 1, 2];
+    let expected = "case 3 2 4 2\n\
+                    0 nogood {1,2}\n\
+                    1 supported {1}\n\
+                    2 supported {2}\n\
+                    3 supported {3}\n\
+                    4 supported {1} {2,3}\n\
+                    5 supported {2,3}\n";
+    vec![
+        file("the listed case", bytes, expected),
+        file("empty input", vec![], "refused 11 0\n"),
+        file("nothing held", vec![0, 0, 0], "case 0 0 0 0\n0 nogood\n"),
+    ]
+}
+
+fn number_forms() -> Vec<Named> {
+    // The third number of the header is a count: 127 and 128 go on to the
+    // records, 300 and 16,383 are above 256, 80 00 is no number.
+    vec![
+        file("127", vec![0, 0, 0x7F], "refused 11 1\n"),
+        file("128 is 80 01", vec![0, 0, 0x80, 0x01], "refused 11 1\n"),
+        file("300 is AC 02", vec![0, 0, 0xAC, 0x02], "refused 7 0\n"),
+        file("16,383 is FF 7F", vec![0, 0, 0xFF, 0x7F], "refused 7 0\n"),
+        file("80 00", vec![0, 0, 0x80, 0x00], "refused 12 0\n"),
+        file("80 alone", vec![0, 0, 0x80], "refused 11 0\n"),
+    ]
+}
+
+fn singles_case(m: u32, count: u32, more: &[(u32, Vec<u32>)]) -> Vec<u8> {
+    let mut records: Vec<(u32, Vec<u32>)> = (1..=count).map(|k| (14, vec![k])).collect();
+    records.extend(more.iter().cloned());
+    Case { a: 13, m, records }.bytes()
+}
+
+fn add_singles() -> String {
+    (1..=13).map(|k| format!("add 14 {k}\n")).collect()
+}
+
+const TWELVE: &str =
+    "14 supported {1} {2} {3} {4} {5} {6} {7} {8} {9} {10} {11} {12}\n";
+
+fn thirteen_singles() -> Vec<Named> {
+    let listed = format!("case 13 1 12 1\n0 nogood\n{}{TWELVE}", singles(13));
+    vec![
+        script(
+            "thirteen singles, added",
+            format!("open 13 1\n{}line 14\nlist\n", add_singles()),
+            format!("done\n{}refused 8 14\n{TWELVE}{listed}", "done\n".repeat(12)),
+        ),
+        file("twelve singles, loaded", singles_case(1, 12, &[]), &listed),
+        file("thirteen singles, loaded", singles_case(1, 13, &[]), "refused 8 13\n"),
+    ]
+}
+
+fn premise_first() -> Vec<Named> {
+    let listed = format!("case 13 1 14 1\n0 nogood\n{}14 supported {{}}\n", singles(13));
+    vec![
+        script(
+            "a premise for 14 first, added",
+            format!("open 13 1\nadd 14\n{}list\n", add_singles()),
+            format!("done\ndone\n{}{listed}", "done\n".repeat(13)),
+        ),
+        file("a premise for 14, loaded", singles_case(1, 13, &[(14, vec![])]), &listed),
+    ]
+}
+
+fn premise_fifteen() -> Vec<Named> {
+    let more = [(15, vec![]), (14, vec![15])];
+    vec![
+        file("15 a premise, 14 from 15, loaded", singles_case(2, 13, &more), "refused 8 15\n"),
+        script(
+            "15 a premise, 14 from 15, added",
+            format!("open 13 2\nadd 15\nadd 14 15\nline 14\n{}line 14\n", add_singles()),
+            format!(
+                "done\ndone\ndone\n14 supported {{}}\n{}refused 8 14\n14 supported {{}}\n",
+                "done\n".repeat(12)
+            ),
+        ),
+    ]
+}
+
+/// All pairs of nine assumptions, {1,2} {1,3} and on to {8,9}.
+fn all_pairs() -> Vec<(u32, u32)> {
+    (1..=9).flat_map(|x| (x + 1..=9).map(move |y| (x, y))).collect()
+}
+
+fn pairs_case(count: usize) -> Vec<u8> {
+    let records = all_pairs()[..count].iter().map(|&(x, y)| (0, vec![x, y])).collect();
+    Case { a: 9, m: 0, records }.bytes()
+}
+
+fn pairs() -> Vec<Named> {
+    let adds: String = all_pairs()[..33].iter().map(|(x, y)| format!("add 0 {x} {y}\n")).collect();
+    // In listing order, so by the numbers 2^(x-1) + 2^(y-1). Left out of the
+    // first 32 are {6,9}, {7,8}, {7,9} and {8,9}.
+    let nogoods = "0 nogood {1,2} {1,3} {2,3} {1,4} {2,4} {3,4} {1,5} {2,5} {3,5} {4,5} \
+                   {1,6} {2,6} {3,6} {4,6} {5,6} {1,7} {2,7} {3,7} {4,7} {5,7} {6,7} \
+                   {1,8} {2,8} {3,8} {4,8} {5,8} {6,8} {1,9} {2,9} {3,9} {4,9} {5,9}\n";
+    let listed = format!("case 9 0 32 1\n{nogoods}{}", singles(9));
+    vec![
+        script(
+            "32 and 33 pairs, added",
+            format!("open 9 0\n{adds}list\n"),
+            format!("done\n{}refused 9\n{listed}", "done\n".repeat(32)),
+        ),
+        file("32 pairs, loaded", pairs_case(32), &listed),
+        file("33 pairs, loaded", pairs_case(33), "refused 9 33\n"),
+    ]
+}
+
+fn five_supports() -> Vec<Named> {
+    let bytes = vec![1, 1, 1, 2, 5, 1, 1, 1, 1, 1];
+    let listed = "case 1 1 1 1\n0 nogood\n1 supported {1}\n2 supported {1}\n";
+    vec![
+        file("five equal supports, loaded", bytes, "refused 6 1\n"),
+        file("four equal supports, loaded", vec![1, 1, 1, 2, 4, 1, 1, 1, 1], listed),
+        script(
+            "five equal supports, added",
+            "open 1 1\nadd 2 1 1 1 1 1\nadd 2 1 1 1 1\nadd 2 1\nlist\n".to_string(),
+            format!("done\nrefused 6\ndone\nalready held\n{listed}"),
+        ),
+    ]
+}
+
+/// 256 justifications that each name their own consequent, one of the claims
+/// 33 to 40, with one of the 32 assumptions.
+fn held_256() -> Vec<Named> {
+    let records: Vec<(u32, Vec<u32>)> =
+        (33..=40).flat_map(|c| (1..=32).map(move |k| (c, vec![c, k]))).collect();
+    let adds: String = records.iter().map(|(c, s)| format!("add {c} {} {}\n", s[0], s[1])).collect();
+    let unsupported: String = (33..=40).map(|c| format!("{c} unsupported\n")).collect();
+    let listed = format!("case 32 8 256 0\n0 nogood\n{}{unsupported}", singles(32));
+    let bytes = Case { a: 32, m: 8, records }.bytes();
+    let above = [vec![32, 8], number(257), vec![33, 1, 33]].concat();
+    vec![
+        script(
+            "256 held",
+            format!("open 32 8\n{adds}add 40 32 40\nadd 40\nadd 41\nadd 40 0\nlist\n"),
+            format!(
+                "done\n{}already held\nrefused 7\nrefused 4\nrefused 5\n{listed}",
+                "done\n".repeat(256)
+            ),
+        ),
+        file("256 records", bytes, &listed),
+        file("257 records", above, "refused 7 0\n"),
+    ]
+}

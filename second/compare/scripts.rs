@@ -1,0 +1,492 @@
+//! The scripts to compare.
+
+use crate::cases::{self, Case, Record};
+use crate::files::case_for_script;
+use crate::program::random::Random;
+
+/// A script. Those of one group try to hold the same justifications and end
+/// in the same lines.
+pub struct Script {
+    pub kind: &'static str,
+    pub bytes: Vec<u8>,
+    pub group: Option<Group>,
+}
+
+/// Which group; the lines (from 1) that bring the group's justifications; and
+/// the line where the common end begins.
+pub struct Group {
+    pub number: usize,
+    pub bringing: Vec<usize>,
+    pub end: usize,
+}
+
+const GROUPS: usize = 520;
+const MOST_BYTES: usize = 65_536;
+
+pub fn all(r: &mut Random) -> Vec<Script> {
+    let mut scripts = Vec::new();
+    for number in 0..GROUPS {
+        one_group(r, number, &mut scripts);
+    }
+    let mut take = |count: u32, kind: &'static str, make: &mut dyn FnMut(u32) -> Vec<u8>| {
+        (0..count).for_each(|i| scripts.push(Script { kind, bytes: make(i), group: None }));
+    };
+    take(1500, "mixed", &mut |_| mixed(r));
+    take(600, "adding to a limit", &mut |_| adding_to_a_limit(r));
+    take(80, "256 held", &mut |_| held_256(r));
+    take(350, "bad lines", &mut |_| bad_lines(r));
+    take(60, "long loads", &mut |_| long_loads(r));
+    take(60, "about 65,536 bytes", &mut |i| about_65536(r, i));
+    scripts
+}
+
+// ---------------------------------------------------------------- lines
+
+/// A script being written: its lines so far.
+#[derive(Default, Clone)]
+struct Lines {
+    lines: Vec<Vec<u8>>,
+}
+
+impl Lines {
+    /// Add a line as it is and hand back its number, from 1.
+    fn plain(&mut self, line: impl Into<Vec<u8>>) -> usize {
+        self.lines.push(line.into());
+        self.lines.len()
+    }
+
+    /// Add a line written in an odd but allowed way; now and then a comment or
+    /// an empty line comes before it.
+    fn line(&mut self, r: &mut Random, line: &str) -> usize {
+        if r.chance(4) {
+            let skipped = *r.pick(&["", "   ", "# add 1 2", "#", "  #list", "#\tnothing"]);
+            self.plain(skipped);
+        }
+        let text = if r.chance(8) { oddly_spaced(r, line) } else { line.to_string() };
+        self.plain(text)
+    }
+
+    fn bytes(&self, r: &mut Random) -> Vec<u8> {
+        let mut bytes = self.lines.join(&b'\n');
+        if r.chance(90) {
+            bytes.push(b'\n');
+        }
+        bytes
+    }
+}
+
+fn oddly_spaced(r: &mut Random, line: &str) -> String {
+    let mut text = " ".repeat(r.from_to(0, 2) as usize);
+    for word in line.split(' ') {
+        let zeros = if r.chance(10) && is_number(word) && !line.starts_with("load") { "000" } else { "" };
+        text.push_str(zeros);
+        text.push_str(word);
+        text.push_str(&" ".repeat(r.from_to(1, 3) as usize));
+    }
+    text
+}
+
+fn is_number(word: &str) -> bool {
+    !word.is_empty() && word.bytes().all(|byte| byte.is_ascii_digit())
+}
+
+fn words(first: &str, numbers: &[u32]) -> String {
+    let mut line = first.to_string();
+    for n in numbers {
+        line.push(' ');
+        line.push_str(&n.to_string());
+    }
+    line
+}
+
+fn open_line(a: u32, m: u32) -> String {
+    words("open", &[a, m])
+}
+
+fn add_line((consequent, supports): &Record) -> String {
+    words("add", &[&[*consequent][..], supports].concat())
+}
+
+fn load_line(r: &mut Random, bytes: &[u8]) -> String {
+    let upper = r.chance(50);
+    let mut line = "load".to_string();
+    for byte in bytes {
+        line.push_str(&if upper { format!(" {byte:02X}") } else { format!(" {byte:02x}") });
+    }
+    line
+}
+
+// ---------------------------------------------------------------- groups
+
+/// One set of justifications brought in five ways, with one end.
+fn one_group(r: &mut Random, number: usize, scripts: &mut Vec<Script>) {
+    let case = group_case(r);
+    let end = common_end(r, &case);
+    for way in 0..5 {
+        let mut lines = Lines::default();
+        let mut bringing = Vec::new();
+        bring(r, way, &case, &mut lines, &mut bringing);
+        let begin = lines.plain("# from here on all scripts of the group are alike") + 1;
+        lines.lines.extend(end.lines.iter().cloned());
+        let bytes = [lines.lines.join(&b'\n'), vec![b'\n']].concat();
+        let group = Some(Group { number, bringing, end: begin });
+        scripts.push(Script { kind: "orders", bytes, group });
+    }
+}
+
+/// Mostly small, so that most orders of adding are done to the end.
+fn group_case(r: &mut Random) -> Case {
+    loop {
+        let case = match r.from_to(0, 12) {
+            0..=6 => cases::random_small(r),
+            7 => cases::random_middle(r),
+            8 => cases::near_label_limit(r),
+            9 => cases::near_nogood_limit(r),
+            10 => cases::chain(r),
+            11 => cases::long_working_list(r),
+            _ => cases::random_crowded(r),
+        };
+        if case.records.len() <= 60 {
+            return case;
+        }
+    }
+}
+
+fn bring(r: &mut Random, way: u32, case: &Case, lines: &mut Lines, bringing: &mut Vec<usize>) {
+    let mut case = case.clone();
+    if way > 0 {
+        cases::reorder(r, &mut case);
+    }
+    if way > 0 && r.chance(30) {
+        other_store_first(r, lines);
+    }
+    let loaded = match way {
+        2 | 4 => case.records.len(),
+        3 => r.from_to(0, case.records.len() as u32) as usize,
+        _ => 0,
+    };
+    let (first, rest) = case.records.split_at(loaded);
+    if way < 2 {
+        bringing.push(lines.line(r, &open_line(case.a, case.m)));
+    } else {
+        let part = Case { a: case.a, m: case.m, records: first.to_vec() };
+        let line = load_line(r, &part.bytes());
+        bringing.push(lines.line(r, &line));
+    }
+    for record in rest {
+        if way > 0 && r.chance(30) {
+            changes_nothing(r, &case, lines);
+        }
+        bringing.push(lines.line(r, &add_line(record)));
+    }
+    if way == 4 {
+        // All is held already; say some of it again.
+        for _ in 0..r.from_to(0, 4).min(case.records.len() as u32) {
+            let again = r.pick(&case.records).clone();
+            lines.line(r, &add_line(&again));
+            changes_nothing(r, &case, lines);
+        }
+    }
+}
+
+/// Another store before, which the opening or loading that follows replaces.
+fn other_store_first(r: &mut Random, lines: &mut Lines) {
+    let other = cases::random_small(r);
+    lines.line(r, &open_line(other.a, other.m));
+    for record in other.records.iter().take(5) {
+        lines.line(r, &add_line(record));
+    }
+}
+
+/// A call that is refused for certain, or a question, or a bad line.
+fn changes_nothing(r: &mut Random, case: &Case, lines: &mut Lines) {
+    let last = case.last();
+    let above = *r.pick(&[last + 1, last + 1, 300, u32::MAX]);
+    let line = match r.from_to(0, 13) {
+        0 => words("add", &[above, 1]),
+        1 => words("add", &[0, above]),
+        2 => "add 0 0".to_string(),
+        3 => "add 0 1 1 1 1 1".to_string(),
+        4 => words("add", &[above, 0, 0, 0, 0, 0]),
+        5 => words("open", &[*r.pick(&[33, 300, u32::MAX]), 0]),
+        6 => words("open", &[0, *r.pick(&[97, 300, u32::MAX])]),
+        7 => refused_load(r),
+        8 => words("ask", &[r.from_to(0, last + 1), r.from_to(1, 33)]),
+        9 => words("member", &[r.from_to(0, last + 1), r.from_to(0, 12)]),
+        10 => words("line", &[r.from_to(0, last + 1)]),
+        11 => words("context", &[r.from_to(1, case.a + 1)]),
+        12 => "list".to_string(),
+        _ => (*r.pick(BAD_LINES)).to_string(),
+    };
+    lines.line(r, &line);
+}
+
+/// A file that is refused for certain, for each reason there is.
+fn refused_load(r: &mut Random) -> String {
+    let whole = cases::random_small(r).bytes();
+    let bytes = match r.from_to(0, 9) {
+        0 => whole[..r.from_to(0, whole.len() as u32 - 1) as usize].to_vec(),
+        1 => [&whole[..], &[0]].concat(),
+        2 => vec![3, 0x80, 0, 1],
+        3 => vec![33, 0, 0],
+        4 => vec![2, 2, 0x81, 2],
+        5 => vec![2, 2, 1, 1, 5, 1, 1, 1, 1, 1],
+        6 => vec![2, 2, 1, 5, 1, 1],
+        7 => vec![2, 2, 1, 3, 1, 0],
+        8 => thirteen_singles().bytes(),
+        _ => thirty_six_pairs().bytes(),
+    };
+    load_line(r, &bytes)
+}
+
+fn thirteen_singles() -> Case {
+    Case { a: 13, m: 1, records: (1..=13).map(|k| (14, vec![k])).collect() }
+}
+
+fn thirty_six_pairs() -> Case {
+    let pairs = (1..=9).flat_map(|x| (x + 1..=9).map(move |y| (0, vec![x, y])));
+    Case { a: 9, m: 0, records: pairs.collect() }
+}
+
+/// The common end: the listing, then calls that tell and calls that add.
+fn common_end(r: &mut Random, case: &Case) -> Lines {
+    let mut lines = Lines::default();
+    lines.plain("list");
+    for _ in 0..r.from_to(1, 5) {
+        telling(r, case.a, case.m, &mut lines);
+    }
+    for _ in 0..r.from_to(1, 3) {
+        let record = cases::any_record(r, case.a, case.m);
+        lines.plain(add_line(&record));
+    }
+    lines.plain("list");
+    lines
+}
+
+// ---------------------------------------------------------------- calls
+
+/// A question, context, member, line or listing.
+fn telling(r: &mut Random, a: u32, m: u32, lines: &mut Lines) {
+    let n = random_number(r, a + m);
+    let set = random_set(r, a);
+    let line = match r.from_to(0, 9) {
+        0..=2 => words("ask", &[&[n][..], &set].concat()),
+        3..=4 => words("context", &set),
+        5..=7 => words("member", &[n, *r.pick(&[0, 0, 0, 1, 1, 2, 3, 11, 12, 31, 32, 300, u32::MAX])]),
+        8 => words("line", &[n]),
+        _ => "list".to_string(),
+    };
+    lines.line(r, &line);
+}
+
+/// A number mostly in range, at times just above, at times far above.
+fn random_number(r: &mut Random, last: u32) -> u32 {
+    match r.from_to(0, 19) {
+        0 => last + 1,
+        1 => *r.pick(&[129, 300, 65_536, u32::MAX]),
+        2..=4 => 0,
+        _ => r.from_to(0, last),
+    }
+}
+
+/// Assumptions of a set, with repeats; at times one above A.
+fn random_set(r: &mut Random, a: u32) -> Vec<u32> {
+    let most = *r.pick(&[1, 3, 6, 40]);
+    let mut set = Vec::new();
+    if a > 0 {
+        (0..r.from_to(0, most)).for_each(|_| set.push(r.from_to(1, a)));
+    }
+    if r.chance(8) {
+        set.push(*r.pick(&[a + 1, a + 1, 33, 64, 300, u32::MAX]).max(&(a + 1)));
+        r.shuffle(&mut set);
+    }
+    set
+}
+
+/// All calls mixed, sound ones and others.
+fn mixed(r: &mut Random) -> Vec<u8> {
+    let mut lines = Lines::default();
+    let (mut a, mut m) = (0, 0);
+    for _ in 0..r.from_to(1, 3) {
+        (a, m) = new_store(r, (a, m), &mut lines);
+        for _ in 0..r.from_to(3, 25) {
+            match r.from_to(0, 19) {
+                0..=7 => {
+                    let line = add_line(&perhaps_faulty(r, a, m));
+                    lines.line(r, &line);
+                }
+                8..=17 => telling(r, a, m, &mut lines),
+                18 => {
+                    let line = refused_load(r);
+                    lines.line(r, &line);
+                }
+                _ => {
+                    lines.plain(*r.pick(BAD_LINES));
+                }
+            }
+        }
+    }
+    lines.line(r, "list");
+    lines.bytes(r)
+}
+
+/// Open or load, at times in vain; the counts to go on with.
+fn new_store(r: &mut Random, old: (u32, u32), lines: &mut Lines) -> (u32, u32) {
+    if r.chance(10) {
+        let (a, m) = *r.pick(&[(33, 0), (0, 97), (32, 97), (33, 96), (300, 300), (u32::MAX, u32::MAX)]);
+        lines.line(r, &open_line(a, m));
+        return old;
+    }
+    if r.chance(50) {
+        let case = case_for_script(r);
+        let line = load_line(r, &case.bytes());
+        lines.line(r, &line);
+        return (case.a, case.m);
+    }
+    let small = r.chance(80);
+    let a = if small { r.from_to(0, 6) } else { *r.pick(&[0, 31, 32]) };
+    let m = if small { r.from_to(0, 6) } else { *r.pick(&[0, 95, 96]) };
+    lines.line(r, &open_line(a, m));
+    (a, m)
+}
+
+fn perhaps_faulty(r: &mut Random, a: u32, m: u32) -> Record {
+    let (mut consequent, mut supports) = cases::any_record(r, a, m);
+    match r.from_to(0, 19) {
+        0 => consequent = *r.pick(&[a + m + 1, 300, u32::MAX]),
+        1 => supports.push(*r.pick(&[a + m + 1, 300, u32::MAX])),
+        2 => supports.insert(0, 0),
+        3 => supports.resize(r.from_to(5, 9) as usize, r.from_to(0, a + m + 1)),
+        _ => {}
+    }
+    (consequent, supports)
+}
+
+/// A case near a limit, added record by record, the refused ones tried again.
+fn adding_to_a_limit(r: &mut Random) -> Vec<u8> {
+    let case = match r.from_to(0, 6) {
+        0..=2 => cases::near_label_limit(r),
+        3..=5 => cases::near_nogood_limit(r),
+        _ => cases::near_both_limits(r),
+    };
+    let mut lines = Lines::default();
+    let begin = r.from_to(0, case.records.len() as u32 / 2) as usize;
+    let part = Case { a: case.a, m: case.m, records: case.records[..begin].to_vec() };
+    let line = if r.chance(50) { load_line(r, &part.bytes()) } else { open_line(case.a, case.m) };
+    lines.line(r, &line);
+    for record in &case.records {
+        lines.line(r, &add_line(record));
+    }
+    telling(r, case.a, case.m, &mut lines);
+    let again = r.pick(&case.records).clone();
+    lines.line(r, &add_line(&again));
+    let line = load_line(r, &case.bytes());
+    lines.line(r, &line);
+    lines.line(r, "list");
+    lines.bytes(r)
+}
+
+/// From just below 256 held to full: held ones, new ones and faulty ones.
+fn held_256(r: &mut Random) -> Vec<u8> {
+    let mut lines = Lines::default();
+    let count = *r.pick(&[252, 254, 255, 256, 256, 256]);
+    let case = cases::many_records(r, count);
+    let line = load_line(r, &case.bytes());
+    lines.line(r, &line);
+    for _ in 0..12 {
+        let record = match r.from_to(0, 3) {
+            0 => r.pick(&case.records).clone(),
+            1 => perhaps_faulty(r, case.a, case.m),
+            // It names its own consequent, so it changes no label.
+            _ => {
+                let n = r.from_to(1, case.last());
+                (n, vec![r.from_to(1, case.last()), n, r.from_to(1, case.last())])
+            }
+        };
+        lines.line(r, &add_line(&record));
+    }
+    lines.line(r, "list");
+    lines.bytes(r)
+}
+
+/// Lines that are bad whatever the store is.
+const BAD_LINES: &[&str] = &[
+    "foo", "Open 1 1", "OPEN 1 1", "opens 1 1", "0", "1 2 3", "done", "-",
+    "open", "open 1", "open 1 2 3", "open x 1", "open 1 x", "open 4294967296 0", "open -1 0",
+    "open 0 99999999999999999999999999", "open 1 +1", "open 0x1 1", "open 1,1", "open\t1 1",
+    "open 1 1\r", "open 1\t1",
+    "load 0", "load 000", "load 0g", "load g0", "load 0x 00", "load 00 1", "load 0000", "load 00 -1",
+    "load 00 00 00 zz", "load +1 00 00",
+    "add", "add x", "add 1 x", "add 1 -1", "add 1 1.0", "add 1 4294967296", "add 4294967296",
+    "add 1 1 1 1 1 1 x", "add 0,1", "add 1 #",
+    "ask", "ask x", "ask 1 0", "ask 300 0", "ask 1 1 0 1", "ask 1 00", "ask 1 4294967296", "ask 1 {1}",
+    "context 0", "context 1 0", "context x", "context 000", "context 4294967296", "context 300 0",
+    "member", "member 1", "member 1 2 3", "member x 0", "member 0 x", "member 0 4294967296",
+    "line", "line 1 2", "line x", "line 4294967296", "line -0",
+    "list 1", "list list", "list #", "listing", "list\t", "\tlist", "list\r", "\r",
+];
+
+/// Bad lines of all kinds, some made of random bytes, between sound calls.
+fn bad_lines(r: &mut Random) -> Vec<u8> {
+    let mut lines = Lines::default();
+    let case = cases::random_small(r);
+    lines.line(r, &open_line(case.a, case.m));
+    for _ in 0..r.from_to(2, 12) {
+        match r.from_to(0, 3) {
+            0 => {
+                let record = cases::any_record(r, case.a, case.m);
+                lines.line(r, &add_line(&record));
+            }
+            1 => {
+                let length = r.from_to(1, 12);
+                let bytes: Vec<u8> = (0..length).map(|_| r.next() as u8).collect();
+                lines.plain(bytes);
+            }
+            _ => {
+                lines.plain(*r.pick(BAD_LINES));
+            }
+        }
+    }
+    lines.line(r, "list");
+    lines.bytes(r)
+}
+
+/// Loads of 4,096 bytes and more, one of them at times a bad line as well.
+fn long_loads(r: &mut Random) -> Vec<u8> {
+    let mut lines = Lines::default();
+    for _ in 0..4 {
+        let mut bytes = cases::random_small(r).bytes();
+        let length = *r.pick(&[4096, 4097, 4097, 4097, 4098, 5000]);
+        while bytes.len() < length {
+            bytes.push(r.next() as u8);
+        }
+        let mut line = load_line(r, &bytes);
+        if r.chance(10) {
+            line.push_str(" 0");
+        }
+        lines.plain(line);
+    }
+    lines.plain("list");
+    lines.bytes(r)
+}
+
+/// A script filled up to about 65,536 bytes: with comments, spaces or calls.
+fn about_65536(r: &mut Random, i: u32) -> Vec<u8> {
+    let mut bytes = b"open 2 1\nadd 3 1 2\n".to_vec();
+    let length = MOST_BYTES - 2 + (i as usize % 5);
+    let filler = *r.pick(&["# filling\n", "          ", "ask 3 1 2\n", "line 0 \n\n\n"]);
+    while bytes.len() + filler.len() + 6 < length {
+        bytes.extend(filler.bytes());
+    }
+    if filler.trim().is_empty() {
+        bytes.push(b'\n');
+    }
+    while bytes.len() + 5 < length {
+        bytes.push(b' ');
+    }
+    bytes.extend(b"list\n");
+    if i % 4 == 0 {
+        bytes.extend(vec![b'#'; 30_000]);
+    }
+    bytes
+}

@@ -1,0 +1,70 @@
+//! The listing program, and the text of lines and sets.
+
+use super::case_file;
+use super::rule::{Refusal, Set};
+use super::store::Store;
+
+/// Input longer than this is refused with 14.
+pub const MOST_BYTES: usize = 4096;
+
+/// What the listing program printed, with the reply number behind it (0 where
+/// the case was listed) and the stage that decided.
+pub struct Listed {
+    pub text: Vec<u8>,
+    pub number: u32,
+    pub stage: u32,
+}
+
+/// The listing program as a function.
+pub fn list(input: &[u8]) -> Listed {
+    match load(input) {
+        Ok(store) => Listed { text: listing(&store).into_bytes(), number: 0, stage: 0 },
+        Err(fault) => {
+            let Refusal { number, stage, .. } = fault.refusal;
+            let text = format!("refused {} {}\n", number, fault.record);
+            Listed { text: text.into_bytes(), number, stage }
+        }
+    }
+}
+
+/// Loading with the program's own limit on the input's length before all else.
+pub fn load(input: &[u8]) -> Result<Store, case_file::Fault> {
+    if input.len() > MOST_BYTES {
+        return Err(case_file::Fault { refusal: Refusal::plain(14), record: 0 });
+    }
+    case_file::load(input)
+}
+
+/// The whole listing of a store.
+pub fn listing(store: &Store) -> String {
+    let mut text =
+        format!("case {} {} {} {}\n", store.a, store.m, store.held_count(), store.depth());
+    for n in 0..=store.last() {
+        text.push_str(&line(store, n));
+    }
+    text
+}
+
+/// The line of a number in range, its newline included.
+pub fn line(store: &Store, n: u32) -> String {
+    let list = store.list(n);
+    let word = match n {
+        0 => "nogood",
+        _ if list.is_empty() => "unsupported",
+        _ => "supported",
+    };
+    let mut text = format!("{n} {word}");
+    for &set in list {
+        text.push(' ');
+        text.push_str(&set_text(set));
+    }
+    text.push('\n');
+    text
+}
+
+/// A set as the listing prints it, such as {1,3}.
+pub fn set_text(set: Set) -> String {
+    let numbers = (1..=32).filter(|k| set >> (k - 1) & 1 == 1);
+    let words: Vec<String> = numbers.map(|k: u32| k.to_string()).collect();
+    format!("{{{}}}", words.join(","))
+}

@@ -1,0 +1,199 @@
+//! Replaying a script: one call a line, one reply a call.
+
+use super::case_file::Fault;
+use super::listing;
+use super::rule::Refusal;
+use super::store::{Added, Answer, Store};
+
+/// A longer script is not replayed at all.
+pub const MOST_BYTES: usize = 65_536;
+
+/// The text of reply 1; no other call prints it.
+const ALREADY_HELD: &str = "already held\n";
+
+/// What a line asked for.
+#[derive(Clone, Copy, Debug, PartialEq, Eq, Hash)]
+pub enum Call {
+    Open,
+    Load,
+    Add,
+    Ask,
+    Context,
+    Member,
+    Line,
+    List,
+    BadLine,
+    TooLong,
+}
+
+/// One reply: the script's line it belongs to, the reply number behind it, the
+/// stage that decided, and the text with its newline.
+#[derive(Clone, Debug)]
+pub struct Reply {
+    pub line: usize,
+    pub call: Call,
+    pub number: u32,
+    pub stage: u32,
+    pub text: String,
+}
+
+/// A line that was read as a call, its fields all in order.
+enum Command {
+    Open(u32, u32),
+    Load(Vec<u8>),
+    Add(u32, Vec<u32>),
+    Ask(u32, Vec<u32>),
+    Context(Vec<u32>),
+    Member(u32, u32),
+    Line(u32),
+    List,
+}
+
+/// All that was printed, in one piece.
+pub fn text_of(replies: &[Reply]) -> Vec<u8> {
+    replies.iter().flat_map(|reply| reply.text.bytes()).collect()
+}
+
+pub fn replay(input: &[u8]) -> Vec<Reply> {
+    if input.len() > MOST_BYTES {
+        let text = "too long\n".to_string();
+        return vec![Reply { line: 0, call: Call::TooLong, number: 0, stage: 0, text }];
+    }
+    let mut store = Store::open(0, 0).expect("the smallest store opens");
+    let mut replies = Vec::new();
+    for (i, line) in input.split(|&byte| byte == b'\n').enumerate() {
+        let fields: Vec<&[u8]> =
+            line.split(|&byte| byte == b' ').filter(|field| !field.is_empty()).collect();
+        if fields.is_empty() || fields[0][0] == b'#' {
+            continue;
+        }
+        replies.push(match read(fields[0], &fields[1..]) {
+            Some(command) => run(&mut store, i + 1, command),
+            None => bad_line(i + 1),
+        });
+    }
+    replies
+}
+
+fn bad_line(line: usize) -> Reply {
+    Reply { line, call: Call::BadLine, number: 0, stage: 0, text: format!("bad line {line}\n") }
+}
+
+/// The command of a line, or nothing for a bad line.
+fn read(name: &[u8], fields: &[&[u8]]) -> Option<Command> {
+    if name == b"load" {
+        return Some(Command::Load(fields.iter().map(|f| hex_byte(f)).collect::<Option<_>>()?));
+    }
+    let numbers: Vec<u32> = fields.iter().map(|f| number(f)).collect::<Option<_>>()?;
+    match (name, numbers.as_slice()) {
+        (b"open", &[a, m]) => Some(Command::Open(a, m)),
+        (b"add", [consequent, supports @ ..]) => Some(Command::Add(*consequent, supports.to_vec())),
+        (b"ask", [n, set @ ..]) if !set.contains(&0) => Some(Command::Ask(*n, set.to_vec())),
+        (b"context", set) if !set.contains(&0) => Some(Command::Context(set.to_vec())),
+        (b"member", &[n, place]) => Some(Command::Member(n, place)),
+        (b"line", &[n]) => Some(Command::Line(n)),
+        (b"list", []) => Some(Command::List),
+        _ => None,
+    }
+}
+
+/// Decimal digits, leading zeros allowed, at most 4294967295.
+fn number(field: &[u8]) -> Option<u32> {
+    let mut value: u32 = 0;
+    for byte in field {
+        if !byte.is_ascii_digit() {
+            return None;
+        }
+        value = value.checked_mul(10)?.checked_add(u32::from(byte - b'0'))?;
+    }
+    Some(value)
+}
+
+/// Exactly two hex digits, of either case.
+fn hex_byte(field: &[u8]) -> Option<u8> {
+    let digit = |byte: u8| (byte as char).to_digit(16);
+    match field {
+        &[high, low] => Some((digit(high)? * 16 + digit(low)?) as u8),
+        _ => None,
+    }
+}
+
+fn run(store: &mut Store, line: usize, command: Command) -> Reply {
+    let (call, outcome) = match command {
+        Command::Open(a, m) => (Call::Open, open(store, a, m)),
+        Command::Load(bytes) => return load(store, line, &bytes),
+        Command::Add(consequent, supports) => (Call::Add, add(store, consequent, &supports)),
+        Command::Ask(n, set) => (Call::Ask, store.ask(n, &set).map(answer_text)),
+        Command::Context(set) => (Call::Context, store.context(&set).map(context_text)),
+        Command::Member(n, place) => {
+            let set = store.member(n, place);
+            (Call::Member, set.map(|set| listing::set_text(set) + "\n"))
+        }
+        Command::Line(n) => {
+            let checked = store.check_number(n);
+            (Call::Line, checked.map(|()| listing::line(store, n)))
+        }
+        Command::List => (Call::List, Ok(listing::listing(store))),
+    };
+    reply(line, call, outcome)
+}
+
+/// The reply to any call but load.
+fn reply(line: usize, call: Call, outcome: Result<String, Refusal>) -> Reply {
+    match outcome {
+        Ok(text) => {
+            let number = u32::from(text == ALREADY_HELD);
+            Reply { line, call, number, stage: 0, text }
+        }
+        Err(Refusal { number, named, stage }) => {
+            let text = match named {
+                Some(n) => format!("refused {number} {n}\n"),
+                None => format!("refused {number}\n"),
+            };
+            Reply { line, call, number, stage, text }
+        }
+    }
+}
+
+fn open(store: &mut Store, a: u32, m: u32) -> Result<String, Refusal> {
+    *store = Store::open(a, m)?;
+    Ok("done\n".to_string())
+}
+
+fn load(store: &mut Store, line: usize, bytes: &[u8]) -> Reply {
+    let call = Call::Load;
+    match listing::load(bytes) {
+        Ok(loaded) => {
+            *store = loaded;
+            Reply { line, call, number: 0, stage: 0, text: "done\n".to_string() }
+        }
+        Err(Fault { refusal: Refusal { number, named, stage }, record }) => {
+            let text = match named {
+                Some(n) => format!("refused {number} {record} {n}\n"),
+                None => format!("refused {number} {record}\n"),
+            };
+            Reply { line, call, number, stage, text }
+        }
+    }
+}
+
+fn add(store: &mut Store, consequent: u32, supports: &[u32]) -> Result<String, Refusal> {
+    Ok(match store.add(consequent, supports)? {
+        Added::Done => "done\n".to_string(),
+        Added::AlreadyHeld => ALREADY_HELD.to_string(),
+    })
+}
+
+fn answer_text(answer: Answer) -> String {
+    let word = match answer {
+        Answer::Supported => "supported",
+        Answer::Unsupported => "unsupported",
+        Answer::Inconsistent => "inconsistent",
+    };
+    format!("{word}\n")
+}
+
+fn context_text(values: Vec<u8>) -> String {
+    let words: Vec<String> = values.iter().map(u8::to_string).collect();
+    words.join(" ") + "\n"
+}

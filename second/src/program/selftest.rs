@@ -1,0 +1,208 @@
+//! Two checks of this program by itself, on random cases:
+//! the two ways of finding the stages agree stage by stage where both apply;
+//! and with many assumptions, what a store answers on random sets is what the
+//! definition gives when it is followed for that one set.
+
+use super::by_joins::ByJoins;
+use super::by_subsets::BySubsets;
+use super::random::Random;
+use super::rule::{has_one_of, inside, single, Rule, Set, STAGE_LIMIT};
+use super::stages::{judge_by_joins, judge_by_subsets, Judged, Stages, FEW_ASSUMPTIONS};
+
+const SMALL_CASES: u32 = 20_000;
+const LARGE_CASES: u32 = 3_000;
+const PROBES: u32 = 60;
+
+/// Run all; print the count; say whether all passed.
+pub fn run(seed: u64) -> bool {
+    let mut random = Random::new(seed);
+    let mut failed = 0;
+    let (mut early, mut late) = ([0; 11], [0; 11]);
+    for _ in 0..SMALL_CASES {
+        let case = small_case(&mut random);
+        let (reply, stage) = reply_of(&case);
+        if stage > 1 { late[reply] += 1 } else { early[reply] += 1 }
+        failed += report(same_stages(&case), &case, "the two ways differ");
+    }
+    println!("small cases: {} judged", early[0]);
+    println!("  refused 8: {} at stage 1, {} above", early[8], late[8]);
+    println!("  refused 9: {} at stage 1, {} above", early[9], late[9]);
+    let mut judged = 0;
+    for _ in 0..LARGE_CASES {
+        let case = large_case(&mut random);
+        if let Ok(result) = judge_by_joins(case.a, case.m, &case.rules()) {
+            judged += 1;
+            failed += report(probes_agree(&mut random, &case, &result), &case, "a probe differs");
+        }
+    }
+    println!("large cases: {judged} judged and probed on {PROBES} sets each");
+    println!("{} passed, {} failed", SMALL_CASES + judged - failed, failed);
+    failed == 0
+}
+
+#[derive(Debug)]
+struct Case {
+    a: u32,
+    m: u32,
+    held: Vec<Rule>,
+}
+
+impl Case {
+    fn rules(&self) -> Vec<&Rule> {
+        self.held.iter().collect()
+    }
+}
+
+fn report(fine: bool, case: &Case, trouble: &str) -> u32 {
+    if !fine {
+        println!("{trouble}: {case:?}");
+    }
+    u32::from(!fine)
+}
+
+/// The reply number, and the stage that decided it.
+fn reply_of(case: &Case) -> (usize, u32) {
+    match judge_by_subsets(case.a, case.m, &case.rules()) {
+        Ok(_) => (0, 0),
+        Err(refusal) => (refusal.number as usize, refusal.stage),
+    }
+}
+
+/// Half of them crowded, so that lists come near their limits and over them.
+fn small_case(random: &mut Random) -> Case {
+    if random.chance(50) {
+        let a = random.from_to(7, FEW_ASSUMPTIONS);
+        let m = random.from_to(1, 6);
+        let count = random.from_to(20, 120);
+        let falsity = *random.pick(&[0, 10, 50, 90]);
+        return random_case(random, a, m, count, falsity);
+    }
+    let a = random.from_to(0, FEW_ASSUMPTIONS);
+    let m = random.from_to(0, 12);
+    let count = random.from_to(0, 40);
+    let falsity = *random.pick(&[0, 5, 15, 40]);
+    random_case(random, a, m, count, falsity)
+}
+
+fn large_case(random: &mut Random) -> Case {
+    let a = random.from_to(FEW_ASSUMPTIONS + 1, 32);
+    let m = random.from_to(0, 40);
+    let count = random.from_to(0, 70);
+    let falsity = *random.pick(&[0, 5, 15, 40]);
+    random_case(random, a, m, count, falsity)
+}
+
+/// Random justifications, with premises and justified assumptions at a rate
+/// drawn anew for each case; `falsity` of a hundred have consequent 0.
+fn random_case(random: &mut Random, a: u32, m: u32, count: u32, falsity: u32) -> Case {
+    let premises = *random.pick(&[0, 0, 3, 10]);
+    let any_consequent = *random.pick(&[0, 0, 10, 50]);
+    let from_claims = *random.pick(&[0, 10, 30, 70]);
+    let fewest = *random.pick(&[1, 2, 3]);
+    let mut held = Vec::new();
+    for _ in 0..count {
+        let consequent = if random.chance(falsity) {
+            0
+        } else if m == 0 || random.chance(any_consequent) {
+            random.from_to(0, a + m)
+        } else {
+            random.from_to(a + 1, a + m)
+        };
+        let wanted = if random.chance(premises) || a + m == 0 { 0 } else { random.from_to(fewest, 4) };
+        let mut supports = Vec::new();
+        for _ in 0..wanted {
+            // Two tries at most for a support that is not there yet.
+            let first = random_support(random, a, m, from_claims);
+            let second = random_support(random, a, m, from_claims);
+            supports.push(if supports.contains(&first) { second } else { first });
+        }
+        held.push(Rule::new(consequent, &supports));
+    }
+    Case { a, m, held }
+}
+
+/// A claim in `from_claims` of a hundred cases, else an assumption.
+fn random_support(random: &mut Random, a: u32, m: u32, from_claims: u32) -> u32 {
+    if a == 0 || (m > 0 && random.chance(from_claims)) {
+        random.from_to(a + 1, a + m)
+    } else {
+        random.from_to(1, a)
+    }
+}
+
+/// Both ways give the same lists at each stage up to one that agrees with the
+/// stage before it, or the same list is over its limit first.
+fn same_stages(case: &Case) -> bool {
+    let rules = case.rules();
+    let mut subsets = BySubsets::new(case.a, case.m, &rules);
+    let mut joins = ByJoins::new(case.a, case.m, &rules);
+    let mut last = None;
+    for _ in 0..=STAGE_LIMIT + 1 {
+        let stage = subsets.next_stage();
+        if stage != joins.next_stage() {
+            return false;
+        }
+        if stage.is_err() || last.as_ref() == Some(&stage) {
+            break;
+        }
+        last = Some(stage);
+    }
+    judge_by_subsets(case.a, case.m, &rules) == judge_by_joins(case.a, case.m, &rules)
+}
+
+/// Random sets, and sets made of a member or two, against the definition.
+fn probes_agree(random: &mut Random, case: &Case, judged: &Judged) -> bool {
+    let members: Vec<Set> = judged.lists.concat();
+    (0..PROBES).all(|_| {
+        let mut set = random.next() as Set & random.next() as Set & random.next() as Set;
+        if !members.is_empty() && random.chance(60) {
+            set = *random.pick(&members);
+            if random.chance(50) {
+                set |= random.pick(&members);
+            }
+            if random.chance(40) {
+                set &= !(1 << random.from_to(0, 31));
+            }
+        }
+        probe(case, judged, set & all_assumptions(case.a))
+    })
+}
+
+fn all_assumptions(a: u32) -> Set {
+    (1..=a).fold(0, |set, k| set | single(k))
+}
+
+/// One set: the lists say of every number what following the rules says, and
+/// the set is in a list exactly when no smaller set does as well.
+fn probe(case: &Case, judged: &Judged, set: Set) -> bool {
+    let follows = closure(case, set);
+    let parts: Vec<Vec<bool>> = (1..=case.a)
+        .filter(|&k| inside(single(k), set))
+        .map(|k| closure(case, set & !single(k)))
+        .collect();
+    (0..follows.len()).all(|n| {
+        let holds = follows[n] && (n == 0 || !follows[0]);
+        let smallest = holds && parts.iter().all(|part| !part[n]);
+        let said = has_one_of(set, &judged.lists[n]) && (n == 0 || !has_one_of(set, &judged.lists[0]));
+        said == holds && judged.lists[n].contains(&set) == smallest
+    })
+}
+
+/// What follows from one set, at place n for number n, when nothing more does.
+fn closure(case: &Case, set: Set) -> Vec<bool> {
+    let mut follows = vec![false; (case.a + case.m + 1) as usize];
+    for k in 1..=case.a {
+        follows[k as usize] = inside(single(k), set);
+    }
+    loop {
+        let old = follows.clone();
+        for rule in &case.held {
+            if rule.supports.iter().all(|&n| old[n as usize]) {
+                follows[rule.consequent as usize] = true;
+            }
+        }
+        if follows == old {
+            return follows;
+        }
+    }
+}

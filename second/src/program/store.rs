@@ -1,0 +1,134 @@
+//! The store and its calls.
+
+use super::rule::{has_one_of, single, Refusal, Rule, Set};
+use super::rule::{MOST_ASSUMPTIONS, MOST_CLAIMS, MOST_HELD, MOST_SUPPORTS};
+use super::stages::{judge, Judged};
+use std::collections::BTreeSet;
+
+pub struct Store {
+    pub a: u32,
+    pub m: u32,
+    held: BTreeSet<Rule>,
+    judged: Judged,
+}
+
+/// A justification was taken in, or was there already.
+#[derive(Clone, Copy, Debug, PartialEq, Eq)]
+pub enum Added {
+    Done,
+    AlreadyHeld,
+}
+
+#[derive(Clone, Copy, Debug, PartialEq, Eq)]
+pub enum Answer {
+    Supported,
+    Unsupported,
+    Inconsistent,
+}
+
+impl Store {
+    pub fn open(a: u32, m: u32) -> Result<Store, Refusal> {
+        check_counts(a, m)?;
+        Store::of_rules(a, m, BTreeSet::new())
+    }
+
+    /// The store of a whole set of justifications, judged once. Counts and
+    /// justifications have been checked before.
+    pub fn of_rules(a: u32, m: u32, held: BTreeSet<Rule>) -> Result<Store, Refusal> {
+        let judged = judge(a, m, &held.iter().collect::<Vec<&Rule>>())?;
+        Ok(Store { a, m, held, judged })
+    }
+
+    /// Refusals in this order: 6, 4, 5; 1; 7; then the stages.
+    pub fn add(&mut self, consequent: u32, supports: &[u32]) -> Result<Added, Refusal> {
+        check_support_count(supports.len() as u32)?;
+        check_numbers(self.last(), consequent, supports)?;
+        let rule = Rule::new(consequent, supports);
+        if self.held.contains(&rule) {
+            return Ok(Added::AlreadyHeld);
+        }
+        if self.held.len() >= MOST_HELD {
+            return Err(Refusal::plain(7));
+        }
+        let mut enlarged = self.held.clone();
+        enlarged.insert(rule);
+        *self = Store::of_rules(self.a, self.m, enlarged)?;
+        Ok(Added::Done)
+    }
+
+    pub fn ask(&self, n: u32, assumptions: &[u32]) -> Result<Answer, Refusal> {
+        self.check_number(n)?;
+        Ok(self.answer(n, self.set_of(assumptions)?))
+    }
+
+    /// The value of each number from 0 to A+M.
+    pub fn context(&self, assumptions: &[u32]) -> Result<Vec<u8>, Refusal> {
+        let set = self.set_of(assumptions)?;
+        let value = |n| match self.answer(n, set) {
+            Answer::Inconsistent => 2,
+            Answer::Supported => 1,
+            Answer::Unsupported => 0,
+        };
+        Ok((0..=self.last()).map(value).collect())
+    }
+
+    pub fn member(&self, n: u32, place: u32) -> Result<Set, Refusal> {
+        self.check_number(n)?;
+        self.list(n).get(place as usize).copied().ok_or(Refusal::plain(16))
+    }
+
+    /// The nogoods for 0, else the label of n. The number is in range.
+    pub fn list(&self, n: u32) -> &[Set] {
+        &self.judged.lists[n as usize]
+    }
+
+    /// The highest number: A+M.
+    pub fn last(&self) -> u32 {
+        self.a + self.m
+    }
+
+    pub fn held_count(&self) -> usize {
+        self.held.len()
+    }
+
+    pub fn depth(&self) -> u32 {
+        self.judged.depth
+    }
+
+    pub fn check_number(&self, n: u32) -> Result<(), Refusal> {
+        refuse_if(n > self.last(), 4)
+    }
+
+    fn set_of(&self, assumptions: &[u32]) -> Result<Set, Refusal> {
+        refuse_if(assumptions.iter().any(|&k| k > self.a), 4)?;
+        Ok(assumptions.iter().fold(0, |set, &k| set | single(k)))
+    }
+
+    fn answer(&self, n: u32, set: Set) -> Answer {
+        if has_one_of(set, self.list(0)) {
+            Answer::Inconsistent
+        } else if n != 0 && has_one_of(set, self.list(n)) {
+            Answer::Supported
+        } else {
+            Answer::Unsupported
+        }
+    }
+}
+
+fn refuse_if(fault: bool, number: u32) -> Result<(), Refusal> {
+    if fault { Err(Refusal::plain(number)) } else { Ok(()) }
+}
+
+pub fn check_counts(a: u32, m: u32) -> Result<(), Refusal> {
+    refuse_if(a > MOST_ASSUMPTIONS || m > MOST_CLAIMS, 3)
+}
+
+pub fn check_support_count(count: u32) -> Result<(), Refusal> {
+    refuse_if(count > MOST_SUPPORTS as u32, 6)
+}
+
+/// Every number of a justification is at most `last`, and no support is 0.
+pub fn check_numbers(last: u32, consequent: u32, supports: &[u32]) -> Result<(), Refusal> {
+    refuse_if(consequent > last || supports.iter().any(|&n| n > last), 4)?;
+    refuse_if(supports.contains(&0), 5)
+}
