@@ -1,6 +1,6 @@
 -- A made store is the store of what was put in, judged once. Assumes nothing.
 use mathlib.Core.Bool.{Bool, _||_, false, not, true}
-use mathlib.Core.List.{List, List·Memᴰ·cases-cons, List·Memᴰ as Mem, [], _∷_}
+use mathlib.Core.List.{List, List·Memᴰ·cases-cons, List·Memᴰ as Mem, [], _∷_, List·Memᴰ·head as here, map, List·Memᴰ·tail as there}
 use mathlib.Core.Logic.{⊎-elim}
 use mathlib.Core.Path.{_∙_, _≡_, ap, ap₂, refl, subst, sym}
 use Prim.Native.Nat.{_+_, _≤_, ℕ}
@@ -8,16 +8,22 @@ use native.Mathlib.Omega.{arith}
 use lib.Dec.{eqb, leb, ltb}
 use lib.ListN.{length}
 use borrow.Author.Tests.{eqb-true, leb-false, ltb-false}
+use Rattle.casefile.proofs.Gathering.{meant}
+use Rattle.casefile.proofs.Whole.{Checked, Sound, case-checked, case-sure, held-item, held-only}
+use Rattle.casefile.specs.Case.{Case, caseOf, heldBy, whole}
+use Rattle.casefile.specs.Load.{loadOf, loadedOf, recorded}
+use Rattle.casefile.specs.declared.Loaded.{Loaded}
 use Rattle.promises.proofs.InOrder.{in-order-from, in-order-is, in-order-members, in-order-new, in-order-ordered}
 use Rattle.promises.proofs.Opening.{judge-none}
 use Rattle.promises.proofs.Refusals.{add-keeps}
 use Rattle.promises.specs.Calls.{ours}
-use Rattle.promises.specs.Made.{HoldsExactly, Made, SameMembers, added, asked, contexted, inOrder, opened, refused, shown}
+use Rattle.promises.specs.Made.{HoldsExactly, Made, SameMembers, added, asked, contexted, inOrder, loaded, opened, putIn, refused, shown}
 use Rattle.replies.specs.Replies.{numberOf}
 use Rattle.replies.specs.declared.Reply.{Reply}
 use Rattle.replies.specs.declared.Reply.the-variants.{Already, Counts, Done, Full, Shape}
-use Rattle.rules.proofs.Laws.{Ranged, faultless-ranged, held-said}
+use Rattle.rules.proofs.Laws.{Ranged, faultless-ranged, held-said, right-range}
 use Rattle.rules.proofs.Putting.{put-length}
+use Rattle.rules.proofs.Scan.{right-elim}
 use Rattle.rules.specs.Held.{heldOf, ordered, put, saidBy}
 use Rattle.rules.specs.Items.{faultOf, justificationOf, sameJustification}
 use Rattle.rules.specs.declared.Held.{Held}
@@ -202,9 +208,64 @@ judged-form A M J H s few claims room ranged order same e =
     let o : J ≡ inOrder H = in-order-is J H order same in
     record { few = few; claims = claims; room = omega (arith, ap length o); ranged = λ j m. ranged j (same j .1 m); store = ap (storeOf noStore A M) (sym o) ∙ e }
 
+-- ---- loading
+
+mem-map : {X Y : Type 0} (g : X → Y) {x : X} {l : List X} → Mem x l → Mem (g x) (map g l)
+mem-map g (here e) = here (ap g e)
+mem-map g (there m) = there (mem-map g m)
+
+map-mem : {X Y : Type 0} (g : X → Y) {y : Y} (l : List X) → Mem y (map g l) → (x : X) × Mem x l × (y ≡ g x)
+map-mem g [] m = elim m [ ]
+map-mem g (x ∷ l) m = ⊎-elim (λ e. (x, here refl, e)) (λ n. let r = map-mem g l n in (r .0, there (r .1), r .2)) (List·Memᴰ·cases-cons m)
+
+module _ (bytes : List ℕ) (c : Case) (spells : caseOf bytes ≡ whole c) where
+  abbrev A′ : ℕ
+  A′ = c .header .assumptions
+
+  abbrev M′ : ℕ
+  M′ = c .header .claims
+
+  pub case-sound : Sound c
+  unfolding Checked
+  case-sound = subst Checked spells (case-checked bytes)
+
+  pub case-members : SameMembers (heldBy c) (putIn c)
+  case-members j = (
+    λ m. let r = held-only c case-sound m in subst (λ (x : Justification). Mem x (putIn c)) (sym (r .2)) (mem-map (meant (A′ + M′)) (r .1)),
+    λ m. let r = map-mem (meant (A′ + M′)) (c .items) m in subst (λ (x : Justification). Mem x (heldBy c)) (sym (r .2)) (held-item c case-sound (r .1)),
+  )
+
+  pub case-ranged : (j : Justification) → Mem j (heldBy c) → Ranged (A′ + M′) j
+  unfolding heldOf
+  case-ranged j m =
+      let sure = case-sure c case-sound in right-range (heldOf A′ M′ (heldBy c)) (sure .right) j (subst (Mem j) (sym (sure .said)) m)
+
+  pub case-order : ordered (heldBy c) ≡ true
+  case-order = let sure = case-sure c case-sound in ap ordered (sym (sure .said)) ∙ right-elim (heldOf A′ M′ (heldBy c)) (sure .right) .order
+
+  pub case-few : length (heldBy c) ≤ 256
+  unfolding heldOf
+  case-few = right-elim (heldOf A′ M′ (heldBy c)) (case-sure c case-sound .right) .few
+
+  pub case-loaded : loadOf bytes ≡ recorded (c .header .records) (storeOf noStore A′ M′ (heldBy c))
+  unfolding loadOf
+  case-loaded = ap loadedOf spells
+
+  load-form : {s : Store} → loadOf bytes .reply ≡ Done → loadOf bytes .store ≡ s → Form A′ M′ (putIn c) s
+  load-form {s} r k =
+      let o : Outcome = storeOf noStore A′ M′ (heldBy c) in
+      let p : o .reply ≡ Done = sym (ap (λ (x : Loaded). x .reply) case-loaded) ∙ r in
+      let q : o .store ≡ s = sym (ap (λ (x : Loaded). x .store) case-loaded) ∙ k in
+      judged-form A′ M′ (heldBy c) (putIn c) s (case-sound .limited .assumptions) (case-sound .limited .claims) case-few case-ranged case-order case-members
+      (ap₂ (λ (x : Reply) (t : Store). answer x t) p q)
+
+ap-form : {A A′ M M′ : ℕ} {H : List Justification} {s : Store} → A ≡ A′ → M ≡ M′ → Form A M H s → Form A′ M′ H s
+ap-form {A} {A′} {M} {M′} {H} {s} a m f = subst (λ (x : ℕ). Form A′ x H s) m (subst (λ (x : ℕ). Form x M H s) a f)
+
 module _ {A M : ℕ} where
   pub made-form : {H : List Justification} {s : Store} → Made ours A M H s → Form A M H s
   made-form (opened {s = s} e) = open-form A M s e
+  made-form (loaded {s = s} bytes c e a m r k) = ap-form a m (load-form bytes c e r k)
   made-form (added c l m e) = form-next (made-form m) c l e
   made-form (refused {H = H} {s = s} {t = t} c l r m e n) =
       let k : addOf s c l .store ≡ s = add-keeps s c l (λ q. n (sym (ap (λ (a : Outcome). a .reply) e) ∙ q)) in

@@ -8,6 +8,7 @@ pub mod Telling
 pub mod Full
 pub mod Answers
 pub mod Adding
+pub mod Loading
 pub mod Truth
 pub mod Promises
 pub mod OneAnswer

@@ -7,6 +7,7 @@ use borrow.Author.Tests.{le-ltb}
 use Rattle.promises.proofs.Adding.{form-adding}
 use Rattle.promises.proofs.Answers.{form-context, form-context-number, form-context-short, form-member, form-member-number, form-question, form-question-number}
 use Rattle.promises.proofs.Form.{Form, made-form}
+use Rattle.promises.proofs.Loading.{load-all, load-bad, load-says}
 use Rattle.promises.proofs.Telling.{form-depth, form-label, form-label-at, form-later, form-nogoods, form-nogoods-at}
 use Rattle.promises.specs.Calls.{ours}
 use Rattle.promises.specs.Demand2.{Demand2, Tells}
@@ -38,4 +39,4 @@ unfolding openOf
 opens A M a m = rw (le-ltb 32 A a, le-ltb 96 M m)
 
 pub demand-2 : Demand2 ours
-demand-2 = record { opens = opens; tells = λ m. form-tells (made-form m) }
+demand-2 = record { opens = opens; bad-file = load-bad; loads = load-says; loads-all = load-all; tells = λ m. form-tells (made-form m) }

@@ -5,6 +5,8 @@ use lib.ListN.{length}
 use Rattle.asking.specs.Asking.{Left, contextBytes, contextReply, left, memberOf, questionOf}
 use Rattle.asking.specs.declared.Asked.{Asked}
 use Rattle.asking.specs.declared.Shown.{Shown}
+use Rattle.casefile.specs.Load.{loadOf}
+use Rattle.casefile.specs.declared.Loaded.{Loaded}
 use Rattle.store.specs.Calls.{addOf, answer, openOf}
 use Rattle.store.specs.declared.Outcome.{Outcome}
 use Rattle.store.specs.declared.Store.{Store}
@@ -16,8 +18,9 @@ pub record Calls : Type 0 where
   pub question : Store → ℕ → ℕ → Asked
   pub context : Store → ℕ → List ℕ → Left
   pub member : Store → ℕ → ℕ → Shown
+  pub loading : List ℕ → Loaded
 
--- ours: what the contracts of open, add, question, context and member say of every answer
+-- ours: what the contracts of open, add, question, context, member and load say of every answer
 abbrev pub ours : Calls
 ours = record {
   opening = openOf;
@@ -25,4 +28,5 @@ ours = record {
   question = λ s n E. record { answer = questionOf s n E; store = s };
   context = λ s E out. left (answer (contextReply s E (length out)) s) (contextBytes s E out);
   member = λ s n place. record { answer = memberOf s n place; store = s };
+  loading = loadOf;
 }

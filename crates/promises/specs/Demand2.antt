@@ -11,9 +11,10 @@ use Rattle.asking.specs.declared.Answer.{Answer}
 use Rattle.asking.specs.declared.Answer.the-variants.{Inconsistent, Refused, Supported, Unsupported}
 use Rattle.asking.specs.declared.Found.{Found}
 use Rattle.asking.specs.declared.Found.the-variants.{Is, Not}
+use Rattle.casefile.specs.Case.{Case, caseOf, refused, whole}
 use Rattle.promises.specs.Calls.{Calls}
-use Rattle.promises.specs.Made.{Made}
-use Rattle.promises.specs.Room.{AddSays}
+use Rattle.promises.specs.Made.{Made, putIn}
+use Rattle.promises.specs.Room.{AddSays, StagesSay}
 use Rattle.replies.specs.declared.Reply.{Reply}
 use Rattle.replies.specs.declared.Reply.the-variants.{Done, Number, Place, Short}
 use Rattle.store.specs.Calls.{answer}
@@ -97,5 +98,10 @@ pub record Tells (C : Calls) (A M : ℕ) (H : List Justification) (s : Store) : 
 pub record Demand2 (C : Calls) : Type 0 where
   -- a store can be opened
   pub opens : (A M : ℕ) → A ≤ 32 → M ≤ 96 → C .opening A M .reply ≡ Done
+  -- a file with a fault is refused with the fault and its record
+  pub bad-file : (bytes : List ℕ) (x : Reply) (r : ℕ) → caseOf bytes ≡ refused x r → (C .loading bytes .reply ≡ x) × (C .loading bytes .«record» ≡ r)
+  -- else the stages of its whole set decide, with the announced count
+  pub loads : (bytes : List ℕ) (f : Case) → caseOf bytes ≡ whole f → (r : Reply) → (C .loading bytes .reply ≡ r) ↔ StagesSay (f .header .assumptions) (f .header .assumptions + f .header .claims) (putIn f) r
+  pub loads-all : (bytes : List ℕ) (f : Case) → caseOf bytes ≡ whole f → C .loading bytes .«record» ≡ f .header .records
   -- every store made by the calls tells the truth of what was put in
   pub tells : {A M : ℕ} {H : List Justification} {s : Store} → Made C A M H s → Tells C A M H s

@@ -1,9 +1,10 @@
 -- Stores made by the calls, with what was put in; and what such a store holds. Assumes nothing.
 use mathlib.Core.Bool.{true}
-use mathlib.Core.List.{List, List·Memᴰ as Mem, [], _∷_}
+use mathlib.Core.List.{List, List·Memᴰ as Mem, [], _∷_, map}
 use mathlib.Core.Logic.{_↔_}
 use mathlib.Core.Path.{_≡_}
 use Prim.Native.Nat.{_+_, ℕ}
+use Rattle.casefile.specs.Case.{Case, caseOf, whole}
 use Rattle.promises.specs.Calls.{Calls}
 use Rattle.replies.specs.declared.Reply.{Reply}
 use Rattle.replies.specs.declared.Reply.the-variants.{Done}
@@ -17,10 +18,16 @@ use Rattle.theory.specs.Judge.{Stage, judge, limits, settled}
 use Rattle.theory.specs.Lists.{choose, someOf}
 use Rattle.theory.specs.Stages.{Justification}
 
+-- what the items of a case put in, all of them
+abbrev pub putIn : Case → List Justification
+putIn f = map (λ i. justificationOf (f .header .assumptions + f .header .claims) (i .consequent) (i .supports)) (f .items)
+
 -- s came about by calls of C, with A assumptions and M claims; H is what the calls answered 0 put in, the last first
 pub data Made (C : Calls) (A M : ℕ) : List Justification → Store → Type 0 where
   -- by opening
   opened : {s : Store} → C .opening A M ≡ answer Done s → Made C A M [] s
+  -- by loading a file that spells the case f, answered 0
+  loaded : {s : Store} (bytes : List ℕ) (f : Case) → caseOf bytes ≡ whole f → f .header .assumptions ≡ A → f .header .claims ≡ M → C .loading bytes .reply ≡ Done → C .loading bytes .store ≡ s → Made C A M (putIn f) s
   -- by adding, answered 0
   added : {H : List Justification} {s t : Store} (c : ℕ) (l : List ℕ) → Made C A M H s → C .adding s c l ≡ answer Done t → Made C A M (justificationOf (A + M) c l ∷ H) t
   -- a refused adding handed t back

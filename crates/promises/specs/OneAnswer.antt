@@ -3,6 +3,8 @@ use mathlib.Core.List.{List}
 use mathlib.Core.Path.{_≡_}
 use Prim.Native.Nat.{ℕ}
 use Rattle.asking.specs.Asking.{Contexted, Membered, Questioned}
+use Rattle.casefile.specs.Case.{Parses}
+use Rattle.casefile.specs.Load.{Loads}
 use Rattle.labels.specs.Promised.{Build, FirstWithin}
 use Rattle.replies.specs.Replies.{Numbered}
 use Rattle.replies.specs.declared.Reply.{Reply}
@@ -31,6 +33,8 @@ pub record OneAnswer : Type 0 where
   pub question-one : (s : Store) (n E : ℕ) → One (Questioned s n E)
   pub context-one : (s : Store) (E : ℕ) (out : List ℕ) (r r′ : Outcome) (after after′ : List ℕ) → Contexted s E out r after → Contexted s E out r′ after′ → (r ≡ r′) × (after ≡ after′)
   pub member-one : (s : Store) (n place : ℕ) → One (Membered s n place)
+  pub parse-one : (bytes : List ℕ) → One (Parses bytes)
+  pub load-one : (bytes : List ℕ) → One (Loads bytes)
   -- the functions below them
   pub number-one : (r : Reply) → One (Numbered r)
   pub union-one : (a b : ℕ) → One (Union a b)

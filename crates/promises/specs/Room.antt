@@ -36,6 +36,27 @@ pub record LabelFull (A N : ℕ) (H : List Justification) (n : ℕ) : Type 0 whe
   pub over : 12 < length (labelAt A H stage n)
   pub lower : (m : ℕ) → 1 ≤ m → m < n → length (labelAt A H stage m) ≤ 12
 
+-- when each reply of the stages is given
+abbrev pub StagesSay : ℕ → ℕ → List Justification → Reply → Type 0
+StagesSay A N H Done = AllInRoom A N H
+StagesSay A N H (Label n) = LabelFull A N H n
+StagesSay A N H Nogoods = NogoodsFull A N H
+-- the others are not of the stages, or never given
+StagesSay A N H Already = ⊥
+StagesSay A N H Number = ⊥
+StagesSay A N H Falsity = ⊥
+StagesSay A N H Supports = ⊥
+StagesSay A N H Full = ⊥
+StagesSay A N H Shape = ⊥
+StagesSay A N H Counts = ⊥
+StagesSay A N H Unsettled = ⊥
+StagesSay A N H Ends = ⊥
+StagesSay A N H Form = ⊥
+StagesSay A N H After = ⊥
+StagesSay A N H Long = ⊥
+StagesSay A N H Short = ⊥
+StagesSay A N H Place = ⊥
+
 -- ---- adding consequent c with supports l, where H was put in
 
 -- the call comes as far as its stages: no fault, not held already, not 256 held already

@@ -6,7 +6,7 @@ use Rattle.asking.specs.declared.Answer.the-variants.{Refused, Unsupported}
 use Rattle.asking.specs.declared.Found.the-variants.{Not}
 use Rattle.promises.specs.Calls.{Calls, ours}
 use Rattle.promises.specs.Demand2.{Demand2}
-use Rattle.replies.specs.declared.Reply.the-variants.{Counts, Done, Shape}
+use Rattle.replies.specs.declared.Reply.the-variants.{Counts, Done, Ends, Shape}
 use Rattle.stages.specs.declared.Lists.{Lists}
 use Rattle.store.specs.Calls.{answer, noStore}
 use Rattle.store.specs.declared.Outcome.{Outcome}
@@ -21,6 +21,7 @@ refusing = record {
   question = λ s n E. record { answer = Refused Shape; store = s };
   context = λ s E out. left (answer Shape s) out;
   member = λ s n place. record { answer = Not Shape; store = s };
+  loading = λ bytes. record { reply = Ends; «record» = 0; store = noStore };
 }
 
 -- calls every set unsupported
@@ -31,6 +32,7 @@ denying = record {
   question = λ s n E. record { answer = Unsupported; store = s };
   context = ours .context;
   member = ours .member;
+  loading = ours .loading;
 }
 
 -- adds nothing and reports 0
@@ -41,6 +43,7 @@ idle = record {
   question = ours .question;
   context = ours .context;
   member = ours .member;
+  loading = ours .loading;
 }
 
 -- does all stages in the first add and none later: the lists stay
@@ -54,6 +57,7 @@ once = record {
   question = ours .question;
   context = ours .context;
   member = ours .member;
+  loading = ours .loading;
 }
 
 -- a made-up depth: one too many
@@ -70,6 +74,7 @@ deep = record {
   question = ours .question;
   context = ours .context;
   member = ours .member;
+  loading = ours .loading;
 }
 
 pub record Refuted : Type 0 where
