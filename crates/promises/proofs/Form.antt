@@ -17,7 +17,7 @@ use Rattle.promises.proofs.InOrder.{in-order-from, in-order-is, in-orde
 use Rattle.promises.proofs.Opening.{judge-none}
 use Rattle.promises.proofs.Refusals.{add-keeps}
 use Rattle.promises.specs.Calls.{ours}
-use Rattle.promises.specs.Made.{HoldsExactly, Made, SameMembers, added, asked, contexted, inOrder, loaded, opened, putIn, refused, shown}
+use Rattle.promises.specs.Made.{HoldsExactly, Made, SameMembers, added, asked, contexted, headed, inOrder, lined, loaded, opened, putIn, refused, shown}
 use Rattle.replies.specs.Replies.{numberOf}
 use Rattle.replies.specs.declared.Reply.{Reply}
 use Rattle.replies.specs.declared.Reply.the-variants.{Already, Counts, Done, Full, Shape}
@@ -273,6 +273,8 @@ module _ {A M : ℕ} where
   made-form (asked {H = H} n E m e) = subst (Form A M H) e (made-form m)
   made-form (contexted {H = H} E out m e) = subst (Form A M H) e (made-form m)
   made-form (shown {H = H} n place m e) = subst (Form A M H) e (made-form m)
+  made-form (lined {H = H} n out m e) = subst (Form A M H) e (made-form m)
+  made-form (headed {H = H} out m e) = subst (Form A M H) e (made-form m)
 
   -- a made store holds exactly what was put in
   pub made-holds : {H : List Justification} {s : Store} → Made ours A M H s → HoldsExactly A M H s

@@ -37,6 +37,8 @@ one-store C e = record {
   question = λ n E. ap (λ (x : Store). C .question x n E) e;
   context = λ E out. ap (λ (x : Store). C .context x E out) e;
   member = λ n place. ap (λ (x : Store). C .member x n place) e;
+  line = λ n out. ap (λ (x : Store). C .line x n out) e;
+  heading = λ out. ap (λ (x : Store). C .heading x out) e;
   store = e;
 }
 

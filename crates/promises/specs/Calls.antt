@@ -7,11 +7,21 @@ use Rattle.asking.specs.declared.Asked.{Asked}
 use Rattle.asking.specs.declared.Shown.{Shown}
 use Rattle.casefile.specs.Load.{loadOf}
 use Rattle.casefile.specs.declared.Loaded.{Loaded}
+use Rattle.lines.specs.Lines.{Wrote, caseOf, lineOf}
+use Rattle.lines.specs.declared.Listed.{Listed}
 use Rattle.store.specs.Calls.{addOf, answer, openOf}
 use Rattle.store.specs.declared.Outcome.{Outcome}
 use Rattle.store.specs.declared.Store.{Store}
 
--- each call takes the store by value and hands one back; context also says what it leaves in the lent bytes
+-- what a call that writes a line leaves: its answer, with the store in it, and the lent bytes
+pub record Line : Type 0 where
+  pub listed : Listed
+  pub bytes : List ℕ
+
+abbrev pub handing : Store → Wrote → Line
+handing s w = record { listed = record { answer = w .answer; store = s }; bytes = w .bytes }
+
+-- each call takes the store by value and hands one back; those that write also say what they leave in the lent bytes
 pub record Calls : Type 0 where
   pub opening : ℕ → ℕ → Outcome
   pub adding : Store → ℕ → List ℕ → Outcome
@@ -19,8 +29,11 @@ pub record Calls : Type 0 where
   pub context : Store → ℕ → List ℕ → Left
   pub member : Store → ℕ → ℕ → Shown
   pub loading : List ℕ → Loaded
+  -- the text line of a number, and the first line of a listing
+  pub line : Store → ℕ → List ℕ → Line
+  pub heading : Store → List ℕ → Line
 
--- ours: what the contracts of open, add, question, context, member and load say of every answer
+-- ours: what the contracts of the product's calls say of every answer
 abbrev pub ours : Calls
 ours = record {
   opening = openOf;
@@ -29,4 +42,6 @@ ours = record {
   context = λ s E out. left (answer (contextReply s E (length out)) s) (contextBytes s E out);
   member = λ s n place. record { answer = memberOf s n place; store = s };
   loading = loadOf;
+  line = λ s n out. handing s (lineOf s n out);
+  heading = λ s out. handing s (caseOf s out);
 }

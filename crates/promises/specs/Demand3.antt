@@ -12,7 +12,7 @@ use Rattle.store.specs.Reading.{labelHeld, nogoodsHeld}
 use Rattle.store.specs.declared.Store.{Store}
 use Rattle.theory.specs.Stages.{Justification}
 
--- every label, the nogoods, the depth and the answer to every next call is the same in both, refusals included
+-- every label, the nogoods, the depth, every line and the answer to every next call is the same in both, refusals included
 pub record Same (C : Calls) (s t : Store) : Type 0 where
   pub label : (n : ℕ) → labelHeld (s .lists) n ≡ labelHeld (t .lists) n
   pub nogoods : nogoodsHeld (s .lists) ≡ nogoodsHeld (t .lists)
@@ -21,6 +21,8 @@ pub record Same (C : Calls) (s t : Store) : Type 0 where
   pub question : (n E : ℕ) → C .question s n E ≡ C .question t n E
   pub context : (E : ℕ) (out : List ℕ) → C .context s E out ≡ C .context t E out
   pub member : (n place : ℕ) → C .member s n place ≡ C .member t n place
+  pub line : (n : ℕ) (out : List ℕ) → C .line s n out ≡ C .line t n out
+  pub heading : (out : List ℕ) → C .heading s out ≡ C .heading t out
   -- they are one store, so whatever is made of them is the same
   pub store : s ≡ t
 

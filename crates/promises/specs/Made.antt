@@ -36,6 +36,8 @@ pub data Made (C : Calls) (A M : ℕ) : List Justification → Store → Type 0 
   asked : {H : List Justification} {s t : Store} (n E : ℕ) → Made C A M H s → C .question s n E .store ≡ t → Made C A M H t
   contexted : {H : List Justification} {s t : Store} (E : ℕ) (out : List ℕ) → Made C A M H s → C .context s E out .outcome .store ≡ t → Made C A M H t
   shown : {H : List Justification} {s t : Store} (n place : ℕ) → Made C A M H s → C .member s n place .store ≡ t → Made C A M H t
+  lined : {H : List Justification} {s t : Store} (n : ℕ) (out : List ℕ) → Made C A M H s → C .line s n out .listed .store ≡ t → Made C A M H t
+  headed : {H : List Justification} {s t : Store} (out : List ℕ) → Made C A M H s → C .heading s out .listed .store ≡ t → Made C A M H t
 
 -- the same members, however often and in whatever order
 abbrev pub SameMembers : List Justification → List Justification → Type 0

@@ -4,7 +4,8 @@ use lib.Dec.{eqb}
 use Rattle.asking.specs.Asking.{left}
 use Rattle.asking.specs.declared.Answer.the-variants.{Refused, Unsupported}
 use Rattle.asking.specs.declared.Found.the-variants.{Not}
-use Rattle.promises.specs.Calls.{Calls, ours}
+use Rattle.lines.specs.Lines.{kept}
+use Rattle.promises.specs.Calls.{Calls, handing, ours}
 use Rattle.promises.specs.Demand2.{Demand2}
 use Rattle.replies.specs.declared.Reply.the-variants.{Counts, Done, Ends, Shape}
 use Rattle.stages.specs.declared.Lists.{Lists}
@@ -22,6 +23,8 @@ refusing = record {
   context = λ s E out. left (answer Shape s) out;
   member = λ s n place. record { answer = Not Shape; store = s };
   loading = λ bytes. record { reply = Ends; «record» = 0; store = noStore };
+  line = λ s n out. handing s (kept Shape out);
+  heading = λ s out. handing s (kept Shape out);
 }
 
 -- calls every set unsupported
@@ -33,6 +36,8 @@ denying = record {
   context = ours .context;
   member = ours .member;
   loading = ours .loading;
+  line = ours .line;
+  heading = ours .heading;
 }
 
 -- adds nothing and reports 0
@@ -44,6 +49,8 @@ idle = record {
   context = ours .context;
   member = ours .member;
   loading = ours .loading;
+  line = ours .line;
+  heading = ours .heading;
 }
 
 -- does all stages in the first add and none later: the lists stay
@@ -58,6 +65,8 @@ once = record {
   context = ours .context;
   member = ours .member;
   loading = ours .loading;
+  line = ours .line;
+  heading = ours .heading;
 }
 
 -- a made-up depth: one too many
@@ -75,6 +84,8 @@ deep = record {
   context = ours .context;
   member = ours .member;
   loading = ours .loading;
+  line = ours .line;
+  heading = ours .heading;
 }
 
 pub record Refuted : Type 0 where
