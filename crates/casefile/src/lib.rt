@@ -80,7 +80,7 @@ fn records(bytes: &[u8], from: usize, assumptions: u8, claims: u8, count: u32) -
 }
 
 // What a case file says.
-pub fn parse(bytes: &[u8]) -> Parsed
+fn parse(bytes: &[u8]) -> Parsed
     ensures { λ r. ⌜ Parses (now (bytes .entry)) r ⌝ }
 {
     match items::header(bytes) {

@@ -9,6 +9,10 @@ fn main() {
         printing::refused(Reply::Long, 0);
         return;
     }
+    if !printing::at_end() {
+        printing::complain(b"list: the input could not be read to its end\n");
+        return;
+    }
     let out = casefile::load(&bytes[..got]);
     let reply = out.reply;
     if replies::number(reply) != 0 {

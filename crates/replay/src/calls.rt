@@ -1,35 +1,37 @@
 // One call each: its fields read, the call made, its reply printed.
-use crate::sets_of;
 use asking::Answer;
 use asking::Found;
 use lines::Written;
-use printing::count;
+use printing::decimal;
 use printing::say;
 use replies::Reply;
 use script::Read;
 use store::Store;
 
+// Room for the fields of one line: of 65,536 bytes every second is a space at least.
+const MOST: usize = 32769;
+
 // What a line that is no call prints.
 fn bad(number: u32) {
     say(b"bad line ");
-    count(number);
+    decimal(number);
     say(b"\n");
 }
 
 // A refusal, and the number that it names.
 fn refused(reply: Reply) {
     say(b"refused ");
-    count(replies::number(reply) as u32);
+    decimal(replies::number(reply) as u32);
     if let Reply::Label(n) = reply {
         say(b" ");
-        count(n as u32);
+        decimal(n as u32);
     }
     say(b"\n");
 }
 
 // open A M
 pub fn open(rest: &[u8], number: u32, store: Store) -> Store {
-    let mut values = [0u32; 32769];
+    let mut values = [0u32; MOST];
     let read = script::numbers(rest, 0, &mut values);
     let Read::Count(n) = read else {
         bad(number);
@@ -51,26 +53,26 @@ pub fn open(rest: &[u8], number: u32, store: Store) -> Store {
 
 // load XX ..
 pub fn load(rest: &[u8], number: u32, store: Store) -> Store {
-    let mut bytes = [0u8; 32769];
+    let mut bytes = [0u8; MOST];
     let read = script::bytes(rest, 0, &mut bytes);
     let Read::Count(n) = read else {
         bad(number);
         return store;
     };
     if 4096 < n {
-        say(b"refused 14 0\n");
+        printing::refused(Reply::Long, 0);
         return store;
     }
     let out = casefile::load(&bytes[..n]);
     let reply = out.reply;
     if replies::number(reply) != 0 {
         say(b"refused ");
-        count(replies::number(reply) as u32);
+        decimal(replies::number(reply) as u32);
         say(b" ");
-        count(out.record);
+        decimal(out.record);
         if let Reply::Label(named) = reply {
             say(b" ");
-            count(named as u32);
+            decimal(named as u32);
         }
         say(b"\n");
         return store;
@@ -81,7 +83,7 @@ pub fn load(rest: &[u8], number: u32, store: Store) -> Store {
 
 // add C S..
 pub fn add(rest: &[u8], number: u32, store: Store) -> Store {
-    let mut values = [0u32; 32769];
+    let mut values = [0u32; MOST];
     let read = script::numbers(rest, 0, &mut values);
     let Read::Count(n) = read else {
         bad(number);
@@ -91,7 +93,7 @@ pub fn add(rest: &[u8], number: u32, store: Store) -> Store {
         bad(number);
         return store;
     }
-    if 32769 < n {
+    if MOST < n {
         return store;
     }
     let out = store.add(values[0], &values[1..n]);
@@ -111,15 +113,15 @@ pub fn add(rest: &[u8], number: u32, store: Store) -> Store {
 
 // ask N K..
 fn ask(n: u32, set: &[u32], number: u32, store: Store) {
-    if sets_of::has_zero(set) {
+    if script::has_zero(set) {
         bad(number);
         return;
     }
-    if sets_of::has_above(set) {
+    if script::has_above(set) {
         refused(Reply::Number);
         return;
     }
-    let out = asking::question(store, n, sets_of::set_of(set));
+    let out = asking::question(store, n, script::set_of(set));
     let answer = out.answer;
     match answer {
         Answer::Inconsistent => say(b"inconsistent\n"),
@@ -136,7 +138,7 @@ fn values(bytes: [u8; 129], n: usize) {
             if 0 < i {
                 say(b" ");
             }
-            count(bytes[i] as u32);
+            decimal(bytes[i] as u32);
         }
     }
     say(b"\n");
@@ -144,16 +146,16 @@ fn values(bytes: [u8; 129], n: usize) {
 
 // context K..
 fn context(set: &[u32], number: u32, store: Store) {
-    if sets_of::has_zero(set) {
+    if script::has_zero(set) {
         bad(number);
         return;
     }
-    if sets_of::has_above(set) {
+    if script::has_above(set) {
         refused(Reply::Number);
         return;
     }
     let mut bytes = [0u8; 129];
-    let out = asking::context(store, sets_of::set_of(set), &mut bytes);
+    let out = asking::context(store, script::set_of(set), &mut bytes);
     let reply = out.reply;
     if replies::number(reply) != 0 {
         refused(reply);
@@ -193,13 +195,13 @@ fn line(n: u32, store: Store) {
 
 // The calls that read.
 pub fn read(word: &[u8], rest: &[u8], number: u32, store: Store) {
-    let mut fields = [0u32; 32769];
+    let mut fields = [0u32; MOST];
     let read = script::numbers(rest, 0, &mut fields);
     let Read::Count(n) = read else {
         bad(number);
         return;
     };
-    if 32769 < n {
+    if MOST < n {
         return;
     }
     if script::same(word, b"context") {

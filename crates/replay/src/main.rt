@@ -1,6 +1,5 @@
 // Calls from a script on standard input, their replies to standard output.
 mod calls;
-mod sets_of;
 
 use libc::STDIN_FILENO;
 use store::Store;
@@ -57,6 +56,10 @@ fn main() {
     let got = io::read_full(STDIN_FILENO, &mut bytes);
     if 65536 < got {
         printing::say(b"too long\n");
+        return;
+    }
+    if !printing::at_end() {
+        printing::complain(b"replay: the input could not be read to its end\n");
         return;
     }
     replayed(&bytes[..got]);

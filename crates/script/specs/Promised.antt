@@ -3,13 +3,13 @@ use mathlib.Core.Bool.{Bool}
 use mathlib.Core.List.{List}
 use mathlib.Core.Path.{_≡_}
 use Prim.Native.Nat.{ℕ}
-use lib.Dec.{eqb}
+use lib.Dec.{eqb, ltb}
 use lib.ListN.{drop}
-use Rattle.script.specs.Script.{fieldAt, fieldsOf, hexByte, lineEnd, numeral, numeralOf, readInto}
+use Rattle.script.specs.Script.{fieldAt, fieldsOf, hexByte, lineEnd, numeral, numeralOf, readInto, takenAll}
 use Rattle.script.specs.declared.Numeral.{Numeral}
 use Rattle.script.specs.declared.Read.{Read}
 use Rattle.script.specs.declared.Span.{Span}
-use Rattle.theory.specs.Lists.{alike}
+use Rattle.theory.specs.Lists.{alike, someOf}
 
 -- the end of the line from a place on
 abbrev pub IsLineEnd : List ℕ → ℕ → ℕ → Type 0
@@ -38,3 +38,15 @@ AreBytes line from entry exit r = (r, exit) ≡ readInto hexByte (fieldsOf (drop
 -- whether a field is a word
 abbrev pub IsSame : List ℕ → List ℕ → Bool → Type 0
 IsSame field word r = r ≡ alike eqb field word
+
+-- whether 0 is among the numbers
+abbrev pub HasZero : List ℕ → Bool → Type 0
+HasZero values r = r ≡ someOf (eqb 0) values
+
+-- whether a number is above 32
+abbrev pub HasAbove : List ℕ → Bool → Type 0
+HasAbove values r = r ≡ someOf (ltb 32) values
+
+-- the set of the assumptions among the numbers
+abbrev pub IsSetOf : List ℕ → ℕ → Type 0
+IsSetOf values r = r ≡ takenAll 0 values

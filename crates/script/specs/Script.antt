@@ -11,6 +11,7 @@ use Rattle.script.specs.declared.Read.{Read}
 use Rattle.script.specs.declared.Read.the-variants.{Bad, Count}
 use Rattle.script.specs.declared.Span.{Span}
 use Rattle.theory.specs.Lists.{allOf, choose, those}
+use Rattle.theory.specs.Sets.{alone, union}
 use Rattle.theory.specs.Step.{more}
 
 -- ---- places
@@ -116,3 +117,14 @@ unfoldable pub readInto : (List ℕ → Option ℕ) → List (List ℕ) → List
 readInto reading fs out =
     let values : List ℕ = valuesOf reading fs in
     (choose (eqb (length values) (length fs) && leb (length fs) (length out)) (Count (length fs)) Bad, written values out)
+
+-- ---- a set by its assumptions
+
+-- E with assumption k; a number that no store has as an assumption is left out
+abbrev pub taken : ℕ → ℕ → ℕ
+taken E k = choose (between 1 32 k) (union E (alone k)) E
+
+-- the numbers of the list taken into E one after the other
+unfoldable pub takenAll : ℕ → List ℕ → ℕ
+takenAll E [] = E
+takenAll E (k ∷ l) = takenAll (taken E k) l

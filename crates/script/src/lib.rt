@@ -1,8 +1,8 @@
-// Scripts of commands: the lines of a script, the fields of a line, and the numbers that fields are.
+// Scripts of commands: the lines of a script, the fields of a line, the numbers that fields are, and the set that numbers make.
 ghost use mathlib.Core.Path.{_≡_};
 ghost use lib.Dec.{eqb};
-ghost use Rattle.script.specs.Promised.{AreBytes, AreNumbers, IsField, IsHex, IsLineEnd, IsNumber, IsSame};
-ghost use Rattle.script.specs.Script.{hexDigit, numeralOf, other, past};
+ghost use Rattle.script.specs.Promised.{AreBytes, AreNumbers, HasAbove, HasZero, IsField, IsHex, IsLineEnd, IsNumber, IsSame, IsSetOf};
+ghost use Rattle.script.specs.Script.{hexDigit, numeralOf, other, past, taken};
 
 // The place of a field's first byte, and the place after its last.
 pub struct Span {
@@ -70,7 +70,7 @@ pub fn field(line: &[u8], from: usize) -> Span
 }
 
 // A decimal number of at most 4294967295.
-pub fn number(field: &[u8]) -> Numeral
+fn number(field: &[u8]) -> Numeral
     ensures { λ r. ⌜ IsNumber (now (field .entry)) r ⌝ }
 {
     if field.len() == 0 {
@@ -109,7 +109,7 @@ fn digit(b: u8) -> Numeral
 }
 
 // The byte that two hex digits are.
-pub fn hex(field: &[u8]) -> Numeral
+fn hex(field: &[u8]) -> Numeral
     ensures { λ r. ⌜ IsHex (now (field .entry)) r ⌝ }
 {
     if field.len() != 2 {
@@ -189,4 +189,58 @@ pub fn same(field: &[u8], word: &[u8]) -> bool
         i += 1;
     }
     true
+}
+
+// Whether 0 is among the numbers.
+pub fn has_zero(values: &[u32]) -> bool
+    ensures { λ r. ⌜ HasZero (now (values .entry)) r ⌝ }
+{
+    let mut i = 0;
+    while i < values.len() {
+        if values[i] == 0 {
+            return true;
+        }
+        i += 1;
+    }
+    false
+}
+
+// Whether a number is above 32, and so above every A.
+pub fn has_above(values: &[u32]) -> bool
+    ensures { λ r. ⌜ HasAbove (now (values .entry)) r ⌝ }
+{
+    let mut i = 0;
+    while i < values.len() {
+        if 32 < values[i] {
+            return true;
+        }
+        i += 1;
+    }
+    false
+}
+
+// The set with assumption k; a number that no store has as an assumption is left out.
+fn with(set: u32, k: u32) -> u32
+    ensures { λ r. ⌜ r ≡ taken set k ⌝ }
+{
+    if k < 1 {
+        return set;
+    }
+    if 32 < k {
+        return set;
+    }
+    sets::union(set, sets::only(k))
+}
+
+// The set of the assumptions among the numbers.
+pub fn set_of(values: &[u32]) -> u32
+    ensures { λ r. ⌜ IsSetOf (now (values .entry)) r ⌝ }
+{
+    let mut set = 0;
+    let mut i = 0;
+    while i < values.len() {
+        set = with(set, values[i]);
+        i += 1;
+    }
+    set
 }

@@ -6,7 +6,7 @@ ghost use Rattle.text.specs.Texts.{braced, digits, entered, field, headi
 ghost use Rattle.text.specs.Writing.{Put, Room};
 
 // The decimal digits of n.
-pub fn number(n: u32, at: usize, out: &mut [u8]) -> usize
+fn number(n: u32, at: usize, out: &mut [u8]) -> usize
     requires { ⌜ Room (digits n) at (now out) ⌝ }
     ensures { λ r. ⌜ Put (digits n) at (now (out .entry)) (now (out .exit)) r ⌝ }
 {
@@ -20,7 +20,7 @@ pub fn number(n: u32, at: usize, out: &mut [u8]) -> usize
 }
 
 // A number after one space.
-pub fn field(n: u32, at: usize, out: &mut [u8]) -> usize
+fn field(n: u32, at: usize, out: &mut [u8]) -> usize
     requires { ⌜ Room (field n) at (now out) ⌝ }
     ensures { λ r. ⌜ Put (field n) at (now (out .entry)) (now (out .exit)) r ⌝ }
 {
@@ -72,7 +72,7 @@ pub fn braces(e: Set, at: usize, out: &mut [u8]) -> usize
 }
 
 // Each set of the list after one space.
-pub fn members(list: &[Set], at: usize, out: &mut [u8]) -> usize
+fn members(list: &[Set], at: usize, out: &mut [u8]) -> usize
     requires { ⌜ Room (spaced 32 (now list)) at (now out) ⌝ }
     ensures { λ r. ⌜ Put (spaced 32 (now (list .entry))) at (now (out .entry)) (now (out .exit)) r ⌝ }
 {

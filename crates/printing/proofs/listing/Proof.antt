@@ -1,5 +1,6 @@
-use borrow.Author.Needs.{needs}
+-- `printing::listing` is safe and ends. Assumes nothing.
 use Prim.Native.Nat.{_-_, _≤_}
+use borrow.Author.Needs.{needs}
 use Rattle.printing.proofs.listing.Statement.{statement}
 use Rattle.printing.proofs.listing.Tie as tie
 
@@ -21,6 +22,9 @@ slice-aggregate-written c = search needs
 written-requires : tie.Need-written-requires Inv-loop μ-loop
 written-requires c κs = search needs
 
+returns : tie.Need-returns Inv-loop μ-loop
+returns c = search needs
+
 cast-top : tie.Need-cast-top Inv-loop μ-loop
 cast-top c = search needs
 
@@ -39,6 +43,9 @@ loop-holds c = search needs
 line-requires : tie.Need-line-requires Inv-loop μ-loop
 line-requires c κs = search needs
 
+returns-2 : tie.Need-returns-2 Inv-loop μ-loop
+returns-2 c = search needs
+
 add-n : tie.Need-add-n Inv-loop μ-loop
 add-n c = search needs
 
@@ -48,8 +55,8 @@ loop-less c = search needs
 loop-again : tie.Need-loop-again Inv-loop μ-loop
 loop-again c = search needs
 
-returns : tie.Need-returns Inv-loop μ-loop
-returns c = search needs
+returns-3 : tie.Need-returns-3 Inv-loop μ-loop
+returns-3 c = search needs
 
 pub listing-spec : {M : Type 1} → statement M
 listing-spec =
@@ -61,13 +68,15 @@ listing-spec =
     case-line-requires
     slice-aggregate-written
     written-requires
+    returns
     cast-top
     cast-top-2
     add-top
     add-n-end
     loop-holds
     line-requires
+    returns-2
     add-n
     loop-less
     loop-again
-    returns)
+    returns-3)

@@ -1,6 +1,7 @@
-use lib.Seq.{length-take-le}
+-- `replay::calls::load` is safe and ends. Assumes nothing.
 use mathlib.Core.Path.{sym}
 use native.Mathlib.Omega.{arith}
+use lib.Seq.{length-take-le}
 use borrow.Author.Needs.{needs}
 use Rattle.replay.proofs.calls.load.Statement.{statement}
 use Rattle.replay.proofs.calls.load.Tie as tie
@@ -23,11 +24,8 @@ bad-requires c κs = search needs
 returns : tie.Need-returns
 returns c = search needs
 
-slice-aggregate-say : tie.Need-slice-aggregate-say
-slice-aggregate-say c = search needs
-
-say-requires : tie.Need-say-requires
-say-requires c κs = search needs
+refused-requires : tie.Need-refused-requires
+refused-requires c κs = search needs
 
 returns-2 : tie.Need-returns-2
 returns-2 c = search needs
@@ -44,20 +42,32 @@ load-requires c κs = search needs
 number-requires : tie.Need-number-requires
 number-requires c κs = search needs
 
+slice-aggregate-say : tie.Need-slice-aggregate-say
+slice-aggregate-say c = search needs
+
+say-requires : tie.Need-say-requires
+say-requires c κs = search needs
+
+number-requires-2 : tie.Need-number-requires-2
+number-requires-2 c κs = search needs
+
+cast-decimal : tie.Need-cast-decimal
+cast-decimal c = search needs
+
+decimal-requires : tie.Need-decimal-requires
+decimal-requires c κs = search needs
+
 slice-aggregate-say-2 : tie.Need-slice-aggregate-say-2
 slice-aggregate-say-2 c = search needs
 
 say-requires-2 : tie.Need-say-requires-2
 say-requires-2 c κs = search needs
 
-number-requires-2 : tie.Need-number-requires-2
-number-requires-2 c κs = search needs
+decimal-requires-2 : tie.Need-decimal-requires-2
+decimal-requires-2 c κs = search needs
 
-cast-count : tie.Need-cast-count
-cast-count c = search needs
-
-count-requires : tie.Need-count-requires
-count-requires c κs = search needs
+enum-known-reply : tie.Need-enum-known-reply
+enum-known-reply c = search needs
 
 slice-aggregate-say-3 : tie.Need-slice-aggregate-say-3
 slice-aggregate-say-3 c = search needs
@@ -65,11 +75,11 @@ slice-aggregate-say-3 c = search needs
 say-requires-3 : tie.Need-say-requires-3
 say-requires-3 c κs = search needs
 
-count-requires-2 : tie.Need-count-requires-2
-count-requires-2 c κs = search needs
+cast-decimal-2 : tie.Need-cast-decimal-2
+cast-decimal-2 c = search needs
 
-enum-known-reply : tie.Need-enum-known-reply
-enum-known-reply c = search needs
+decimal-requires-3 : tie.Need-decimal-requires-3
+decimal-requires-3 c κs = search needs
 
 slice-aggregate-say-4 : tie.Need-slice-aggregate-say-4
 slice-aggregate-say-4 c = search needs
@@ -77,26 +87,14 @@ slice-aggregate-say-4 c = search needs
 say-requires-4 : tie.Need-say-requires-4
 say-requires-4 c κs = search needs
 
-cast-count-2 : tie.Need-cast-count-2
-cast-count-2 c = search needs
-
-count-requires-3 : tie.Need-count-requires-3
-count-requires-3 c κs = search needs
+returns-3 : tie.Need-returns-3
+returns-3 c = search needs
 
 slice-aggregate-say-5 : tie.Need-slice-aggregate-say-5
 slice-aggregate-say-5 c = search needs
 
 say-requires-5 : tie.Need-say-requires-5
 say-requires-5 c κs = search needs
-
-returns-3 : tie.Need-returns-3
-returns-3 c = search needs
-
-slice-aggregate-say-6 : tie.Need-slice-aggregate-say-6
-slice-aggregate-say-6 c = search needs
-
-say-requires-6 : tie.Need-say-requires-6
-say-requires-6 c κs = search needs
 
 returns-4 : tie.Need-returns-4
 returns-4 c = search needs
@@ -111,29 +109,28 @@ load-spec =
     enum-told
     bad-requires
     returns
-    slice-aggregate-say
-    say-requires
+    refused-requires
     returns-2
     array-share-prefix-bytes
     slice-aggregate-load
     load-requires
     number-requires
+    slice-aggregate-say
+    say-requires
+    number-requires-2
+    cast-decimal
+    decimal-requires
     slice-aggregate-say-2
     say-requires-2
-    number-requires-2
-    cast-count
-    count-requires
+    decimal-requires-2
+    enum-known-reply
     slice-aggregate-say-3
     say-requires-3
-    count-requires-2
-    enum-known-reply
+    cast-decimal-2
+    decimal-requires-3
     slice-aggregate-say-4
     say-requires-4
-    cast-count-2
-    count-requires-3
+    returns-3
     slice-aggregate-say-5
     say-requires-5
-    returns-3
-    slice-aggregate-say-6
-    say-requires-6
     returns-4)

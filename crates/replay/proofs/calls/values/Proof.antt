@@ -18,14 +18,14 @@ slice-aggregate-say c = search needs
 say-requires : tie.Need-say-requires Inv-loop μ-loop
 say-requires c κs = search needs
 
-array-read-count : tie.Need-array-read-count Inv-loop μ-loop
-array-read-count c = search needs
+array-read-decimal : tie.Need-array-read-decimal Inv-loop μ-loop
+array-read-decimal c = search needs
 
-cast-count : tie.Need-cast-count Inv-loop μ-loop
-cast-count c = search needs
+cast-decimal : tie.Need-cast-decimal Inv-loop μ-loop
+cast-decimal c = search needs
 
-count-requires : tie.Need-count-requires Inv-loop μ-loop
-count-requires c κs = search needs
+decimal-requires : tie.Need-decimal-requires Inv-loop μ-loop
+decimal-requires c κs = search needs
 
 add-i : tie.Need-add-i Inv-loop μ-loop
 add-i c = search needs
@@ -54,9 +54,9 @@ values-spec =
     loop-holds
     slice-aggregate-say
     say-requires
-    array-read-count
-    cast-count
-    count-requires
+    array-read-decimal
+    cast-decimal
+    decimal-requires
     add-i
     loop-less
     loop-again
