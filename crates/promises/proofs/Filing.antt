@@ -41,7 +41,7 @@ use Rattle.theory.specs.Stages.{Justification}
 second-one : (k b : ℕ) (l : List ℕ) (next : Next ℕ) → ((x : ℕ) (rest : List ℕ) → One (next x rest)) → One (SecondRows k b l next)
 unfolding SecondRows
 second-one k b [] next o = λ x y p q. p ∙ sym q
-second-one k b (c ∷ l) next o = given-one _ (12, k) _ (o (b - 128 + 128 * c) l)
+second-one k b (c ∷ l) next o = given-one _ _ _ (o (b - 128 + 128 * c) l)
 
 number-one : (k : ℕ) (l : List ℕ) (next : Next ℕ) → ((x : ℕ) (rest : List ℕ) → One (next x rest)) → One (NumberRows k l next)
 unfolding NumberRows
@@ -58,14 +58,14 @@ numbers-one k (suc n) l next o = number-one k l _ (λ x l₁. numbers-one k n l�
 
 records-one : (A N n r : ℕ) (H : List Justification) (l : List ℕ) → One (RecordRows A N n r H l)
 unfolding RecordRows
-records-one A N zero r H l = given-one _ (13, r) _ (λ x y p q. ap₂ (λ (i k : ℕ). (i, k)) (stages-one A N H (x .0) (y .0) (p .0) (q .0)) (p .1 ∙ sym (q .1)))
+records-one A N zero r H l = given-one _ _ _ (λ x y p q. ap₂ (λ (i k : ℕ). (i, k)) (stages-one A N H (x .0) (y .0) (p .0) (q .0)) (p .1 ∙ sym (q .1)))
 records-one A N (suc n) r H l =
     number-one (suc r) l _ (λ c l₁.
     number-one (suc r) l₁ _ (λ k l₂.
-    given-one _ (6, suc r) _
+    given-one _ _ _
     (numbers-one (suc r) k l₂ _ (λ s l₃.
-    given-one _ (4, suc r) _
-    (given-one _ (5, suc r) _
+    given-one _ _ _
+    (given-one _ _ _
     (records-one A N n (suc r) (justificationOf N c s ∷ H) l₃))))))
 
 pub load-one : (bytes : List ℕ) → One (LoadRows bytes)
@@ -73,8 +73,8 @@ load-one bytes =
     number-one 0 bytes _ (λ A l₁.
     number-one 0 l₁ _ (λ M l₂.
     number-one 0 l₂ _ (λ J l₃.
-    given-one _ (3, 0) _
-    (given-one _ (7, 0) _
+    given-one _ _ _
+    (given-one _ _ _
     (records-one A (A + M) J 0 [] l₃)))))
 
 -- ---- what is taken from the bytes

@@ -110,7 +110,7 @@ module _ (N c : ℕ) (l : List ℕ) {X : Type 0} (f : Reply → X) (next : X →
 
 module _ (A N : ℕ) (J : List Justification) where
   pub stages-one : One (StageRows A N J)
-  stages-one = given-one _ 9 _ (given-one _ 8 _ (given-one _ 10 noRow no-row-one))
+  stages-one = given-one _ _ _ (given-one _ _ _ (given-one _ _ _ no-row-one))
 
   module _ (w : Within N J) (low : N ≤ 128) where
     -- row 10 never holds: nothing new follows after as many stages as there are different consequents

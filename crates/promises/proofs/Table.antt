@@ -137,7 +137,7 @@ module _ (s : Store) (c : ℕ) (l : List ℕ) where
       (λ (q₃ : someOf (eqb 0) l ≡ false). join-names (not-false (rightShape s) p) (rw (q₁, q₂, q₃))))))
 
   add-one : One (AddRows s c l)
-  add-one = given-one _ 2 _ (given-one _ 6 _ (given-one _ 4 _ (given-one _ 5 _ (given-one _ 1 _ (given-one _ 7 _ (stages-one A N (enlarged s c l)))))))
+  add-one = given-one _ _ _ (given-one _ _ _ (given-one _ _ _ (given-one _ _ _ (given-one _ _ _ (given-one _ _ _ (stages-one A N (enlarged s c l)))))))
 
 -- ---- the calls that read
 
@@ -199,13 +199,13 @@ module _ (s : Store) where
 
 pub reply-table : ReplyTable ours
 reply-table = record {
-  opening = λ A M. exactly (OpenRows A M) (replied (openOf A M)) (given-one _ 3 noRow no-row-one) (open-told A M);
+  opening = λ A M. exactly (OpenRows A M) (replied (openOf A M)) (given-one _ _ _ no-row-one) (open-told A M);
   adding = λ s c l. exactly (AddRows s c l) (replied (addOf s c l)) (add-one s c l) (add-told s c l);
-  question = λ s n E. exactly (QuestionRows s n E) (answerNumber (questionOf s n E)) (given-one _ 2 _ (given-one _ 4 noRow no-row-one)) (question-told s n E);
-  context = λ s E out. exactly (ContextRows s E out) (numberOf (contextReply s E (length out))) (given-one _ 2 _ (given-one _ 4 _ (given-one _ 15 noRow no-row-one))) (context-told s E out);
-  member = λ s n place. exactly (MemberRows s n place) (memberNumber (memberOf s n place)) (given-one _ 2 _ (given-one _ 4 _ (given-one _ 16 noRow no-row-one))) (member-told s n place);
-  line = λ s n out. exactly (LineRows s n out) (wrote (lineOf s n out)) (given-one _ 2 _ (given-one _ 4 _ (given-one _ 15 noRow no-row-one))) (line-told s n out);
-  heading = λ s out. exactly (HeadingRows s out) (wrote (caseOf s out)) (given-one _ 2 _ (given-one _ 15 noRow no-row-one)) (heading-told s out);
+  question = λ s n E. exactly (QuestionRows s n E) (answerNumber (questionOf s n E)) (given-one _ _ _ (given-one _ _ _ no-row-one)) (question-told s n E);
+  context = λ s E out. exactly (ContextRows s E out) (numberOf (contextReply s E (length out))) (given-one _ _ _ (given-one _ _ _ (given-one _ _ _ no-row-one))) (context-told s E out);
+  member = λ s n place. exactly (MemberRows s n place) (memberNumber (memberOf s n place)) (given-one _ _ _ (given-one _ _ _ (given-one _ _ _ no-row-one))) (member-told s n place);
+  line = λ s n out. exactly (LineRows s n out) (wrote (lineOf s n out)) (given-one _ _ _ (given-one _ _ _ (given-one _ _ _ no-row-one))) (line-told s n out);
+  heading = λ s out. exactly (HeadingRows s out) (wrote (caseOf s out)) (given-one _ _ _ (given-one _ _ _ no-row-one)) (heading-told s out);
   loading = λ bytes. exactly (LoadRows bytes) (reportOf (loadOf bytes)) (load-one bytes) (load-told bytes);
   adding-names = add-names;
   loading-names = load-names;

@@ -106,10 +106,7 @@ LineRows s n out =
     noRow))
 
 abbrev pub HeadingRows : Store → List ℕ → ℕ → Type 0
-HeadingRows s out =
-    given (rightShape s ≡ false) 2
-    (given (length out < length (caseText s)) 15
-    noRow)
+HeadingRows s out = given (rightShape s ≡ false) 2 (given (length out < length (caseText s)) 15 noRow)
 
 -- ---- load
 
