@@ -1,7 +1,7 @@
 -- The answers of question, context and member on a made store, over what was put in. Assumes nothing.
 use mathlib.Core.Bool.{Bool, false, true}
 use mathlib.Core.List.{List, _++_}
-use mathlib.Core.Logic.{_↔_, _⊎_, inl, inr, ⊎-elim}
+use mathlib.Core.Logic.{_↔_}
 use mathlib.Core.Path.{_∙_, _≡_, ap, ap₂, refl, subst, sym}
 use Prim.Native.Nat.{_+_, _<_, _^_, _≤_, suc, zero, ℕ}
 use native.Mathlib.Omega.{arith}
@@ -11,14 +11,12 @@ use borrow.Author.Tests.{le-ltb, lt-ltb}
 use Rattle.asking.specs.Asking.{byteOf, contextBytes, contextOf, contextReply, left, memberAt, memberOf, questionOf, standing}
 use Rattle.asking.specs.declared.Answer.{Answer}
 use Rattle.asking.specs.declared.Answer.the-variants.{Inconsistent, Refused, Supported, Unsupported}
-use Rattle.asking.specs.declared.Found.the-variants.{Not}
 use Rattle.promises.proofs.Form.{Form, form-a, form-m}
-use Rattle.promises.proofs.Refusals.{bad-context, bad-member, bad-question, too-short}
 use Rattle.promises.proofs.Right.{form-right}
 use Rattle.promises.proofs.Telling.{form-carries, form-contradicts, form-label, form-nogoods}
 use Rattle.promises.specs.Demand2.{ListsSmallest, QuestionSays, atPlace, byteBy, listedFor}
 use Rattle.replies.specs.declared.Reply.{Reply}
-use Rattle.replies.specs.declared.Reply.the-variants.{Done, Number, Short}
+use Rattle.replies.specs.declared.Reply.the-variants.{Done}
 use Rattle.stages.proofs.Tables.{table-same}
 use Rattle.store.specs.Calls.{answer, isDone}
 use Rattle.store.specs.Reading.{labelHeld, listHeld, nogoodsHeld}
@@ -86,10 +84,6 @@ module _ {A M : ℕ} {H : List Justification} {s : Store} (f : Form A M H s) whe
   unfolding inRange
   set-in E h = ap (λ (a : ℕ). ltb E (2 ^ a)) (form-a f) ∙ lt-ltb E (2 ^ A) h
 
-  -- what holds of 2 ^ A holds of it as the store has it
-  width : (P : ℕ → Type 0) → P (2 ^ A) → P (2 ^ (s .held .assumptions))
-  width P h = subst (λ (a : ℕ). P (2 ^ a)) (sym (form-a f)) h
-
   number-in : (n : ℕ) → n ≤ A + M → ltb (top (s .held)) n ≡ false
   number-in n h = ap (λ (k : ℕ). ltb k n) tops ∙ le-ltb (A + M) n h
 
@@ -101,9 +95,6 @@ module _ {A M : ℕ} {H : List Justification} {s : Store} (f : Form A M H s) whe
 
   pub form-question : (n E : ℕ) → n ≤ A + M → E < 2 ^ A → (a : Answer) → (questionOf s n E ≡ a) ↔ QuestionSays H n E a
   form-question n E l h a = let r = answer-says H n E a in let e = question-by n E l h in (λ q. r .0 (sym e ∙ q), λ q. e ∙ r .1 q)
-
-  pub form-question-number : (n E : ℕ) → (A + M < n) ⊎ (2 ^ A ≤ E) → questionOf s n E ≡ Refused Number
-  form-question-number n E h = bad-question s (form-right f) n E (⊎-elim (λ p. inl (omega (arith, tops))) (λ p. inr (width (λ (w : ℕ). w ≤ E) p)) h)
 
   -- ---- context
 
@@ -125,12 +116,6 @@ module _ {A M : ℕ} {H : List Justification} {s : Store} (f : Form A M H s) whe
       (ap (λ (r : Reply). choose (isDone r) (contextOf s E ++ drop (top (s .held) + 1) out) out) (done-at E out h k)
       ∙ ap₂ (λ (l : List ℕ) (n : ℕ). l ++ drop (n + 1) out) (context-of E h) tops)
 
-  pub form-context-number : (E room : ℕ) → 2 ^ A ≤ E → contextReply s E room ≡ Number
-  form-context-number E room h = bad-context s (form-right f) E room (width (λ (w : ℕ). w ≤ E) h)
-
-  pub form-context-short : (E room : ℕ) → E < 2 ^ A → room < A + M + 1 → contextReply s E room ≡ Short
-  form-context-short E room h k = too-short s (form-right f) E room (width (λ (w : ℕ). E < w) h) (omega (arith, tops))
-
   -- ---- member
 
   list-smallest : (n : ℕ) → n ≤ A + M → ListsSmallest A (listedFor H n) (listHeld (s .lists) n)
@@ -140,6 +125,3 @@ module _ {A M : ℕ} {H : List Justification} {s : Store} (f : Form A M H s) whe
   pub form-member : (n : ℕ) → n ≤ A + M → (l : List ℕ) × ListsSmallest A (listedFor H n) l × ((place : ℕ) → memberOf s n place ≡ atPlace l place)
   unfolding memberOf memberAt
   form-member n h = (listHeld (s .lists) n, list-smallest n h, λ place. rw (form-right f, number-in n h))
-
-  pub form-member-number : (n place : ℕ) → A + M < n → memberOf s n place ≡ Not Number
-  form-member-number n place h = bad-member s (form-right f) n place (omega (arith, tops))

@@ -15,7 +15,7 @@ use Rattle.casefile.specs.Load.{loadOf, loadedOf, recorded}
 use Rattle.casefile.specs.declared.Loaded.{Loaded}
 use Rattle.promises.proofs.InOrder.{in-order-from, in-order-is, in-order-members, in-order-new, in-order-ordered}
 use Rattle.promises.proofs.Opening.{judge-none}
-use Rattle.promises.proofs.Refusals.{add-keeps}
+use Rattle.promises.proofs.Keeping.{add-keeps}
 use Rattle.promises.specs.Calls.{ours}
 use Rattle.promises.specs.Made.{HoldsExactly, Made, SameMembers, added, asked, contexted, headed, inOrder, lined, loaded, opened, putIn, refused, shown}
 use Rattle.replies.specs.Replies.{numberOf}
@@ -218,46 +218,49 @@ map-mem : {X Y : Type 0} (g : X → Y) {y : Y} (l : List X) → Mem y (map g l) 
 map-mem g [] m = elim m [ ]
 map-mem g (x ∷ l) m = ⊎-elim (λ e. (x, here refl, e)) (λ n. let r = map-mem g l n in (r .0, there (r .1), r .2)) (List·Memᴰ·cases-cons m)
 
-module _ (bytes : List ℕ) (c : Case) (spells : caseOf bytes ≡ whole c) where
+-- a case without fault: what is held of it
+module _ (c : Case) (sound : Sound c) where
   abbrev A′ : ℕ
   A′ = c .header .assumptions
 
   abbrev M′ : ℕ
   M′ = c .header .claims
 
-  pub case-sound : Sound c
-  unfolding Checked
-  case-sound = subst Checked spells (case-checked bytes)
-
   pub case-members : SameMembers (heldBy c) (putIn c)
   case-members j = (
-    λ m. let r = held-only c case-sound m in subst (λ (x : Justification). Mem x (putIn c)) (sym (r .2)) (mem-map (meant (A′ + M′)) (r .1)),
-    λ m. let r = map-mem (meant (A′ + M′)) (c .items) m in subst (λ (x : Justification). Mem x (heldBy c)) (sym (r .2)) (held-item c case-sound (r .1)),
+    λ m. let r = held-only c sound m in subst (λ (x : Justification). Mem x (putIn c)) (sym (r .2)) (mem-map (meant (A′ + M′)) (r .1)),
+    λ m. let r = map-mem (meant (A′ + M′)) (c .items) m in subst (λ (x : Justification). Mem x (heldBy c)) (sym (r .2)) (held-item c sound (r .1)),
   )
 
   pub case-ranged : (j : Justification) → Mem j (heldBy c) → Ranged (A′ + M′) j
   unfolding heldOf
-  case-ranged j m =
-      let sure = case-sure c case-sound in right-range (heldOf A′ M′ (heldBy c)) (sure .right) j (subst (Mem j) (sym (sure .said)) m)
+  case-ranged j m = let sure = case-sure c sound in right-range (heldOf A′ M′ (heldBy c)) (sure .right) j (subst (Mem j) (sym (sure .said)) m)
 
-  pub case-order : ordered (heldBy c) ≡ true
-  case-order = let sure = case-sure c case-sound in ap ordered (sym (sure .said)) ∙ right-elim (heldOf A′ M′ (heldBy c)) (sure .right) .order
+  case-order : ordered (heldBy c) ≡ true
+  case-order = let sure = case-sure c sound in ap ordered (sym (sure .said)) ∙ right-elim (heldOf A′ M′ (heldBy c)) (sure .right) .order
 
-  pub case-few : length (heldBy c) ≤ 256
+  case-few : length (heldBy c) ≤ 256
   unfolding heldOf
-  case-few = right-elim (heldOf A′ M′ (heldBy c)) (case-sure c case-sound .right) .few
+  case-few = right-elim (heldOf A′ M′ (heldBy c)) (case-sure c sound .right) .few
 
-  pub case-loaded : loadOf bytes ≡ recorded (c .header .records) (storeOf noStore A′ M′ (heldBy c))
+  case-form : {s : Store} → storeOf noStore A′ M′ (heldBy c) ≡ answer Done s → Form A′ M′ (putIn c) s
+  case-form {s} e = judged-form A′ M′ (heldBy c) (putIn c) s (sound .limited .assumptions) (sound .limited .claims) case-few case-ranged case-order case-members e
+
+-- the case that the bytes spell
+module _ (bytes : List ℕ) (c : Case) (spells : caseOf bytes ≡ whole c) where
+  pub case-sound : Sound c
+  unfolding Checked
+  case-sound = subst Checked spells (case-checked bytes)
+
+  pub case-loaded : loadOf bytes ≡ recorded (c .header .records) (storeOf noStore (c .header .assumptions) (c .header .claims) (heldBy c))
   unfolding loadOf
   case-loaded = ap loadedOf spells
 
-  load-form : {s : Store} → loadOf bytes .reply ≡ Done → loadOf bytes .store ≡ s → Form A′ M′ (putIn c) s
-  load-form {s} r k =
-      let o : Outcome = storeOf noStore A′ M′ (heldBy c) in
-      let p : o .reply ≡ Done = sym (ap (λ (x : Loaded). x .reply) case-loaded) ∙ r in
-      let q : o .store ≡ s = sym (ap (λ (x : Loaded). x .store) case-loaded) ∙ k in
-      judged-form A′ M′ (heldBy c) (putIn c) s (case-sound .limited .assumptions) (case-sound .limited .claims) case-few case-ranged case-order case-members
-      (ap₂ (λ (x : Reply) (t : Store). answer x t) p q)
+  load-form : {s : Store} → loadOf bytes .reply ≡ Done → loadOf bytes .store ≡ s → Form (c .header .assumptions) (c .header .claims) (putIn c) s
+  load-form r k =
+      let p = sym (ap (λ (x : Loaded). x .reply) case-loaded) ∙ r in
+      let q = sym (ap (λ (x : Loaded). x .store) case-loaded) ∙ k in
+      case-form c case-sound (ap₂ (λ (x : Reply) (t : Store). answer x t) p q)
 
 ap-form : {A A′ M M′ : ℕ} {H : List Justification} {s : Store} → A ≡ A′ → M ≡ M′ → Form A M H s → Form A′ M′ H s
 ap-form {A} {A′} {M} {M′} {H} {s} a m f = subst (λ (x : ℕ). Form A′ x H s) m (subst (λ (x : ℕ). Form x M H s) a f)

@@ -1,6 +1,6 @@
 pub mod InOrder
 pub mod Opening
-pub mod Refusals
+pub mod Keeping
 pub mod Form
 pub mod Right
 pub mod Sameness
@@ -9,6 +9,10 @@ pub mod Full
 pub mod Answers
 pub mod Adding
 pub mod Loading
+pub mod Rows
+pub mod Filing
+pub mod Table
+pub mod Refusals
 pub mod Truth
 pub mod Promises
 pub mod OneAnswer

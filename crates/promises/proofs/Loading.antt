@@ -4,8 +4,9 @@ use mathlib.Core.Logic.{_↔_}
 use mathlib.Core.Path.{_∙_, _≡_, ap, refl, subst, sym}
 use Prim.Native.Nat.{_+_, _≤_, ℕ}
 use native.Mathlib.Omega.{arith}
-use Rattle.casefile.specs.Case.{Case, caseOf, heldBy, refused, whole}
-use Rattle.casefile.specs.Load.{loadOf, loadedOf}
+use Rattle.casefile.proofs.Whole.{Sound}
+use Rattle.casefile.specs.Case.{Case, caseOf, heldBy, whole}
+use Rattle.casefile.specs.Load.{loadOf}
 use Rattle.casefile.specs.declared.Loaded.{Loaded}
 use Rattle.promises.proofs.Form.{case-loaded, case-members, case-ranged, case-sound}
 use Rattle.promises.proofs.Full.{VerdictSays, judge-says, label-verdict, nogoods-verdict, room-verdict, says-same}
@@ -18,10 +19,6 @@ use Rattle.rules.specs.declared.Held.{Held}
 use Rattle.store.specs.Calls.{noStore, ofVerdict, storeOf}
 use Rattle.theory.specs.Judge.{Verdict, judge, labelOver, limits, nogoodsOver, settled, unsettled}
 use Rattle.theory.specs.Stages.{Justification}
-
-pub load-bad : (bytes : List ℕ) (x : Reply) (r : ℕ) → caseOf bytes ≡ refused x r → (loadOf bytes .reply ≡ x) × (loadOf bytes .«record» ≡ r)
-unfolding loadOf
-load-bad bytes x r e = (ap (λ (o : Loaded). o .reply) (ap loadedOf e), ap (λ (o : Loaded). o .«record») (ap loadedOf e))
 
 module _ (A N : ℕ) (H : List Justification) (h : Held) (v : Verdict) (w : VerdictSays A N H v) where
   abbrev reply : Reply
@@ -61,25 +58,32 @@ module _ (A N : ℕ) (H : List Justification) (h : Held) (v : Verdict) (w : Verd
   stages-say : (r : Reply) → (reply ≡ r) ↔ StagesSay A N H r
   stages-say r = (λ e. subst (StagesSay A N H) e stages-told, stages-back r)
 
-module _ (bytes : List ℕ) (c : Case) (spells : caseOf bytes ≡ whole c) where
+-- the stages of what a case without fault puts in
+module _ (c : Case) (sound : Sound c) where
   abbrev A : ℕ
   A = c .header .assumptions
 
   abbrev N : ℕ
   N = c .header .assumptions + c .header .claims
 
-  judged : VerdictSays A N (putIn c) (judge limits A N (heldBy c))
-  judged =
-      let low : N ≤ 128 = omega (arith, case-sound bytes c spells .limited .assumptions, case-sound bytes c spells .limited .claims) in
-      says-same A N (case-members bytes c spells) (judge limits A N (heldBy c))
-      (judge-says A N (heldBy c) (λ j m. case-ranged bytes c spells j m .low) (λ j m t k. case-ranged bytes c spells j m .between t k .1) low (judge limits A N (heldBy c)) refl)
+  pub case-low : N ≤ 128
+  case-low = omega (arith, sound .limited .assumptions, sound .limited .claims)
 
-  pub load-says : (r : Reply) → (loadOf bytes .reply ≡ r) ↔ StagesSay A N (putIn c) r
+  pub case-judged : VerdictSays A N (putIn c) (judge limits A N (heldBy c))
+  case-judged =
+      says-same A N (case-members c sound) (judge limits A N (heldBy c))
+      (judge-says A N (heldBy c) (λ j m. case-ranged c sound j m .low) (λ j m t k. case-ranged c sound j m .between t k .1) case-low (judge limits A N (heldBy c)) refl)
+
+module _ (bytes : List ℕ) (c : Case) (spells : caseOf bytes ≡ whole c) where
+  abbrev A′ : ℕ
+  A′ = c .header .assumptions
+
+  abbrev N′ : ℕ
+  N′ = c .header .assumptions + c .header .claims
+
+  pub load-says : (r : Reply) → (loadOf bytes .reply ≡ r) ↔ StagesSay A′ N′ (putIn c) r
   unfolding storeOf
   load-says r =
-      let e : loadOf bytes .reply ≡ storeOf noStore A (c .header .claims) (heldBy c) .reply = ap (λ (o : Loaded). o .reply) (case-loaded bytes c spells) in
-      let s = stages-say A N (putIn c) (heldOf A (c .header .claims) (heldBy c)) (judge limits A N (heldBy c)) judged r in
+      let e = ap (λ (o : Loaded). o .reply) (case-loaded bytes c spells) in
+      let s = stages-say A′ N′ (putIn c) (heldOf A′ (c .header .claims) (heldBy c)) (judge limits A′ N′ (heldBy c)) (case-judged c (case-sound bytes c spells)) r in
       (λ q. s .0 (sym e ∙ q), λ q. e ∙ s .1 q)
-
-  pub load-all : loadOf bytes .«record» ≡ c .header .records
-  load-all = ap (λ (o : Loaded). o .«record») (case-loaded bytes c spells)

@@ -1,10 +1,14 @@
 -- Every contract is an equation, so it allows one result. Assumes nothing.
 use mathlib.Core.Path.{_∙_, _≡_, ap, sym}
 use Rattle.asking.specs.Asking.{Left}
+use Rattle.lines.specs.Lines.{Wrote}
 use Rattle.promises.specs.OneAnswer.{One, OneAnswer}
 
 one : {X : Type 0} (x : X) → One (λ r. r ≡ x)
 one x r r′ p q = p ∙ sym q
+
+both : {X Y : Type 0} {x x′ : X} {y y′ : Y} → _≡_ {A = X × Y} (x, y) (x′, y′) → (x ≡ x′) × (y ≡ y′)
+both {X} {Y} e = (ap (λ (z : X × Y). z .0) e, ap (λ (z : X × Y). z .1) e)
 
 pub one-answer : OneAnswer
 one-answer = record {
@@ -15,6 +19,9 @@ one-answer = record {
   question-one = λ s n E. one _;
   context-one = λ s E out r r′ after after′ p q. (ap (λ (x : Left). x .outcome) (p ∙ sym q), ap (λ (x : Left). x .bytes) (p ∙ sym q));
   member-one = λ s n place. one _;
+  line-one = λ s n out r r′ after after′ p q. (p .0 ∙ sym (q .0), p .1 ∙ sym (q .1));
+  case-line-one = λ s out r r′ after after′ p q. (p .0 ∙ sym (q .0), p .1 ∙ sym (q .1));
+  refusal-one = λ x k out r r′ after after′ p q. (ap (λ (w : Wrote). w .answer) (p ∙ sym q), ap (λ (w : Wrote). w .bytes) (p ∙ sym q));
   parse-one = λ bytes. one _;
   load-one = λ bytes. one _;
   number-one = λ r. one _;
@@ -36,4 +43,16 @@ one-answer = record {
   start-one = λ A. one _;
   judge-one = λ h. one _;
   lists-one = λ l A N. one _;
+  put-one = λ t at out r r′ after after′ p q. (p .next ∙ sym (q .next), p .bytes ∙ sym (q .bytes));
+  read-one = λ bytes at. one _;
+  two-one = λ bytes at. one _;
+  header-one = λ bytes. one _;
+  record-one = λ bytes at N. one _;
+  line-end-one = λ l from. one _;
+  field-one = λ l from. one _;
+  numeral-one = λ l. one _;
+  hex-one = λ l. one _;
+  numerals-one = λ l from out r r′ after after′ p q. both (p ∙ sym q);
+  bytes-one = λ l from out r r′ after after′ p q. both (p ∙ sym q);
+  same-one = λ l word. one _;
 }

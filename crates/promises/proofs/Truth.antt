@@ -2,12 +2,11 @@
 use mathlib.Core.List.{List}
 use mathlib.Core.Path.{_≡_}
 use Prim.Native.Nat.{_≤_, ℕ}
-use lib.ListN.{length}
 use borrow.Author.Tests.{le-ltb}
 use Rattle.promises.proofs.Adding.{form-adding}
-use Rattle.promises.proofs.Answers.{form-context, form-context-number, form-context-short, form-member, form-member-number, form-question, form-question-number}
+use Rattle.promises.proofs.Answers.{form-context, form-member, form-question}
 use Rattle.promises.proofs.Form.{Form, made-form}
-use Rattle.promises.proofs.Loading.{load-all, load-bad, load-says}
+use Rattle.promises.proofs.Loading.{load-says}
 use Rattle.promises.proofs.Telling.{form-depth, form-label, form-label-at, form-later, form-nogoods, form-nogoods-at}
 use Rattle.promises.specs.Calls.{ours}
 use Rattle.promises.specs.Demand2.{Demand2, Tells}
@@ -19,14 +18,10 @@ use Rattle.theory.specs.Stages.{Justification}
 form-tells : {A M : ℕ} {H : List Justification} {s : Store} → Form A M H s → Tells ours A M H s
 form-tells f = record {
   question = form-question f;
-  question-number = form-question-number f;
   context = form-context f;
-  context-number = λ E out h. form-context-number f E (length out) h;
-  context-short = λ E out h k. form-context-short f E (length out) h k;
   label = form-label f;
   nogoods = form-nogoods f;
   member = form-member f;
-  member-number = form-member-number f;
   depth = form-depth f;
   label-at = form-label-at f;
   nogoods-at = form-nogoods-at f;
@@ -39,4 +34,4 @@ unfolding openOf
 opens A M a m = rw (le-ltb 32 A a, le-ltb 96 M m)
 
 pub demand-2 : Demand2 ours
-demand-2 = record { opens = opens; bad-file = load-bad; loads = load-says; loads-all = load-all; tells = λ m. form-tells (made-form m) }
+demand-2 = record { opens = opens; loads = load-says; tells = λ m. form-tells (made-form m) }

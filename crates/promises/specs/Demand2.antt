@@ -1,7 +1,7 @@
 -- Demand 2, over what was put in and not over the store's arrays: answers, labels, nogoods, the depth, and when a list is called full. Assumes nothing.
 use mathlib.Core.Bool.{Bool, false, true}
 use mathlib.Core.List.{List, List·Memᴰ as Mem, _++_}
-use mathlib.Core.Logic.{_↔_, _⊎_}
+use mathlib.Core.Logic.{_↔_}
 use mathlib.Core.Path.{_≡_}
 use Prim.Native.Nat.{_+_, _<_, _^_, _≤_, suc, zero, ℕ}
 use lib.Dec.{leb}
@@ -11,12 +11,12 @@ use Rattle.asking.specs.declared.Answer.{Answer}
 use Rattle.asking.specs.declared.Answer.the-variants.{Inconsistent, Refused, Supported, Unsupported}
 use Rattle.asking.specs.declared.Found.{Found}
 use Rattle.asking.specs.declared.Found.the-variants.{Is, Not}
-use Rattle.casefile.specs.Case.{Case, caseOf, refused, whole}
+use Rattle.casefile.specs.Case.{Case, caseOf, whole}
 use Rattle.promises.specs.Calls.{Calls}
 use Rattle.promises.specs.Made.{Made, putIn}
 use Rattle.promises.specs.Room.{AddSays, StagesSay}
 use Rattle.replies.specs.declared.Reply.{Reply}
-use Rattle.replies.specs.declared.Reply.the-variants.{Done, Number, Place, Short}
+use Rattle.replies.specs.declared.Reply.the-variants.{Done, Place}
 use Rattle.store.specs.Calls.{answer}
 use Rattle.store.specs.Reading.{labelHeld, nogoodsHeld}
 use Rattle.store.specs.declared.Store.{Store}
@@ -73,18 +73,13 @@ pub record IsDepth (A N : ℕ) (H : List Justification) (k : ℕ) : Type 0 where
 pub record Tells (C : Calls) (A M : ℕ) (H : List Justification) (s : Store) : Type 0 where
   -- for every number and every set of assumptions
   pub question : (n E : ℕ) → n ≤ A + M → E < 2 ^ A → (a : Answer) → (C .question s n E .answer ≡ a) ↔ QuestionSays H n E a
-  -- a number above A + M, or an assumption above A in the set
-  pub question-number : (n E : ℕ) → (A + M < n) ⊎ (2 ^ A ≤ E) → C .question s n E .answer ≡ Refused Number
   -- byte n, for n from 0 to A + M; bytes from A + M + 1 on are kept
   pub context : (E : ℕ) (out : List ℕ) → E < 2 ^ A → A + M + 1 ≤ length out → C .context s E out ≡ left (answer Done s) (table (A + M + 1) (byteBy H E) ++ drop (A + M + 1) out)
-  pub context-number : (E : ℕ) (out : List ℕ) → 2 ^ A ≤ E → C .context s E out .outcome .reply ≡ Number
-  pub context-short : (E : ℕ) (out : List ℕ) → E < 2 ^ A → length out < A + M + 1 → C .context s E out .outcome .reply ≡ Short
   -- each label lists the sets of this kind that have no smaller one inside them, all of them, once; so do the nogoods
   pub label : (n : ℕ) → n ≤ A + M → ListsSmallest A (λ E. carries H E n) (labelHeld (s .lists) n)
   pub nogoods : ListsSmallest A (contradicts H) (nogoodsHeld (s .lists))
   -- member reads them, place by place
   pub member : (n : ℕ) → n ≤ A + M → (l : List ℕ) × ListsSmallest A (listedFor H n) l × ((place : ℕ) → C .member s n place .answer ≡ atPlace l place)
-  pub member-number : (n place : ℕ) → A + M < n → C .member s n place .answer ≡ Not Number
   -- the depth; the store's labels and nogoods are those at the depth, and every later stage agrees with them
   pub depth : IsDepth A (A + M) H (s .lists .depth)
   pub label-at : (n : ℕ) → n ≤ A + M → labelHeld (s .lists) n ≡ labelAt A H (s .lists .depth) n
@@ -98,10 +93,7 @@ pub record Tells (C : Calls) (A M : ℕ) (H : List Justification) (s : Store) : 
 pub record Demand2 (C : Calls) : Type 0 where
   -- a store can be opened
   pub opens : (A M : ℕ) → A ≤ 32 → M ≤ 96 → C .opening A M .reply ≡ Done
-  -- a file with a fault is refused with the fault and its record
-  pub bad-file : (bytes : List ℕ) (x : Reply) (r : ℕ) → caseOf bytes ≡ refused x r → (C .loading bytes .reply ≡ x) × (C .loading bytes .«record» ≡ r)
-  -- else the stages of its whole set decide, with the announced count
+  -- a file without fault: the stages of its whole set decide
   pub loads : (bytes : List ℕ) (f : Case) → caseOf bytes ≡ whole f → (r : Reply) → (C .loading bytes .reply ≡ r) ↔ StagesSay (f .header .assumptions) (f .header .assumptions + f .header .claims) (putIn f) r
-  pub loads-all : (bytes : List ℕ) (f : Case) → caseOf bytes ≡ whole f → C .loading bytes .«record» ≡ f .header .records
   -- every store made by the calls tells the truth of what was put in
   pub tells : {A M : ℕ} {H : List Justification} {s : Store} → Made C A M H s → Tells C A M H s

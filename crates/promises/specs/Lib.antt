@@ -1,7 +1,8 @@
 pub mod Calls
 pub mod Made
-pub mod Demand1
 pub mod Room
+pub mod Table
+pub mod Demand1
 pub mod Demand2
 pub mod Demand3
 pub mod Promises

@@ -1,0 +1,145 @@
+-- Rows decide one answer at most, and by which tests; the rows of the stages, from the judgement. Assumes nothing.
+use mathlib.Core.Bool.{Bool, _||_, false, not, true}
+use mathlib.Core.List.{List, List·Memᴰ as Mem}
+use mathlib.Core.Logic.{_↔_, _⊎_, inl, inr, ⊎-elim}
+use mathlib.Core.Option.{none, some}
+use mathlib.Core.Path.{_∙_, _≡_, ap, refl, subst, sym}
+use Prim.Native.Nat.{_<_, _≤_, ℕ}
+use native.Mathlib.Omega.{arith}
+use lib.Dec.{eqb, leb, ltb}
+use lib.ListN.{length}
+use borrow.Author.Tests.{eq-eqb, eqb-true, le-ltb, leb-false, leb-true, lt-ltb, ltb-true, not-false, not-true}
+use Rattle.promises.proofs.Full.{VerdictSays, nogoods-not-label, one-label, room-not-label, room-not-nogoods}
+use Rattle.promises.specs.OneAnswer.{One}
+use Rattle.promises.specs.Room.{LabelFull}
+use Rattle.promises.specs.Table.{Above, StageRows, given, noRow}
+use Rattle.replies.specs.Replies.{namedBy, numberOf}
+use Rattle.replies.specs.declared.Reply.{Reply}
+use Rattle.replies.specs.declared.Reply.the-variants.{Done, Falsity, Nogoods, Number, Supports}
+use Rattle.rules.specs.Items.{faultOf}
+use Rattle.rules.specs.declared.Held.{Held}
+use Rattle.store.specs.Calls.{ofVerdict}
+use Rattle.store.specs.declared.Store.{Store}
+use Rattle.theory.proofs.Depth.{Within, heads-few}
+use Rattle.theory.proofs.Judgement.{agree-at-last, agree-elim}
+use Rattle.theory.proofs.Lists.{clash, or-cases, some-elim, some-intro}
+use Rattle.theory.specs.Judge.{Verdict, labelOver, nogoodsOver, settled, stageAt, unsettled}
+use Rattle.theory.specs.Lists.{choose, someOf}
+use Rattle.theory.specs.Stages.{Justification}
+
+-- ---- one answer at most
+
+pub given-one : {X : Type 0} (P : Type 0) (c : X) (next : X → Type 0) → One next → One (given P c next)
+unfolding given
+given-one P c next o a b (inl p) (inl q) = p .1 ∙ sym (q .1)
+given-one P c next o a b (inl p) (inr q) = absurd (q .0 (p .0))
+given-one P c next o a b (inr p) (inl q) = absurd (p .0 (q .0))
+given-one P c next o a b (inr p) (inr q) = o a b (p .1) (q .1)
+
+pub no-row-one : One noRow
+no-row-one a b p q = p ∙ sym q
+
+-- the answer that the rows decide is exactly theirs
+pub exactly : {X : Type 0} (R : X → Type 0) (x : X) → One R → R x → (a : X) → (x ≡ a) ↔ R a
+exactly R x o r a = (λ e. subst R e r, λ w. o x a r w)
+
+-- ---- tests
+
+-- b tells whether P holds
+pub record Tests (b : Bool) (P : Type 0) : Type 0 where
+  pub so : b ≡ true → P
+  pub not-so : b ≡ false → P → ⊥
+
+pub by-choice : {X Y : Type 0} {P : Type 0} {c : X} (next : X → Type 0) (f : Y → X) (b : Bool) (x y : Y) → Tests b P → f x ≡ c → (b ≡ false → next (f y)) → given P c next (f (choose b x y))
+unfolding given
+by-choice next f true x y t e k = inl (t .so refl, e)
+by-choice next f false x y t e k = inr (t .not-so refl, k refl)
+
+pub less-test : (a b : ℕ) → Tests (ltb a b) (a < b)
+less-test a b = record { so = λ h. ltb-true a b h; not-so = λ h p. clash (lt-ltb a b p) h }
+
+pub most-test : (a b : ℕ) → Tests (leb a b) (a ≤ b)
+most-test a b = record { so = λ h. leb-true a b h; not-so = λ h p. omega (arith, leb-false a b h) }
+
+pub not-test : (b : Bool) → Tests (not b) (b ≡ false)
+not-test b = record { so = λ h. not-true b h; not-so = λ h p. clash (not-false b h) p }
+
+pub or-test : {a b : Bool} {P Q : Type 0} → Tests a P → Tests b Q → Tests (a || b) (P ⊎ Q)
+or-test {a} {b} s t = record { so = λ h. ⊎-elim (λ x. inl (s .so x)) (λ x. inr (t .so x)) (or-cases a b h); not-so = go a b s t }
+  where
+    go : {P Q : Type 0} (a b : Bool) → Tests a P → Tests b Q → (a || b ≡ false) → P ⊎ Q → ⊥
+    go true b s t h = clash refl h
+    go false b s t h = ⊎-elim (s .not-so refl) (t .not-so h)
+
+pub above-test : (N c : ℕ) (l : List ℕ) → Tests (ltb N c || someOf (ltb N) l) (Above N c l)
+above-test N c l =
+    or-test (less-test N c)
+    (record {
+      so = λ h. let r = some-elim (ltb N) l h in (r .0, r .1, ltb-true N (r .0) (r .2));
+      not-so = λ h r. clash (some-intro (ltb N) (r .1) (lt-ltb N (r .0) (r .2))) h;
+    })
+
+pub zero-test : (l : List ℕ) → Tests (someOf (eqb 0) l) (Mem 0 l)
+zero-test l = record {
+  so = λ h. let r = some-elim (eqb 0) l h in subst (λ (x : ℕ). Mem x l) (sym (eqb-true 0 (r .0) (r .2))) (r .1);
+  not-so = λ h m. clash (some-intro (eqb 0) m (eq-eqb 0 0 refl)) h;
+}
+
+-- ---- the faults of an item
+
+module _ (N c : ℕ) (l : List ℕ) {X : Type 0} (f : Reply → X) (next : X → Type 0) (x₄ x₅ : X) (e₄ : f Number ≡ x₄) (e₅ : f Falsity ≡ x₅) (k : faultOf N c l ≡ Done → next (f Done)) where
+  abbrev LowRows : X → Type 0
+  LowRows = given (Above N c l) x₄ (given (Mem 0 l) x₅ next)
+
+  -- at most 4 supports
+  low-told : ltb 4 (length l) ≡ false → LowRows (f (choose (ltb N c || someOf (ltb N) l) Number (choose (someOf (eqb 0) l) Falsity Done)))
+  unfolding faultOf
+  low-told h =
+      by-choice _ f (ltb N c || someOf (ltb N) l) _ _ (above-test N c l) e₄
+      (λ (p : ltb N c || someOf (ltb N) l ≡ false). by-choice next f (someOf (eqb 0) l) _ _ (zero-test l) e₅ (λ (q : someOf (eqb 0) l ≡ false). k (rw (h, p, q))))
+
+  pub few-told : length l ≤ 4 → LowRows (f (faultOf N c l))
+  unfolding faultOf
+  few-told h = let z : ltb 4 (length l) ≡ false = le-ltb 4 (length l) h in rw z (low-told z)
+
+  pub fault-told : (x₆ : X) → f Supports ≡ x₆ → given (4 < length l) x₆ LowRows (f (faultOf N c l))
+  unfolding faultOf
+  fault-told x₆ e₆ = by-choice LowRows f (ltb 4 (length l)) _ _ (less-test 4 (length l)) e₆ low-told
+
+-- ---- the stages
+
+module _ (A N : ℕ) (J : List Justification) where
+  pub stages-one : One (StageRows A N J)
+  stages-one = given-one _ _ _ (given-one _ _ _ (given-one _ _ _ no-row-one))
+
+  module _ (w : Within N J) (low : N ≤ 128) where
+    -- row 10 never holds: nothing new follows after as many stages as there are different consequents
+    pub never-differs : stageAt A N J 130 ≡ stageAt A N J 129
+    never-differs = sym (agree-elim (stageAt A N J 129) (stageAt A N J 130) (agree-at-last A N J w 129 (omega (arith, heads-few N J))))
+
+    pub stages-told : (s : Store) (h : Held) (v : Verdict) → VerdictSays A N J v → StageRows A N J (numberOf (ofVerdict s h v .reply))
+    unfolding given
+    stages-told s h (settled d g) r = inr (λ x. room-not-nogoods r x, inr (λ x. room-not-label r (x .1), inr (λ x. x never-differs, refl)))
+    stages-told s h nogoodsOver r = inl (r, refl)
+    stages-told s h (labelOver n) r = inr (λ x. nogoods-not-label x r, inl ((n, r), refl))
+    stages-told s h unsettled r = absurd r
+
+-- ---- the number that is named
+
+-- r names n exactly where it is 8 and P n
+abbrev pub Names : (ℕ → Type 0) → Reply → Type 0
+Names P r = (n : ℕ) → (namedBy r ≡ some n) ↔ ((numberOf r ≡ 8) × P n)
+
+-- a reply that names none
+pub unnamed : (P : ℕ → Type 0) (r : Reply) → namedBy r ≡ none → (numberOf r ≡ 8 → ⊥) → Names P r
+unnamed P r e k n = (λ q. let z : _≡_ {A = ℕ} 0 1 = cc in absurd (omega arith), λ w. absurd (k (w .0)))
+
+pub names-choice : (P : ℕ → Type 0) {Y : Type 0} (f : Y → Reply) (b : Bool) (x y : Y) → Names P (f x) → (b ≡ false → Names P (f y)) → Names P (f (choose b x y))
+names-choice P f true x y p q = p
+names-choice P f false x y p q = q refl
+
+pub stages-name : (A N : ℕ) (J : List Justification) (s : Store) (h : Held) (v : Verdict) → VerdictSays A N J v → Names (LabelFull A N J) (ofVerdict s h v .reply)
+stages-name A N J s h (settled d g) r = unnamed (LabelFull A N J) Done refl (λ z. omega arith)
+stages-name A N J s h nogoodsOver r = unnamed (LabelFull A N J) Nogoods refl (λ z. omega arith)
+stages-name A N J s h (labelOver m) r = λ n. (λ e. let q : m ≡ n = cc in (refl, subst (LabelFull A N J) q r), λ w. ap some (one-label r (w .1)))
+stages-name A N J s h unsettled r = absurd r

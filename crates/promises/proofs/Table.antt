@@ -1,0 +1,212 @@
+-- The reply table of our calls. Assumes nothing.
+use mathlib.Core.Bool.{Bool, _||_, false, not, true}
+use mathlib.Core.List.{List, List·Memᴰ·cases-cons, List·Memᴰ as Mem, _++_, _∷_, List·Memᴰ·head as here, List·Memᴰ·tail as there}
+use mathlib.Core.Logic.{⊎-elim}
+use mathlib.Core.Path.{_≡_, refl, subst, sym}
+use Prim.Native.Nat.{_+_, _<_, _^_, _≤_, ℕ}
+use native.Mathlib.Omega.{arith}
+use lib.Dec.{eqb, leb, ltb}
+use lib.ListN.{drop, getD, length}
+use borrow.Author.Tests.{le-ltb, ltb-false, not-false, not-true}
+use Rattle.asking.specs.Asking.{answerNumber, contextReply, memberAt, memberNumber, memberOf, questionOf, standing}
+use Rattle.asking.specs.declared.Answer.the-variants.{Inconsistent, Refused, Supported, Unsupported}
+use Rattle.asking.specs.declared.Found.the-variants.{Is, Not}
+use Rattle.casefile.specs.Load.{loadOf}
+use Rattle.lines.specs.Lines.{Wrote, caseOf, caseText, fitted, kept, lineOf, lineText, writtenNumber}
+use Rattle.lines.specs.declared.Written.the-variants.{Length}
+use Rattle.promises.proofs.Filing.{load-names, load-one, load-told, reportOf}
+use Rattle.promises.proofs.Full.{VerdictSays, judge-says}
+use Rattle.promises.proofs.Rows.{Names, Tests, by-choice, exactly, fault-told, given-one, less-test, most-test, names-choice, no-row-one, not-test, or-test, stages-name, stages-one, stages-told, unnamed}
+use Rattle.promises.proofs.Telling.{covered}
+use Rattle.promises.specs.Calls.{ours}
+use Rattle.promises.specs.OneAnswer.{One}
+use Rattle.promises.specs.Room.{LabelFull}
+use Rattle.promises.specs.Table.{AddRows, ContextRows, HeadingRows, LineRows, LoadRows, MemberRows, OpenRows, Outside, QuestionRows, ReplyTable, StageRows, enlarged, given, handed, noRow}
+use Rattle.replies.specs.Replies.{numberOf}
+use Rattle.replies.specs.declared.Reply.{Reply}
+use Rattle.replies.specs.declared.Reply.the-variants.{Already, Counts, Done, Falsity, Full, Number, Place, Shape, Short, Supports}
+use Rattle.rules.proofs.Laws.{Ranged, faultless-ranged, right-range}
+use Rattle.rules.proofs.Order.{mem-same, same-mem}
+use Rattle.rules.proofs.Putting.{put-cases, put-new, put-old}
+use Rattle.rules.specs.Held.{heldOf, put, saidBy}
+use Rattle.rules.specs.Items.{faultOf, sameJustification}
+use Rattle.store.proofs.Shapes.{shape-elim}
+use Rattle.store.specs.Calls.{addOf, answer, isDone, joinedBy, noStore, openOf, startStore, storeOf}
+use Rattle.store.specs.Reading.{labelHeld, listHeld, nogoodsHeld}
+use Rattle.store.specs.Shape.{rightShape, top}
+use Rattle.store.specs.declared.Outcome.{Outcome}
+use Rattle.store.specs.declared.Store.{Store}
+use Rattle.theory.proofs.Lists.{clash}
+use Rattle.theory.proofs.Sameness.{same-judge}
+use Rattle.theory.specs.Judge.{Verdict, judge, limits}
+use Rattle.theory.specs.Lists.{choose, someOf}
+use Rattle.theory.specs.Sets.{contains, inRange}
+use Rattle.theory.specs.Stages.{Justification}
+
+abbrev replied : Outcome → ℕ
+replied o = numberOf (o .reply)
+
+abbrev wrote : Wrote → ℕ
+wrote w = writtenNumber (w .answer)
+
+-- ---- open
+
+open-told : (A M : ℕ) → OpenRows A M (replied (openOf A M))
+unfolding openOf
+open-told A M = by-choice noRow replied (ltb 32 A || ltb 96 M) (answer Counts noStore) (answer Done (startStore A M)) (or-test (less-test 32 A) (less-test 96 M)) refl (λ z. refl)
+
+-- ---- add
+
+module _ (s : Store) (c : ℕ) (l : List ℕ) where
+  abbrev A : ℕ
+  A = s .held .assumptions
+
+  abbrev N : ℕ
+  N = top (s .held)
+
+  abbrev J : List Justification
+  J = saidBy (s .held)
+
+  abbrev j : Justification
+  j = handed s c l
+
+  held-test : Tests (someOf (sameJustification j) J) (Mem j J)
+  held-test = record { so = λ h. same-mem j J h; not-so = λ h m. clash (mem-same j J m) h }
+
+  module _ (right : rightShape s ≡ true) (sound : faultOf N c l ≡ Done) where
+    in-range : (i : Justification) → Mem i (j ∷ J) → Ranged N i
+    in-range i m =
+        ⊎-elim (λ (q : i ≡ j). subst (Ranged N) (sym q) (faultless-ranged N c l sound)) (λ k. right-range (s .held) (shape-elim s right .0 .right) i k) (List·Memᴰ·cases-cons m)
+
+    low : N ≤ 128
+    low = omega (arith, shape-elim s right .0 .few, shape-elim s right .0 .claims)
+
+    verdict : Verdict
+    verdict = judge limits A N (put j J)
+
+    judged : VerdictSays A N (j ∷ J) verdict
+    unfolding verdict
+    judged =
+        judge-says A N (j ∷ J) (λ i m. in-range i m .low) (λ i m t k. in-range i m .between t k .1) low verdict
+        (same-judge (j ∷ J) (put j J) (covered (λ i m. ⊎-elim (λ (q : i ≡ j). subst (λ (x : Justification). Mem x (put j J)) (sym q) (put-new j J)) (λ k. put-old j k) (List·Memᴰ·cases-cons m)))
+        (covered (λ i m. ⊎-elim (λ q. here q) (λ k. there k) (put-cases j J m))) limits A N)
+
+    abbrev stored : Outcome
+    stored = storeOf s A (s .held .claims) (put j J)
+
+    stored-told : StageRows A N (enlarged s c l) (replied stored)
+    unfolding storeOf verdict
+    stored-told = stages-told A N (j ∷ J) (λ i m. in-range i m .low) low s (heldOf A (s .held .claims) (put j J)) verdict judged
+
+    stored-names : Names (LabelFull A N (enlarged s c l)) (stored .reply)
+    unfolding storeOf verdict
+    stored-names = stages-name A N (j ∷ J) s (heldOf A (s .held .claims) (put j J)) verdict judged
+
+    abbrev unlessFull : Outcome
+    unlessFull = choose (leb 256 (s .held .count)) (answer Full s) stored
+
+    join-told : given (Mem j J) 1 (given (256 ≤ s .held .count) 7 (StageRows A N (enlarged s c l))) (replied (joinedBy s j))
+    unfolding joinedBy
+    join-told =
+        by-choice _ replied (someOf (sameJustification j) J) (answer Already s) unlessFull held-test refl
+        (λ p. by-choice _ replied (leb 256 (s .held .count)) (answer Full s) stored (most-test 256 (s .held .count)) refl (λ q. stored-told))
+
+    join-names : Names (LabelFull A N (enlarged s c l)) (joinedBy s j .reply)
+    unfolding joinedBy
+    join-names =
+        names-choice _ (λ (o : Outcome). o .reply) (someOf (sameJustification j) J) (answer Already s) unlessFull (unnamed _ Already refl (λ z. omega arith))
+        (λ p. names-choice _ (λ (o : Outcome). o .reply) (leb 256 (s .held .count)) (answer Full s) stored (unnamed _ Full refl (λ z. omega arith)) (λ q. stored-names))
+
+  abbrev unlessFault : Reply → Outcome
+  unlessFault x = choose (not (isDone x)) (answer x s) (joinedBy s j)
+
+  add-told : AddRows s c l (replied (addOf s c l))
+  unfolding addOf
+  add-told =
+      by-choice _ replied (not (rightShape s)) (answer Shape s) (unlessFault (faultOf N c l)) (not-test (rightShape s)) refl
+      (λ p. fault-told N c l (λ x. replied (unlessFault x)) _ 4 5 refl refl (λ d. join-told (not-false (rightShape s) p) d) 6 refl)
+
+  add-names : Names (LabelFull A N (enlarged s c l)) (addOf s c l .reply)
+  unfolding addOf faultOf
+  add-names =
+      let f : Reply → Reply = λ x. unlessFault x .reply in
+      names-choice _ (λ (o : Outcome). o .reply) (not (rightShape s)) (answer Shape s) (unlessFault (faultOf N c l)) (unnamed _ Shape refl (λ z. omega arith))
+      (λ p. names-choice _ f (ltb 4 (length l)) Supports _ (unnamed _ Supports refl (λ z. omega arith))
+      (λ (q₁ : ltb 4 (length l) ≡ false). names-choice _ f (ltb N c || someOf (ltb N) l) Number _ (unnamed _ Number refl (λ z. omega arith))
+      (λ (q₂ : ltb N c || someOf (ltb N) l ≡ false). names-choice _ f (someOf (eqb 0) l) Falsity Done (unnamed _ Falsity refl (λ z. omega arith))
+      (λ (q₃ : someOf (eqb 0) l ≡ false). join-names (not-false (rightShape s) p) (rw (q₁, q₂, q₃))))))
+
+  add-one : One (AddRows s c l)
+  add-one = given-one _ _ _ (given-one _ _ _ (given-one _ _ _ (given-one _ _ _ (given-one _ _ _ (given-one _ _ _ (stages-one A N (enlarged s c l)))))))
+
+-- ---- the calls that read
+
+module _ (s : Store) where
+  outside-test : (E : ℕ) → Tests (not (inRange (s .held .assumptions) E)) (Outside s E)
+  unfolding inRange
+  outside-test E =
+      let w : ℕ = 2 ^ (s .held .assumptions) in
+      record { so = λ h. ltb-false E w (not-true (ltb E w) h); not-so = λ h p. clash (not-false (ltb E w) h) (le-ltb E w p) }
+
+  -- none of the three answers is a refusal
+  standing-zero : (n E : ℕ) → answerNumber (standing (s .lists) n E) ≡ 0
+  unfolding standing
+  standing-zero n E = go (contains (nogoodsHeld (s .lists)) E) (contains (labelHeld (s .lists) n) E)
+    where
+      go : (a b : Bool) → answerNumber (choose a Inconsistent (choose b Supported Unsupported)) ≡ 0
+      go true b = refl
+      go false true = refl
+      go false false = refl
+
+  question-told : (n E : ℕ) → QuestionRows s n E (answerNumber (questionOf s n E))
+  unfolding questionOf
+  question-told n E =
+      let out : Bool = ltb (top (s .held)) n || not (inRange (s .held .assumptions) E) in
+      by-choice _ answerNumber (not (rightShape s)) (Refused Shape) (choose out (Refused Number) (standing (s .lists) n E)) (not-test (rightShape s)) refl
+      (λ p. by-choice noRow answerNumber out (Refused Number) (standing (s .lists) n E) (or-test (less-test (top (s .held)) n) (outside-test E)) refl (λ q. standing-zero n E))
+
+  context-told : (E : ℕ) (out : List ℕ) → ContextRows s E out (numberOf (contextReply s E (length out)))
+  unfolding contextReply
+  context-told E out =
+      by-choice _ numberOf (not (rightShape s)) Shape (choose (not (inRange (s .held .assumptions) E)) Number (choose (ltb (length out) (top (s .held) + 1)) Short Done)) (not-test (rightShape s)) refl
+      (λ p. by-choice _ numberOf (not (inRange (s .held .assumptions) E)) Number (choose (ltb (length out) (top (s .held) + 1)) Short Done) (outside-test E) refl
+      (λ q. by-choice noRow numberOf (ltb (length out) (top (s .held) + 1)) Short Done (less-test (length out) (top (s .held) + 1)) refl (λ z. refl)))
+
+  member-told : (n place : ℕ) → MemberRows s n place (memberNumber (memberOf s n place))
+  unfolding memberOf memberAt
+  member-told n place =
+      let l : List ℕ = listHeld (s .lists) n in
+      by-choice _ memberNumber (not (rightShape s)) (Not Shape) (choose (ltb (top (s .held)) n) (Not Number) (choose (leb (length l) place) (Not Place) (Is (getD l place 0)))) (not-test (rightShape s)) refl
+      (λ p. by-choice _ memberNumber (ltb (top (s .held)) n) (Not Number) (choose (leb (length l) place) (Not Place) (Is (getD l place 0))) (less-test (top (s .held)) n) refl
+      (λ q. by-choice noRow memberNumber (leb (length l) place) (Not Place) (Is (getD l place 0)) (most-test (length l) place) refl (λ z. refl)))
+
+  fitted-told : (t out : List ℕ) → given (length out < length t) 15 noRow (wrote (fitted t out))
+  unfolding fitted
+  fitted-told t out = by-choice noRow wrote (ltb (length out) (length t)) (kept Short out) (record { answer = Length (length t); bytes = t ++ drop (length t) out }) (less-test (length out) (length t)) refl (λ z. refl)
+
+  line-told : (n : ℕ) (out : List ℕ) → LineRows s n out (wrote (lineOf s n out))
+  unfolding lineOf
+  line-told n out =
+      let w : Wrote = fitted (lineText (s .lists) n) out in
+      by-choice _ wrote (not (rightShape s)) (kept Shape out) (choose (ltb (top (s .held)) n) (kept Number out) w) (not-test (rightShape s)) refl
+      (λ p. by-choice _ wrote (ltb (top (s .held)) n) (kept Number out) w (less-test (top (s .held)) n) refl (λ q. fitted-told (lineText (s .lists) n) out))
+
+  heading-told : (out : List ℕ) → HeadingRows s out (wrote (caseOf s out))
+  unfolding caseOf
+  heading-told out = by-choice _ wrote (not (rightShape s)) (kept Shape out) (fitted (caseText s) out) (not-test (rightShape s)) refl (λ p. fitted-told (caseText s) out)
+
+-- ---- all of it
+
+pub reply-table : ReplyTable ours
+reply-table = record {
+  opening = λ A M. exactly (OpenRows A M) (replied (openOf A M)) (given-one _ _ _ no-row-one) (open-told A M);
+  adding = λ s c l. exactly (AddRows s c l) (replied (addOf s c l)) (add-one s c l) (add-told s c l);
+  question = λ s n E. exactly (QuestionRows s n E) (answerNumber (questionOf s n E)) (given-one _ _ _ (given-one _ _ _ no-row-one)) (question-told s n E);
+  context = λ s E out. exactly (ContextRows s E out) (numberOf (contextReply s E (length out))) (given-one _ _ _ (given-one _ _ _ (given-one _ _ _ no-row-one))) (context-told s E out);
+  member = λ s n place. exactly (MemberRows s n place) (memberNumber (memberOf s n place)) (given-one _ _ _ (given-one _ _ _ (given-one _ _ _ no-row-one))) (member-told s n place);
+  line = λ s n out. exactly (LineRows s n out) (wrote (lineOf s n out)) (given-one _ _ _ (given-one _ _ _ (given-one _ _ _ no-row-one))) (line-told s n out);
+  heading = λ s out. exactly (HeadingRows s out) (wrote (caseOf s out)) (given-one _ _ _ (given-one _ _ _ no-row-one)) (heading-told s out);
+  loading = λ bytes. exactly (LoadRows bytes) (reportOf (loadOf bytes)) (load-one bytes) (load-told bytes);
+  adding-names = add-names;
+  loading-names = load-names;
+}

@@ -1,0 +1,177 @@
+-- The reply table of document 01: for every call, every input, forged stores included, and every number, the exact condition of the answer. Assumes nothing.
+use mathlib.Core.Bool.{false}
+use mathlib.Core.List.{List, List·Memᴰ as Mem, [], _∷_}
+use mathlib.Core.Logic.{_↔_, _⊎_}
+use mathlib.Core.Option.{some}
+use mathlib.Core.Path.{_≡_}
+use Prim.Native.Nat.{_*_, _+_, _-_, _<_, _^_, _≤_, suc, zero, ℕ}
+use lib.ListN.{length}
+use Rattle.asking.specs.Asking.{answerNumber, memberNumber}
+use Rattle.casefile.specs.Case.{Case, Reading, caseOf, refused, whole}
+use Rattle.lines.specs.Lines.{caseText, lineText, writtenNumber}
+use Rattle.promises.specs.Calls.{Calls}
+use Rattle.promises.specs.Made.{putIn}
+use Rattle.promises.specs.Room.{LabelFull, NogoodsFull}
+use Rattle.replies.specs.Replies.{namedBy, numberOf}
+use Rattle.rules.specs.Held.{saidBy}
+use Rattle.rules.specs.Items.{justificationOf}
+use Rattle.store.specs.Reading.{listHeld}
+use Rattle.store.specs.Shape.{rightShape, top}
+use Rattle.store.specs.declared.Store.{Store}
+use Rattle.theory.specs.Judge.{stageAt}
+use Rattle.theory.specs.Stages.{Justification}
+
+-- ---- rows, one after the other
+
+-- the answer c where P holds, else what the next rows say
+unfoldable pub given : {X : Type 0} → Type 0 → X → (X → Type 0) → X → Type 0
+given P c next a = (P × (a ≡ c)) ⊎ ((P → ⊥) × next a)
+
+-- 0 where no row holds
+abbrev pub noRow : ℕ → Type 0
+noRow a = a ≡ 0
+
+-- ---- open
+
+-- A above 32 or M above 96
+abbrev pub OverCounts : ℕ → ℕ → Type 0
+OverCounts A M = (32 < A) ⊎ (96 < M)
+
+abbrev pub OpenRows : ℕ → ℕ → ℕ → Type 0
+OpenRows A M = given (OverCounts A M) 3 noRow
+
+-- ---- add
+
+-- the stages of J, with A assumptions and the numbers up to N: at the first stage with a list over its limit 9 if the nogoods are over, else 8; then 10
+abbrev pub StageRows : ℕ → ℕ → List Justification → ℕ → Type 0
+StageRows A N J =
+    given (NogoodsFull A N J) 9
+    (given ((n : ℕ) × LabelFull A N J n) 8
+    (given (stageAt A N J 130 ≡ stageAt A N J 129 → ⊥) 10
+    noRow))
+
+-- a number above N: the consequent c, or one of the supports l
+abbrev pub Above : ℕ → ℕ → List ℕ → Type 0
+Above N c l = (N < c) ⊎ ((x : ℕ) × Mem x l × (N < x))
+
+-- consequent c with supports l, as s holds it
+abbrev pub handed : Store → ℕ → List ℕ → Justification
+handed s c l = justificationOf (top (s .held)) c l
+
+-- what s holds, with it
+abbrev pub enlarged : Store → ℕ → List ℕ → List Justification
+enlarged s c l = handed s c l ∷ saidBy (s .held)
+
+abbrev pub AddRows : Store → ℕ → List ℕ → ℕ → Type 0
+AddRows s c l =
+    given (rightShape s ≡ false) 2
+    (given (4 < length l) 6
+    (given (Above (top (s .held)) c l) 4
+    (given (Mem 0 l) 5
+    (given (Mem (handed s c l) (saidBy (s .held))) 1
+    (given (256 ≤ s .held .count) 7
+    (StageRows (s .held .assumptions) (top (s .held)) (enlarged s c l)))))))
+
+-- ---- question, context, member, the text line of a number, the first line
+
+-- an assumption above A in the set E
+abbrev pub Outside : Store → ℕ → Type 0
+Outside s E = 2 ^ (s .held .assumptions) ≤ E
+
+abbrev pub QuestionRows : Store → ℕ → ℕ → ℕ → Type 0
+QuestionRows s n E =
+    given (rightShape s ≡ false) 2
+    (given ((top (s .held) < n) ⊎ Outside s E) 4
+    noRow)
+
+abbrev pub ContextRows : Store → ℕ → List ℕ → ℕ → Type 0
+ContextRows s E out =
+    given (rightShape s ≡ false) 2
+    (given (Outside s E) 4
+    (given (length out < top (s .held) + 1) 15
+    noRow))
+
+abbrev pub MemberRows : Store → ℕ → ℕ → ℕ → Type 0
+MemberRows s n place =
+    given (rightShape s ≡ false) 2
+    (given (top (s .held) < n) 4
+    (given (length (listHeld (s .lists) n) ≤ place) 16
+    noRow))
+
+abbrev pub LineRows : Store → ℕ → List ℕ → ℕ → Type 0
+LineRows s n out =
+    given (rightShape s ≡ false) 2
+    (given (top (s .held) < n) 4
+    (given (length out < length (lineText (s .lists) n)) 15
+    noRow))
+
+abbrev pub HeadingRows : Store → List ℕ → ℕ → Type 0
+HeadingRows s out = given (rightShape s ≡ false) 2 (given (length out < length (caseText s)) 15 noRow)
+
+-- ---- load
+
+-- the number, and the record being read, from 1; the header is record 0
+abbrev pub Reported : Type 0
+Reported = ℕ × ℕ
+
+-- numbers are taken from the file one after another, and the first fault decides: the rows after what was taken, with the bytes left
+abbrev pub Next : Type 0 → Type 1
+Next X = X → List ℕ → Reported → Type 0
+
+-- in record k, after a byte b of 128 or more: a missing byte is 11; any byte but 1 to 127 is 12
+unfoldable pub SecondRows : ℕ → ℕ → List ℕ → Next ℕ → Reported → Type 0
+SecondRows k b [] next a = a ≡ (11, k)
+SecondRows k b (c ∷ l) next a = given ((c < 1) ⊎ (127 < c)) (12, k) (next (b - 128 + 128 * c) l) a
+
+-- a number: a missing byte is 11; a byte below 128 is the number
+unfoldable pub NumberRows : ℕ → List ℕ → Next ℕ → Reported → Type 0
+NumberRows k [] next a = a ≡ (11, k)
+NumberRows k (b ∷ l) next a = ((b < 128) × next b l a) ⊎ ((128 ≤ b) × SecondRows k b l next a)
+
+-- n numbers
+unfoldable pub NumbersRows : ℕ → ℕ → List ℕ → Next (List ℕ) → Reported → Type 0
+NumbersRows k zero l next = next [] l
+NumbersRows k (suc n) l next = NumberRows k l (λ x l₁. NumbersRows k n l₁ (λ xs l₂. next (x ∷ xs) l₂))
+
+-- n records more, after r of them, which put in H. After a record's number of supports: 6; after its supports: 4, then 5; after the last record: 13; then the stages
+unfoldable pub RecordRows : ℕ → ℕ → ℕ → ℕ → List Justification → List ℕ → Reported → Type 0
+RecordRows A N zero r H l = given (0 < length l) (13, r) (λ a. StageRows A N H (a .0) × (a .1 ≡ r))
+RecordRows A N (suc n) r H l =
+    NumberRows (suc r) l (λ c l₁.
+    NumberRows (suc r) l₁ (λ k l₂.
+    given (4 < k) (6, suc r)
+    (NumbersRows (suc r) k l₂ (λ s l₃.
+    given (Above N c s) (4, suc r)
+    (given (Mem 0 s) (5, suc r)
+    (RecordRows A N n (suc r) (justificationOf N c s ∷ H) l₃))))))
+
+-- A, M, count J; after the header: 3, then 7; then J records
+abbrev pub LoadRows : List ℕ → Reported → Type 0
+LoadRows l =
+    NumberRows 0 l (λ A l₁.
+    NumberRows 0 l₁ (λ M l₂.
+    NumberRows 0 l₂ (λ J l₃.
+    given (OverCounts A M) (3, 0)
+    (given (256 < J) (7, 0)
+    (RecordRows A (A + M) J 0 [] l₃)))))
+
+-- n is the lowest number whose label is over, in the stages of the whole file
+abbrev pub LoadNames : Reading Case → ℕ → Type 0
+LoadNames (whole f) n = LabelFull (f .header .assumptions) (f .header .assumptions + f .header .claims) (putIn f) n
+LoadNames (refused x r) n = ⊥
+
+-- ---- the table
+
+pub record ReplyTable (C : Calls) : Type 0 where
+  pub opening : (A M a : ℕ) → (numberOf (C .opening A M .reply) ≡ a) ↔ OpenRows A M a
+  pub adding : (s : Store) (c : ℕ) (l : List ℕ) (a : ℕ) → (numberOf (C .adding s c l .reply) ≡ a) ↔ AddRows s c l a
+  pub question : (s : Store) (n E a : ℕ) → (answerNumber (C .question s n E .answer) ≡ a) ↔ QuestionRows s n E a
+  pub context : (s : Store) (E : ℕ) (out : List ℕ) (a : ℕ) → (numberOf (C .context s E out .outcome .reply) ≡ a) ↔ ContextRows s E out a
+  pub member : (s : Store) (n place a : ℕ) → (memberNumber (C .member s n place .answer) ≡ a) ↔ MemberRows s n place a
+  pub line : (s : Store) (n : ℕ) (out : List ℕ) (a : ℕ) → (writtenNumber (C .line s n out .listed .answer) ≡ a) ↔ LineRows s n out a
+  pub heading : (s : Store) (out : List ℕ) (a : ℕ) → (writtenNumber (C .heading s out .listed .answer) ≡ a) ↔ HeadingRows s out a
+  pub loading : (bytes : List ℕ) (a : Reported) → ((numberOf (C .loading bytes .reply), C .loading bytes .«record») ≡ a) ↔ LoadRows bytes a
+  -- 8 names the lowest such claim or assumption; no other reply names one
+  pub adding-names : (s : Store) (c : ℕ) (l : List ℕ) (n : ℕ) → (namedBy (C .adding s c l .reply) ≡ some n)
+      ↔ ((numberOf (C .adding s c l .reply) ≡ 8) × LabelFull (s .held .assumptions) (top (s .held)) (enlarged s c l) n)
+  pub loading-names : (bytes : List ℕ) (n : ℕ) → (namedBy (C .loading bytes .reply) ≡ some n) ↔ ((numberOf (C .loading bytes .reply) ≡ 8) × LoadNames (caseOf bytes) n)
