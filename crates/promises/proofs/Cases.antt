@@ -12,23 +12,21 @@ use Rattle.numbers.specs.Numbers.{numberAt, numberFrom, secondFrom}
 use Rattle.numbers.specs.declared.Number.the-variants.{Bad, Value}
 use Rattle.promises.proofs.Form.{Form, form-a, form-m, form-settled, made-form}
 use Rattle.promises.proofs.Right.{form-right, form-stage}
-use Rattle.promises.proofs.Small.{done-with, few-room, opens-at}
+use Rattle.promises.proofs.Small.{add-done, few-room, made-add, made-open, one-done, one-made}
 use Rattle.promises.proofs.Telling.{held-label-at, held-nogoods-at}
 use Rattle.promises.proofs.Truth.{demand-2}
 use Rattle.promises.specs.Calls.{ours}
 use Rattle.promises.specs.Cases.{ListsAre, PCases, absurdity, assumed, eachOther, listed, listedBytes, oneWay, struck, withOne}
 use Rattle.promises.specs.Demand2.{atPlace}
-use Rattle.promises.specs.Made.{Made, added, inOrder, loaded, opened, putIn}
+use Rattle.promises.specs.Made.{Made, inOrder, loaded, putIn}
 use Rattle.promises.specs.Room.{Reaches}
 use Rattle.replies.specs.declared.Reply.the-variants.{Already, Done, Form as BadForm}
 use Rattle.rules.specs.Held.{put}
 use Rattle.rules.specs.Items.{faultOf, justificationOf, sameJustification, setOf}
 use Rattle.stages.specs.Lists.{listsOf}
 use Rattle.stages.specs.declared.Lists.{Lists}
-use Rattle.store.specs.Calls.{addOf, openOf}
 use Rattle.store.specs.Reading.{labelHeld, listHeld}
 use Rattle.store.specs.Shape.{top}
-use Rattle.store.specs.declared.Outcome.{Outcome}
 use Rattle.store.specs.declared.Store.{Store}
 use Rattle.theory.proofs.Judgement.{stage-length, stage-nogoods}
 use Rattle.theory.proofs.Listing.{below-elim}
@@ -86,30 +84,6 @@ made-are m {d} {g} e = form-are (made-form m) d g e
 member-reads : {A M : ℕ} {H : List Justification} {s : Store} → Form A M H s → (n : ℕ) → n ≤ A + M → (place : ℕ) → memberOf s n place ≡ atPlace (listHeld (s .lists) n) place
 unfolding memberOf memberAt
 member-reads {s = s} f n h place = rw (form-right f, le-ltb (top (s .held)) n (omega (arith, form-a f, form-m f)))
-
--- ---- what the calls make
-
-made-open : (A M : ℕ) → A ≤ 32 → M ≤ 96 → Made ours A M [] (openOf A M .store)
-made-open A M a m = opened (done-with (openOf A M) (ap (λ (o : Outcome). o .reply) (opens-at A M a m)))
-
-module _ {A M : ℕ} {H : List Justification} {s : Store} (m : Made ours A M H s) (c : ℕ) (l : List ℕ) (r : Reaches A M H c l) (few : A ≤ 3) where
-  add-done : addOf s c l .reply ≡ Done
-  add-done = demand-2 .tells m .adding c l Done .1 (r, few-room A (A + M) (justificationOf (A + M) c l ∷ H) few)
-
-  made-add : Made ours A M (justificationOf (A + M) c l ∷ H) (addOf s c l .store)
-  made-add = added c l m (done-with (addOf s c l) add-done)
-
--- one adding to an opened store
-module _ (A M c : ℕ) (l : List ℕ) (few : A ≤ 3) (claims : M ≤ 96) (sound : faultOf (A + M) c l ≡ Done) where
-  reaches-one : Reaches A M [] c l
-  unfolding inOrder
-  reaches-one = record { sound = sound; new = λ m. elim m [ ]; room = omega arith }
-
-  one-done : addOf (openOf A M .store) c l .reply ≡ Done
-  one-done = add-done (made-open A M (omega arith) claims) c l reaches-one few
-
-  one-made : Made ours A M (justificationOf (A + M) c l ∷ []) (addOf (openOf A M .store) c l .store)
-  one-made = made-add (made-open A M (omega arith) claims) c l reaches-one few
 
 -- ---- nothing held
 

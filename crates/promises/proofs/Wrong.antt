@@ -3,17 +3,16 @@ use mathlib.Core.Bool.{false, true}
 use mathlib.Core.List.{List·Memᴰ·eq-of-singleton, [], _∷_}
 use mathlib.Core.Logic.{⊎-elim}
 use mathlib.Core.Path.{_∙_, _≡_, ap, refl, subst, sym}
-use Prim.Native.Nat.{_+_, _<_, _≤_, zero-le, ℕ}
+use Prim.Native.Nat.{_+_, _<_, zero-le, ℕ}
 use native.Mathlib.Nat.{eq-or-lt-of-le}
 use native.Mathlib.Omega.{arith}
-use lib.Count.{ones}
 use lib.Dec.{eqb}
 use lib.ListN.{length}
 use Rattle.asking.specs.Asking.{byteOf, questionOf}
 use Rattle.asking.specs.declared.Answer.{Answer}
 use Rattle.asking.specs.declared.Answer.the-variants.{Supported, Unsupported}
 use Rattle.promises.proofs.Form.{form-count, made-form}
-use Rattle.promises.proofs.Small.{done-with, opens-at, small-room}
+use Rattle.promises.proofs.Small.{done-with, few-room, opens-at}
 use Rattle.promises.proofs.Truth.{demand-2}
 use Rattle.promises.specs.Calls.{ours}
 use Rattle.promises.specs.Demand2.{Demand2, Smallest}
@@ -31,7 +30,7 @@ use Rattle.theory.proofs.Lists.{clash}
 use Rattle.theory.proofs.Sets.{within-le}
 use Rattle.theory.specs.Demands.{carries, contradicts}
 use Rattle.theory.specs.Lists.{allOf, choose, numbersBelow, someOf, those}
-use Rattle.theory.specs.Sets.{among, bySize, digit, listing}
+use Rattle.theory.specs.Sets.{among, digit}
 use Rattle.theory.specs.Stages.{Justification, follows, gives}
 
 not-both : (a : Answer) → a ≡ Supported → a ≡ Unsupported → ⊥
@@ -50,10 +49,6 @@ denies : Demand2 denying → ⊥
 denies d =
     let m : Made denying 1 0 [] (startStore 1 0) = opened (opens-at 1 0 (omega arith) (omega arith)) in
     not-both Unsupported (d .tells m .question 1 1 (omega arith) (omega arith) Supported .1 one-carries) refl
-
-two-sets : length (listing 1) ≤ 12
-unfolding listing bySize numbersBelow those ones
-two-sets = omega arith
 
 -- ---- claim 2 from assumption 1, claim 3 from claim 2; M claims
 abbrev first : ℕ → Justification
@@ -130,12 +125,12 @@ stages-once d =
     let o : openOf 1 2 ≡ answer Done s₀ = opens-at 1 2 (omega arith) (omega arith) in
     let m₀ : Made ours 1 2 [] s₀ = opened o in
     let out₁ : Outcome = addOf s₀ 2 (1 ∷ []) in
-    let e₁ : out₁ ≡ answer Done (out₁ .store) = done-with out₁ (demand-2 .tells m₀ .adding 2 (1 ∷ []) Done .1 (first-reaches, small-room 1 3 (first 2 ∷ []) two-sets)) in
+    let e₁ : out₁ ≡ answer Done (out₁ .store) = done-with out₁ (demand-2 .tells m₀ .adding 2 (1 ∷ []) Done .1 (first-reaches, few-room 1 3 (first 2 ∷ []) (omega arith))) in
     let m₁ : Made ours 1 2 (first 2 ∷ []) (out₁ .store) = added 2 (1 ∷ []) m₀ e₁ in
     let w₁ : Made once 1 2 (first 2 ∷ []) (out₁ .store) = added 2 (1 ∷ []) (opened o) (ap (λ (n : ℕ). choose (eqb n 0) out₁ (listsKept s₀ out₁)) none-yet ∙ e₁) in
     let out₂ : Outcome = addOf (out₁ .store) 3 (2 ∷ []) in
     let kept : Outcome = listsKept (out₁ .store) out₂ in
-    let r₂ : out₂ .reply ≡ Done = demand-2 .tells m₁ .adding 3 (2 ∷ []) Done .1 (second-reaches, small-room 1 3 (second 2 ∷ first 2 ∷ []) two-sets) in
+    let r₂ : out₂ .reply ≡ Done = demand-2 .tells m₁ .adding 3 (2 ∷ []) Done .1 (second-reaches, few-room 1 3 (second 2 ∷ first 2 ∷ []) (omega arith)) in
     let w₂ : Made once 1 2 (second 2 ∷ first 2 ∷ []) (kept .store) =
     added 3 (2 ∷ []) w₁ (ap (λ (n : ℕ). choose (eqb n 0) out₂ kept) (form-count (made-form m₁) ∙ one-held) ∙ done-with kept r₂) in
     clash (demand-2 .tells m₁ .label 3 (omega arith) .exactly 1 .0 (d .tells w₂ .label 3 (omega arith) .exactly 1 .1 one-smallest) .has) first-carries-not
