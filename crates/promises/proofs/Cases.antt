@@ -1,50 +1,244 @@
--- The case of document 01 that speaks of calls, from the demands alone. Assumes nothing.
-use mathlib.Core.List.{[], _∷_, List·Memᴰ·head as here}
-use mathlib.Core.Path.{_≡_, ap, refl}
+-- Every case of the table holds of our calls: the answers by the demands, the lists by computing the judgement of what was put in. Assumes nothing.
+use mathlib.Core.List.{List, List·Memᴰ·eq-of-singleton, List·Memᴰ as Mem, [], _∷_, List·Memᴰ·head as here, map, List·Memᴰ·tail as there}
+use mathlib.Core.Path.{_∙_, _≡_, ap, ap₂, refl, sym}
+use Prim.Native.Nat.{_+_, _≤_, suc, ℕ}
 use native.Mathlib.Omega.{arith}
-use lib.Count.{ones}
-use lib.ListN.{length}
-use Rattle.promises.proofs.Small.{done-with, opens-at, small-room}
+use lib.ListN.{getD, length}
+use borrow.Author.Tests.{le-ltb}
+use Rattle.asking.specs.Asking.{memberAt, memberOf}
+use Rattle.casefile.proofs.Cases.{listed as spells, listedCase}
+use Rattle.casefile.specs.Load.{loadOf}
+use Rattle.numbers.specs.Numbers.{numberAt, numberFrom, secondFrom}
+use Rattle.numbers.specs.declared.Number.the-variants.{Bad, Value}
+use Rattle.promises.proofs.Form.{Form, form-a, form-m, form-settled, made-form}
+use Rattle.promises.proofs.Right.{form-right, form-stage}
+use Rattle.promises.proofs.Small.{add-done, few-room, made-add, made-open, one-done, one-made}
+use Rattle.promises.proofs.Telling.{held-label-at, held-nogoods-at}
 use Rattle.promises.proofs.Truth.{demand-2}
 use Rattle.promises.specs.Calls.{ours}
-use Rattle.promises.specs.Cases.{CallCases, withOne}
-use Rattle.promises.specs.Made.{Made, added, inOrder, opened}
+use Rattle.promises.specs.Cases.{ListsAre, PCases, absurdity, assumed, eachOther, listed, listedBytes, oneWay, struck, withOne}
+use Rattle.promises.specs.Demand2.{atPlace}
+use Rattle.promises.specs.Made.{Made, inOrder, loaded, putIn}
 use Rattle.promises.specs.Room.{Reaches}
-use Rattle.replies.specs.declared.Reply.the-variants.{Already, Done}
-use Rattle.rules.specs.Items.{faultOf, justificationOf, setOf}
-use Rattle.store.specs.Calls.{addOf, openOf}
-use Rattle.store.specs.declared.Outcome.{Outcome}
-use Rattle.theory.specs.Lists.{numbersBelow, someOf, those}
-use Rattle.theory.specs.Sets.{bySize, listing}
-use Rattle.theory.specs.Stages.{Justification}
+use Rattle.replies.specs.declared.Reply.the-variants.{Already, Done, Form as BadForm}
+use Rattle.rules.specs.Held.{put}
+use Rattle.rules.specs.Items.{faultOf, justificationOf, sameJustification, setOf}
+use Rattle.stages.specs.Lists.{listsOf}
+use Rattle.stages.specs.declared.Lists.{Lists}
+use Rattle.store.specs.Reading.{labelHeld, listHeld}
+use Rattle.store.specs.Shape.{top}
+use Rattle.store.specs.declared.Store.{Store}
+use Rattle.theory.proofs.Judgement.{stage-length, stage-nogoods}
+use Rattle.theory.proofs.Listing.{below-elim}
+use Rattle.theory.specs.Cases.{at, from, verdict, worked}
+use Rattle.theory.specs.Judge.{Stage, Verdict, judge, labelOver, limits, nogoodsOver, settled, stageAt, stageOf, unsettled}
+use Rattle.theory.specs.Lists.{numbersBelow, numbersTo, someOf, those}
+use Rattle.theory.specs.Stages.{Justification, ahead, labelAt, lesser}
 
-abbrev both : Justification
-both = justificationOf 3 3 (2 ∷ 1 ∷ 2 ∷ [])
+-- ---- the lists of a made store are those of the judgement of what was put in
 
-one-set : justificationOf 3 3 (1 ∷ 2 ∷ []) ≡ both
+abbrev depthIn : Verdict → ℕ
+depthIn (settled d g) = d
+depthIn nogoodsOver = 0
+depthIn (labelOver n) = 0
+depthIn unsettled = 0
+
+abbrev stageIn : Verdict → Stage
+stageIn (settled d g) = g
+stageIn nogoodsOver = record { nogoods = []; labels = [] }
+stageIn (labelOver n) = record { nogoods = []; labels = [] }
+stageIn unsettled = record { nogoods = []; labels = [] }
+
+map-same : {X : Type 0} (f g : ℕ → X) (l : List ℕ) → ((i : ℕ) → Mem i l → f (suc i) ≡ g (suc i)) → map f (map suc l) ≡ map g (map suc l)
+map-same f g [] h = refl
+map-same {X} f g (x ∷ l) h = ap₂ (λ (a : X) (b : List X). a ∷ b) (h x (here refl)) (map-same f g l (λ i m. h i (there m)))
+
+module _ {A M : ℕ} {H : List Justification} {s : Store} (f : Form A M H s) (d : ℕ) (g : Stage) (e : judge limits A (A + M) (inOrder H) ≡ settled d g) where
+  one-verdict : settled (form-settled f .depth) (form-settled f .stage) ≡ settled d g
+  one-verdict = sym (form-settled f .verdict) ∙ e
+
+  depth-is : form-settled f .depth ≡ d
+  depth-is = ap depthIn one-verdict
+
+  stage-is : stageAt A (A + M) (inOrder H) (form-settled f .depth) ≡ g
+  stage-is = sym (form-stage f) ∙ ap stageIn one-verdict
+
+  labels-are : map (labelHeld (s .lists)) (numbersTo (A + M)) ≡ stageAt A (A + M) (inOrder H) (form-settled f .depth) .labels
+  unfolding numbersTo stageAt stageOf labelAt
+  labels-are = map-same (labelHeld (s .lists)) (labelAt A (inOrder H) (form-settled f .depth)) (numbersBelow (A + M)) (λ i k. held-label-at f (suc i) (below-elim (A + M) k))
+
+  form-are : ListsAre s d (g .nogoods) (g .labels)
+  unfolding listsOf
+  form-are = record {
+    depth = ap (λ (x : Store). x .lists .depth) (form-settled f .is) ∙ depth-is;
+    nogoods = held-nogoods-at f ∙ sym (stage-nogoods A (A + M) (inOrder H) (form-settled f .depth)) ∙ ap (λ (x : Stage). x .nogoods) stage-is;
+    labels =
+        ap (λ (n : ℕ). map (labelHeld (s .lists)) (numbersTo n)) (sym (ap (λ (x : Stage). length (x .labels)) stage-is) ∙ stage-length A (A + M) (inOrder H) (form-settled f .depth))
+        ∙ labels-are ∙ ap (λ (x : Stage). x .labels) stage-is;
+  }
+
+made-are : {A M : ℕ} {H : List Justification} {s : Store} → Made ours A M H s → {d : ℕ} {g : Stage} → judge limits A (A + M) (inOrder H) ≡ settled d g → ListsAre s d (g .nogoods) (g .labels)
+made-are m {d} {g} e = form-are (made-form m) d g e
+
+-- member reads the list as it stands
+member-reads : {A M : ℕ} {H : List Justification} {s : Store} → Form A M H s → (n : ℕ) → n ≤ A + M → (place : ℕ) → memberOf s n place ≡ atPlace (listHeld (s .lists) n) place
+unfolding memberOf memberAt
+member-reads {s = s} f n h place = rw (form-right f, le-ltb (top (s .held)) n (omega (arith, form-a f, form-m f)))
+
+-- ---- nothing held
+
+nothing-verdict : judge limits 0 0 (inOrder []) ≡ at 0 [] []
+unfolding verdict inOrder
+nothing-verdict = refl
+
+-- ---- the listed case
+
+listed-verdict : judge limits 3 5 (inOrder worked) ≡ at 2 (3 ∷ []) ((1 ∷ []) ∷ (2 ∷ []) ∷ (4 ∷ []) ∷ (1 ∷ 6 ∷ []) ∷ (6 ∷ []) ∷ [])
+unfolding verdict inOrder put setOf sameJustification ahead lesser
+listed-verdict = refl
+
+listed-done : loadOf listedBytes .reply ≡ Done
+listed-done = demand-2 .loads listedBytes listedCase spells Done .1 (few-room 3 5 (putIn listedCase) (omega arith))
+
+made-listed : Made ours 3 2 worked (listed ours)
+unfolding setOf those numbersBelow someOf
+made-listed = loaded listedBytes listedCase spells refl refl listed-done refl
+
+listed-are : ListsAre (listed ours) 2 (3 ∷ []) ((1 ∷ []) ∷ (2 ∷ []) ∷ (4 ∷ []) ∷ (1 ∷ 6 ∷ []) ∷ (6 ∷ []) ∷ [])
+listed-are = made-are made-listed listed-verdict
+
+-- the fifth of five labels
+fifth : (l : Lists) (a b c d e : List ℕ) → map (labelHeld l) (numbersTo 5) ≡ a ∷ b ∷ c ∷ d ∷ e ∷ [] → labelHeld l 5 ≡ e
+unfolding numbersTo numbersBelow
+fifth l a b c d e p = ap (λ (x : List (List ℕ)). getD x 4 []) p
+
+five : labelHeld (listed ours .lists) 5 ≡ 6 ∷ []
+five = fifth (listed ours .lists) (1 ∷ []) (2 ∷ []) (4 ∷ []) (1 ∷ 6 ∷ []) (6 ∷ []) (listed-are .labels)
+
+member-five : (place : ℕ) → memberOf (listed ours) 5 place ≡ atPlace (6 ∷ []) place
+member-five place = member-reads (made-form made-listed) 5 (omega arith) place ∙ ap (λ (l : List ℕ). atPlace l place) five
+
+-- ---- claims 2 and 3 support each other
+
+sounds : (faultOf 3 2 (3 ∷ []) ≡ Done) × (faultOf 3 3 (2 ∷ []) ≡ Done)
+unfolding faultOf someOf
+sounds = (refl, refl)
+
+made-one-way : Made ours 1 2 (from 2 (3 ∷ []) ∷ []) (oneWay ours)
+unfolding setOf those numbersBelow someOf
+made-one-way = one-made 1 2 2 (3 ∷ []) (omega arith) (omega arith) (sounds .0)
+
+reaches-other : Reaches 1 2 (from 2 (3 ∷ []) ∷ []) 3 (2 ∷ [])
+unfolding inOrder someOf put
+reaches-other = record {
+  sound = sounds .1;
+  new = λ m. let z : _≡_ {A = ℕ} 3 2 = ap (λ (j : Justification). j .consequent) (List·Memᴰ·eq-of-singleton m) in omega arith;
+  room = omega arith;
+}
+
+made-each-other : Made ours 1 2 (from 3 (2 ∷ []) ∷ from 2 (3 ∷ []) ∷ []) (eachOther ours)
+unfolding setOf those numbersBelow someOf
+made-each-other = made-add made-one-way 3 (2 ∷ []) reaches-other (omega arith)
+
+each-other-verdict : judge limits 1 3 (inOrder (from 3 (2 ∷ []) ∷ from 2 (3 ∷ []) ∷ [])) ≡ at 0 [] ((1 ∷ []) ∷ [] ∷ [] ∷ [])
+unfolding verdict inOrder put sameJustification ahead lesser
+each-other-verdict = refl
+
+-- ---- a premise for falsity
+
+absurdity-sound : faultOf 3 0 [] ≡ Done
+unfolding faultOf someOf
+absurdity-sound = refl
+
+made-absurdity : Made ours 2 1 (from 0 [] ∷ []) (absurdity ours)
+unfolding setOf those numbersBelow someOf
+made-absurdity = one-made 2 1 0 [] (omega arith) (omega arith) absurdity-sound
+
+absurdity-verdict : judge limits 2 3 (inOrder (from 0 [] ∷ [])) ≡ at 1 (0 ∷ []) ([] ∷ [] ∷ [] ∷ [])
+unfolding verdict inOrder put
+absurdity-verdict = refl
+
+-- ---- assumption 1 justified by assumption 2
+
+assumed-sound : faultOf 2 1 (2 ∷ []) ≡ Done
+unfolding faultOf someOf
+assumed-sound = refl
+
+made-assumed : Made ours 2 0 (from 1 (2 ∷ []) ∷ []) (assumed ours)
+unfolding setOf those numbersBelow someOf
+made-assumed = one-made 2 0 1 (2 ∷ []) (omega arith) (omega arith) assumed-sound
+
+assumed-verdict : judge limits 2 2 (inOrder (from 1 (2 ∷ []) ∷ [])) ≡ at 1 [] ((1 ∷ 2 ∷ []) ∷ (2 ∷ []) ∷ [])
+unfolding verdict inOrder put
+assumed-verdict = refl
+
+-- ---- supports 2, 1, 2 and supports 1, 2
+
+one-sounds : (faultOf 3 3 (2 ∷ 1 ∷ 2 ∷ []) ≡ Done) × (faultOf 3 3 (1 ∷ 2 ∷ []) ≡ Done)
+unfolding faultOf someOf
+one-sounds = (refl, refl)
+
+made-with-one : Made ours 2 1 (from 3 (1 ∷ 2 ∷ []) ∷ []) (withOne ours)
+unfolding setOf those numbersBelow someOf
+made-with-one = one-made 2 1 3 (2 ∷ 1 ∷ 2 ∷ []) (omega arith) (omega arith) (one-sounds .0)
+
+one-set : justificationOf 3 3 (1 ∷ 2 ∷ []) ≡ from 3 (1 ∷ 2 ∷ [])
 unfolding setOf those numbersBelow someOf
 one-set = refl
 
-sound : faultOf 3 3 (1 ∷ 2 ∷ []) ≡ Done
+-- ---- nogood {1} with A=1
+
+struck-sound : faultOf 1 0 (1 ∷ []) ≡ Done
 unfolding faultOf someOf
-sound = refl
+struck-sound = refl
 
-reaches : Reaches 2 1 [] 3 (2 ∷ 1 ∷ 2 ∷ [])
-unfolding faultOf someOf inOrder
-reaches = record { sound = refl; new = λ m. elim m [ ]; room = omega arith }
+made-struck : Made ours 1 0 (from 0 (1 ∷ []) ∷ []) (struck ours)
+unfolding setOf those numbersBelow someOf
+made-struck = one-made 1 0 0 (1 ∷ []) (omega arith) (omega arith) struck-sound
 
-four-sets : length (listing 2) ≡ 4
-unfolding listing bySize numbersBelow those ones
-four-sets = refl
+struck-verdict : judge limits 1 1 (inOrder (from 0 (1 ∷ []) ∷ [])) ≡ at 1 (1 ∷ []) ([] ∷ [])
+unfolding verdict inOrder put
+struck-verdict = refl
 
-made-empty : Made ours 2 1 [] (openOf 2 1 .store)
-made-empty = opened (done-with (openOf 2 1) (ap (λ (o : Outcome). o .reply) (opens-at 2 1 (omega arith) (omega arith))))
+-- ---- numbers
 
-first-done : addOf (openOf 2 1 .store) 3 (2 ∷ 1 ∷ 2 ∷ []) .reply ≡ Done
-first-done = demand-2 .tells made-empty .adding 3 (2 ∷ 1 ∷ 2 ∷ []) Done .1 (reaches, small-room 2 3 (both ∷ []) (omega (arith, four-sets)))
+numbers : (numberAt (127 ∷ []) 0 ≡ Value 127 1) × (numberAt (128 ∷ 1 ∷ []) 0 ≡ Value 128 2) × (numberAt (255 ∷ 127 ∷ []) 0 ≡ Value 16383 2) × (numberAt (172 ∷ 2 ∷ []) 0 ≡ Value 300 2)
+    × (numberAt (128 ∷ 0 ∷ []) 0 ≡ Bad BadForm)
+unfolding numberAt numberFrom secondFrom
+numbers = (refl, refl, refl, refl, refl)
 
-made-one : Made ours 2 1 (both ∷ []) withOne
-made-one = added 3 (2 ∷ 1 ∷ 2 ∷ []) made-empty (done-with (addOf (openOf 2 1 .store) 3 (2 ∷ 1 ∷ 2 ∷ [])) first-done)
+-- ---- the table
 
-pub call-cases : CallCases
-call-cases = record { first = first-done; again = demand-2 .tells made-one .adding 3 (1 ∷ 2 ∷ []) Already .1 (sound, here one-set) }
+pub p-cases : PCases ours
+p-cases = record {
+  nothing-done = demand-2 .opens 0 0 (omega arith) (omega arith);
+  nothing-made = made-open 0 0 (omega arith) (omega arith);
+  nothing-lists = made-are (made-open 0 0 (omega arith) (omega arith)) nothing-verdict;
+  listed-done = listed-done;
+  listed-made = made-listed;
+  listed-lists = listed-are;
+  listed-5 = five;
+  listed-member = member-five 0;
+  listed-last = member-five 1;
+  one-way-done = one-done 1 2 2 (3 ∷ []) (omega arith) (omega arith) (sounds .0);
+  each-other-done = add-done made-one-way 3 (2 ∷ []) reaches-other (omega arith);
+  each-other-made = made-each-other;
+  each-other-lists = made-are made-each-other each-other-verdict;
+  absurdity-done = one-done 2 1 0 [] (omega arith) (omega arith) absurdity-sound;
+  absurdity-made = made-absurdity;
+  absurdity-lists = made-are made-absurdity absurdity-verdict;
+  assumed-done = one-done 2 0 1 (2 ∷ []) (omega arith) (omega arith) assumed-sound;
+  assumed-made = made-assumed;
+  assumed-lists = made-are made-assumed assumed-verdict;
+  with-one-done = one-done 2 1 3 (2 ∷ 1 ∷ 2 ∷ []) (omega arith) (omega arith) (one-sounds .0);
+  with-one-made = made-with-one;
+  with-one-again = demand-2 .tells made-with-one .adding 3 (1 ∷ 2 ∷ []) Already .1 (one-sounds .1, here one-set);
+  struck-done = one-done 1 0 0 (1 ∷ []) (omega arith) (omega arith) struck-sound;
+  struck-made = made-struck;
+  struck-lists = made-are made-struck struck-verdict;
+  number-127 = numbers .0;
+  number-128 = numbers .1;
+  number-16383 = numbers .2;
+  number-300 = numbers .3;
+  number-80-00 = numbers .4;
+}

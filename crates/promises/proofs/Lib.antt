@@ -18,4 +18,6 @@ pub mod Promises
 pub mod OneAnswer
 pub mod Small
 pub mod Cases
+pub mod Prefixed
+pub mod Arrival
 pub mod Wrong

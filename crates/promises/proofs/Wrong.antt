@@ -1,9 +1,9 @@
 -- Demand 2 refutes the empty programs, each by a small case. Assumes nothing.
-use mathlib.Core.Bool.{false, true}
-use mathlib.Core.List.{List·Memᴰ·eq-of-singleton, [], _∷_}
+use mathlib.Core.Bool.{Bool, false, true}
+use mathlib.Core.List.{List, List·Memᴰ·eq-of-singleton, List·Memᴰ as Mem, [], _∷_, List·Memᴰ·head as here}
 use mathlib.Core.Logic.{⊎-elim}
-use mathlib.Core.Path.{_∙_, _≡_, ap, refl, subst, sym}
-use Prim.Native.Nat.{_+_, _<_, _≤_, zero-le, ℕ}
+use mathlib.Core.Path.{_∙_, _≡_, ap, ap₂, refl, subst, sym}
+use Prim.Native.Nat.{_+_, _<_, zero-le, ℕ}
 use native.Mathlib.Nat.{eq-or-lt-of-le}
 use native.Mathlib.Omega.{arith}
 use lib.Count.{ones}
@@ -11,28 +11,37 @@ use lib.Dec.{eqb}
 use lib.ListN.{length}
 use Rattle.asking.specs.Asking.{byteOf, questionOf}
 use Rattle.asking.specs.declared.Answer.{Answer}
-use Rattle.asking.specs.declared.Answer.the-variants.{Supported, Unsupported}
-use Rattle.promises.proofs.Form.{form-count, made-form}
-use Rattle.promises.proofs.Small.{done-with, opens-at, small-room}
+use Rattle.asking.specs.declared.Answer.the-variants.{Inconsistent, Refused, Supported, Unsupported}
+use Rattle.promises.proofs.Arrival.{keeps-arrival}
+use Rattle.promises.proofs.Cases.{p-cases}
+use Rattle.promises.proofs.Form.{Form, form-a, form-count, form-m, form-said, made-form}
+use Rattle.promises.proofs.Prefixed.{judges-prefixes}
+use Rattle.promises.proofs.Small.{done-with, few-room, opens-at}
 use Rattle.promises.proofs.Truth.{demand-2}
 use Rattle.promises.specs.Calls.{ours}
 use Rattle.promises.specs.Demand2.{Demand2, Smallest}
 use Rattle.promises.specs.Made.{Made, added, inOrder, opened}
 use Rattle.promises.specs.Room.{Reaches}
-use Rattle.promises.specs.Wrong.{Refuted, deep, deeper, denying, idle, listsKept, once, refusing}
+use Rattle.promises.specs.Wrong.{Refuted, deep, deeper, denying, forgetful, forgetting, idle, lenient, listsKept, once, refusing, sparing, unstruck, unstruckLists}
 use Rattle.replies.specs.Replies.{numberOf}
 use Rattle.replies.specs.declared.Reply.the-variants.{Done}
-use Rattle.rules.specs.Held.{heldOf, put}
+use Rattle.rules.specs.Held.{heldOf, put, saidBy}
 use Rattle.rules.specs.Items.{faultOf, justificationOf, setOf}
+use Rattle.stages.specs.Lists.{listsOf}
+use Rattle.stages.specs.declared.Lists.{Lists}
 use Rattle.store.specs.Calls.{addOf, answer, openOf, startStore}
+use Rattle.store.specs.Reading.{labelHeld, nogoodsHeld}
+use Rattle.store.specs.Shape.{top}
 use Rattle.store.specs.declared.Outcome.{Outcome}
 use Rattle.store.specs.declared.Store.{Store}
 use Rattle.theory.proofs.Lists.{clash}
 use Rattle.theory.proofs.Sets.{within-le}
+use Rattle.theory.specs.Cases.{from}
 use Rattle.theory.specs.Demands.{carries, contradicts}
-use Rattle.theory.specs.Lists.{allOf, choose, numbersBelow, someOf, those}
-use Rattle.theory.specs.Sets.{among, bySize, digit, listing}
-use Rattle.theory.specs.Stages.{Justification, follows, gives}
+use Rattle.theory.specs.Lists.{allOf, choose, numbersBelow, numbersTo, someOf, those}
+use Rattle.theory.specs.Places.{table}
+use Rattle.theory.specs.Sets.{among, bySize, contains, digit, listing, within}
+use Rattle.theory.specs.Stages.{Justification, follows, gives, minimal}
 
 not-both : (a : Answer) → a ≡ Supported → a ≡ Unsupported → ⊥
 not-both a p q = let z : _≡_ {A = ℕ} 1 0 = ap byteOf (sym p ∙ q) in omega arith
@@ -50,10 +59,6 @@ denies : Demand2 denying → ⊥
 denies d =
     let m : Made denying 1 0 [] (startStore 1 0) = opened (opens-at 1 0 (omega arith) (omega arith)) in
     not-both Unsupported (d .tells m .question 1 1 (omega arith) (omega arith) Supported .1 one-carries) refl
-
-two-sets : length (listing 1) ≤ 12
-unfolding listing bySize numbersBelow those ones
-two-sets = omega arith
 
 -- ---- claim 2 from assumption 1, claim 3 from claim 2; M claims
 abbrev first : ℕ → Justification
@@ -130,12 +135,12 @@ stages-once d =
     let o : openOf 1 2 ≡ answer Done s₀ = opens-at 1 2 (omega arith) (omega arith) in
     let m₀ : Made ours 1 2 [] s₀ = opened o in
     let out₁ : Outcome = addOf s₀ 2 (1 ∷ []) in
-    let e₁ : out₁ ≡ answer Done (out₁ .store) = done-with out₁ (demand-2 .tells m₀ .adding 2 (1 ∷ []) Done .1 (first-reaches, small-room 1 3 (first 2 ∷ []) two-sets)) in
+    let e₁ : out₁ ≡ answer Done (out₁ .store) = done-with out₁ (demand-2 .tells m₀ .adding 2 (1 ∷ []) Done .1 (first-reaches, few-room 1 3 (first 2 ∷ []) (omega arith))) in
     let m₁ : Made ours 1 2 (first 2 ∷ []) (out₁ .store) = added 2 (1 ∷ []) m₀ e₁ in
     let w₁ : Made once 1 2 (first 2 ∷ []) (out₁ .store) = added 2 (1 ∷ []) (opened o) (ap (λ (n : ℕ). choose (eqb n 0) out₁ (listsKept s₀ out₁)) none-yet ∙ e₁) in
     let out₂ : Outcome = addOf (out₁ .store) 3 (2 ∷ []) in
     let kept : Outcome = listsKept (out₁ .store) out₂ in
-    let r₂ : out₂ .reply ≡ Done = demand-2 .tells m₁ .adding 3 (2 ∷ []) Done .1 (second-reaches, small-room 1 3 (second 2 ∷ first 2 ∷ []) two-sets) in
+    let r₂ : out₂ .reply ≡ Done = demand-2 .tells m₁ .adding 3 (2 ∷ []) Done .1 (second-reaches, few-room 1 3 (second 2 ∷ first 2 ∷ []) (omega arith)) in
     let w₂ : Made once 1 2 (second 2 ∷ first 2 ∷ []) (kept .store) =
     added 3 (2 ∷ []) w₁ (ap (λ (n : ℕ). choose (eqb n 0) out₂ kept) (form-count (made-form m₁) ∙ one-held) ∙ done-with kept r₂) in
     clash (demand-2 .tells m₁ .label 3 (omega arith) .exactly 1 .0 (d .tells w₂ .label 3 (omega arith) .exactly 1 .1 one-smallest) .has) first-carries-not
@@ -148,5 +153,77 @@ made-up-depth d =
     let k : ℕ = startStore 0 0 .lists .depth in
     d .tells m .depth .least k (omega arith) (demand-2 .tells (opened o) .depth .agrees)
 
+-- ---- wrong in one call: falsity from assumption 1
+
+abbrev against : Justification
+against = justificationOf 1 0 (1 ∷ [])
+
+abbrev after : Outcome
+after = addOf (openOf 1 0 .store) 0 (1 ∷ [])
+
+open-with : openOf 1 0 ≡ answer Done (openOf 1 0 .store)
+open-with = done-with (openOf 1 0) (demand-2 .opens 1 0 (omega arith) (omega arith))
+
+against-with : after ≡ answer Done (after .store)
+against-with = done-with after (p-cases .struck-done)
+
+against-says : (contradicts (against ∷ []) 1 ≡ true) × (carries (against ∷ []) 1 1 ≡ false)
+unfolding carries contradicts follows among digit someOf gives allOf setOf those numbersBelow
+against-says = (refl, refl)
+
+-- .. the label of 1 keeps {1}
+
+one-kept : (bad : List ℕ) → labelHeld (listsOf 1 (unstruck 1 1 (from 0 (1 ∷ []) ∷ []) 1 bad)) 1 ≡ 1 ∷ []
+unfolding listsOf table numbersTo numbersBelow those minimal follows among digit within gives someOf allOf listing bySize ones
+one-kept bad = refl
+
+any-kept : (a n k : ℕ) (J : List Justification) (bad : List ℕ) → a ≡ 1 → n ≡ 1 → k ≡ 1 → J ≡ from 0 (1 ∷ []) ∷ [] → labelHeld (listsOf k (unstruck a n J k bad)) 1 ≡ 1 ∷ []
+any-kept a n k J bad p q r s =
+    ap₂ (λ (x y : ℕ). labelHeld (listsOf k (unstruck x y J k bad)) 1) p q ∙ ap₂ (λ (x : ℕ) (K : List Justification). labelHeld (listsOf x (unstruck 1 1 K x bad)) 1) r s
+    ∙ one-kept bad
+
+against-held : inOrder (from 0 (1 ∷ []) ∷ []) ≡ from 0 (1 ∷ []) ∷ []
+unfolding inOrder someOf put
+against-held = refl
+
+strikes-nothing : Demand2 lenient → ⊥
+strikes-nothing d =
+    let s : Store = after .store in
+    let t : Store = record { held = s .held; lists = unstruckLists s } in
+    let f : Form 1 0 (from 0 (1 ∷ []) ∷ []) s = made-form (p-cases .struck-made) in
+    let w : Made lenient 1 0 (against ∷ []) t = added 0 (1 ∷ []) (opened open-with) (ap sparing against-with) in
+    let e : labelHeld (t .lists) 1 ≡ 1 ∷ [] =
+    any-kept (s .held .assumptions) (top (s .held)) (s .lists .depth) (saidBy (s .held)) (nogoodsHeld (s .lists)) (form-a f) (ap₂ (λ (a m : ℕ). a + m) (form-a f) (form-m f))
+    (p-cases .struck-lists .depth) (form-said f ∙ against-held) in
+    clash (d .tells w .label 1 (omega arith) .exactly 1 .0 (subst (Mem 1) (sym e) (here refl)) .has) (against-says .1)
+
+-- .. {1} is called supported or unsupported, never inconsistent
+
+never-inconsistent : (l : Lists) (n E : ℕ) (a : Answer) → forgetting l n E a ≡ Inconsistent → ⊥
+never-inconsistent l n E Supported e = let z : _≡_ {A = ℕ} 1 2 = ap byteOf e in omega arith
+never-inconsistent l n E Unsupported e = let z : _≡_ {A = ℕ} 0 2 = ap byteOf e in omega arith
+never-inconsistent l n E (Refused r) e = let z : _≡_ {A = ℕ} 0 2 = ap byteOf e in omega arith
+never-inconsistent l n E Inconsistent e = go (contains (labelHeld l n) E) e
+  where
+    go : (b : Bool) → choose b Supported Unsupported ≡ Inconsistent → ⊥
+    go true e = let z : _≡_ {A = ℕ} 1 2 = ap byteOf e in omega arith
+    go false e = let z : _≡_ {A = ℕ} 0 2 = ap byteOf e in omega arith
+
+forgets-nogoods : Demand2 forgetful → ⊥
+forgets-nogoods d =
+    let s : Store = after .store in
+    let w : Made forgetful 1 0 (against ∷ []) s = added 0 (1 ∷ []) (opened open-with) against-with in
+    never-inconsistent (s .lists) 1 1 (questionOf s 1 1) (d .tells w .question 1 1 (omega arith) (omega arith) Inconsistent .1 (against-says .0))
+
 pub refuted : Refuted
-refuted = record { refuses = refuses; denies = denies; adds-nothing = adds-nothing; stages-once = stages-once; made-up-depth = made-up-depth }
+refuted = record {
+  refuses = refuses;
+  denies = denies;
+  adds-nothing = adds-nothing;
+  stages-once = stages-once;
+  made-up-depth = made-up-depth;
+  keeps-arrival = keeps-arrival;
+  strikes-nothing = strikes-nothing;
+  judges-prefixes = judges-prefixes;
+  forgets-nogoods = forgets-nogoods;
+}

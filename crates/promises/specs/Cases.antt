@@ -1,15 +1,101 @@
--- The case of document 01 that speaks of calls. (Those that speak of stages stand in one table in crate theory.) Assumes nothing.
-use mathlib.Core.List.{[], _∷_}
+-- The cases of document 01 that are proved (P), all eight in one table: over the calls, at the product's limits. Assumes nothing.
+use mathlib.Core.List.{List, [], _∷_, map}
 use mathlib.Core.Path.{_≡_}
-use Rattle.replies.specs.declared.Reply.the-variants.{Already, Done}
-use Rattle.store.specs.Calls.{addOf, openOf}
+use Prim.Native.Nat.{ℕ}
+use lib.ListN.{length}
+use Rattle.asking.specs.declared.Found.the-variants.{Is, Not}
+use Rattle.numbers.specs.Numbers.{numberAt}
+use Rattle.numbers.specs.declared.Number.the-variants.{Bad, Value}
+use Rattle.promises.specs.Calls.{Calls}
+use Rattle.promises.specs.Made.{Made}
+use Rattle.replies.specs.declared.Reply.the-variants.{Already, Done, Form, Place}
+use Rattle.store.specs.Reading.{labelHeld, nogoodsHeld}
 use Rattle.store.specs.declared.Store.{Store}
+use Rattle.theory.specs.Cases.{from, worked}
+use Rattle.theory.specs.Lists.{numbersTo}
+
+-- ---- the stores, each as the calls hand it back
+
+-- A=0, M=0, nothing held
+abbrev pub nothing : Calls → Store
+nothing C = C .opening 0 0 .store
+
+-- the listed case, by its bytes
+abbrev pub listedBytes : List ℕ
+listedBytes = 3 ∷ 2 ∷ 4 ∷ 4 ∷ 1 ∷ 1 ∷ 4 ∷ 2 ∷ 2 ∷ 3 ∷ 5 ∷ 2 ∷ 2 ∷ 4 ∷ 0 ∷ 2 ∷ 1 ∷ 2 ∷ []
+
+abbrev pub listed : Calls → Store
+listed C = C .loading listedBytes .store
+
+-- A=1, M=2: claim 2 from claim 3, then claim 3 from claim 2
+abbrev pub oneWay : Calls → Store
+oneWay C = C .adding (C .opening 1 2 .store) 2 (3 ∷ []) .store
+
+abbrev pub eachOther : Calls → Store
+eachOther C = C .adding (oneWay C) 3 (2 ∷ []) .store
+
+-- A=2, M=1: falsity from no supports
+abbrev pub absurdity : Calls → Store
+absurdity C = C .adding (C .opening 2 1 .store) 0 [] .store
+
+-- A=2, M=0: assumption 1 from assumption 2
+abbrev pub assumed : Calls → Store
+assumed C = C .adding (C .opening 2 0 .store) 1 (2 ∷ []) .store
 
 -- A=2, M=1: claim 3 from the supports 2, 1, 2
-abbrev pub withOne : Store
-withOne = addOf (openOf 2 1 .store) 3 (2 ∷ 1 ∷ 2 ∷ []) .store
+abbrev pub withOne : Calls → Store
+withOne C = C .adding (C .opening 2 1 .store) 3 (2 ∷ 1 ∷ 2 ∷ []) .store
 
-pub record CallCases : Type 0 where
+-- A=1, M=0: falsity from assumption 1
+abbrev pub struck : Calls → Store
+struck C = C .adding (C .opening 1 0 .store) 0 (1 ∷ []) .store
+
+-- ---- the table
+
+-- what a store lists: its depth, its nogoods, and the labels of 1, 2 ..
+pub record ListsAre (s : Store) (d : ℕ) (bad : List ℕ) (ls : List (List ℕ)) : Type 0 where
+  pub depth : s .lists .depth ≡ d
+  pub nogoods : nogoodsHeld (s .lists) ≡ bad
+  pub labels : map (labelHeld (s .lists)) (numbersTo (length ls)) ≡ ls
+
+-- each row: the answer, what was put in, the lists
+pub record PCases (C : Calls) : Type 0 where
+  -- A=0, M=0, nothing held: depth 0, no nogoods
+  pub nothing-done : C .opening 0 0 .reply ≡ Done
+  pub nothing-made : Made C 0 0 [] (nothing C)
+  pub nothing-lists : ListsAre (nothing C) 0 [] []
+  -- the listed case, its label of 5 and its depth
+  pub listed-done : C .loading listedBytes .reply ≡ Done
+  pub listed-made : Made C 3 2 worked (listed C)
+  pub listed-lists : ListsAre (listed C) 2 (3 ∷ []) ((1 ∷ []) ∷ (2 ∷ []) ∷ (4 ∷ []) ∷ (1 ∷ 6 ∷ []) ∷ (6 ∷ []) ∷ [])
+  -- {2,3} is 6
+  pub listed-5 : labelHeld (listed C .lists) 5 ≡ 6 ∷ []
+  pub listed-member : C .member (listed C) 5 0 .answer ≡ Is 6
+  pub listed-last : C .member (listed C) 5 1 .answer ≡ Not Place
+  -- A=1, claims 2 and 3 supporting each other: both unsupported, depth 0
+  pub one-way-done : C .adding (C .opening 1 2 .store) 2 (3 ∷ []) .reply ≡ Done
+  pub each-other-done : C .adding (oneWay C) 3 (2 ∷ []) .reply ≡ Done
+  pub each-other-made : Made C 1 2 (from 3 (2 ∷ []) ∷ from 2 (3 ∷ []) ∷ []) (eachOther C)
+  pub each-other-lists : ListsAre (eachOther C) 0 [] ((1 ∷ []) ∷ [] ∷ [] ∷ [])
+  -- a premise for falsity: one nogood, the empty set; all labels empty; depth 1. Not refused
+  pub absurdity-done : C .adding (C .opening 2 1 .store) 0 [] .reply ≡ Done
+  pub absurdity-made : Made C 2 1 (from 0 [] ∷ []) (absurdity C)
+  pub absurdity-lists : ListsAre (absurdity C) 1 (0 ∷ []) ([] ∷ [] ∷ [] ∷ [])
+  -- assumption 1 justified by assumption 2: label of 1 is {1} {2}
+  pub assumed-done : C .adding (C .opening 2 0 .store) 1 (2 ∷ []) .reply ≡ Done
+  pub assumed-made : Made C 2 0 (from 1 (2 ∷ []) ∷ []) (assumed C)
+  pub assumed-lists : ListsAre (assumed C) 1 [] ((1 ∷ 2 ∷ []) ∷ (2 ∷ []) ∷ [])
   -- supports 2,1,2 and supports 1,2 are one justification: the second answer is 1
-  pub first : addOf (openOf 2 1 .store) 3 (2 ∷ 1 ∷ 2 ∷ []) .reply ≡ Done
-  pub again : addOf withOne 3 (1 ∷ 2 ∷ []) .reply ≡ Already
+  pub with-one-done : C .adding (C .opening 2 1 .store) 3 (2 ∷ 1 ∷ 2 ∷ []) .reply ≡ Done
+  pub with-one-made : Made C 2 1 (from 3 (1 ∷ 2 ∷ []) ∷ []) (withOne C)
+  pub with-one-again : C .adding (withOne C) 3 (1 ∷ 2 ∷ []) .reply ≡ Already
+  -- nogood {1} with A=1: the label of 1 is empty
+  pub struck-done : C .adding (C .opening 1 0 .store) 0 (1 ∷ []) .reply ≡ Done
+  pub struck-made : Made C 1 0 (from 0 (1 ∷ []) ∷ []) (struck C)
+  pub struck-lists : ListsAre (struck C) 1 (1 ∷ []) ([] ∷ [])
+  -- numbers in seven-bit groups: 127, 128 and 16,383, with the place after each; 300; 80 00 is refused
+  pub number-127 : numberAt (127 ∷ []) 0 ≡ Value 127 1
+  pub number-128 : numberAt (128 ∷ 1 ∷ []) 0 ≡ Value 128 2
+  pub number-16383 : numberAt (255 ∷ 127 ∷ []) 0 ≡ Value 16383 2
+  pub number-300 : numberAt (172 ∷ 2 ∷ []) 0 ≡ Value 300 2
+  pub number-80-00 : numberAt (128 ∷ 0 ∷ []) 0 ≡ Bad Form

@@ -1,18 +1,37 @@
--- Empty programs, each as a value of the calls; demand 2 refutes every one. Nothing else cites this file. Assumes nothing.
-use Prim.Native.Nat.{suc}
+-- Wrong programs, each as a value of the calls and refuted by a demand: the five empty ones of document 01, then four that go wrong in one call. Nothing else cites this file. Assumes nothing.
+use mathlib.Core.Bool.{not}
+use mathlib.Core.List.{List, [], _++_, _∷_, map}
+use Prim.Native.Nat.{_+_, suc, ℕ}
 use lib.Dec.{eqb}
 use Rattle.asking.specs.Asking.{left}
-use Rattle.asking.specs.declared.Answer.the-variants.{Refused, Unsupported}
+use Rattle.asking.specs.declared.Answer.{Answer}
+use Rattle.asking.specs.declared.Answer.the-variants.{Inconsistent, Refused, Supported, Unsupported}
 use Rattle.asking.specs.declared.Found.the-variants.{Not}
+use Rattle.casefile.specs.Case.{Case, Reading, caseOf, joined, refused, whole}
+use Rattle.casefile.specs.Load.{loadedOf, recorded}
+use Rattle.casefile.specs.declared.Loaded.{Loaded}
+use Rattle.items.specs.Items.{Item}
 use Rattle.lines.specs.Lines.{kept}
 use Rattle.promises.specs.Calls.{Calls, handing, ours}
 use Rattle.promises.specs.Demand2.{Demand2}
+use Rattle.promises.specs.Demand3.{Demand3}
+use Rattle.promises.specs.Made.{inOrder}
 use Rattle.replies.specs.declared.Reply.the-variants.{Counts, Done, Ends, Shape}
+use Rattle.rules.specs.Held.{heldOf, saidBy}
+use Rattle.rules.specs.Items.{justificationOf}
+use Rattle.stages.specs.Lists.{listsOf}
 use Rattle.stages.specs.declared.Lists.{Lists}
-use Rattle.store.specs.Calls.{answer, noStore}
+use Rattle.store.specs.Calls.{answer, isDone, noStore, storeOf}
+use Rattle.store.specs.Reading.{labelHeld, nogoodsHeld}
+use Rattle.store.specs.Shape.{top}
 use Rattle.store.specs.declared.Outcome.{Outcome}
 use Rattle.store.specs.declared.Store.{Store}
-use Rattle.theory.specs.Lists.{choose}
+use Rattle.theory.specs.Judge.{Stage}
+use Rattle.theory.specs.Lists.{choose, numbersTo, those}
+use Rattle.theory.specs.Sets.{contains, listing}
+use Rattle.theory.specs.Stages.{Justification, follows, minimal}
+
+-- ---- empty programs
 
 -- refuses each call
 abbrev pub refusing : Calls
@@ -88,9 +107,101 @@ deep = record {
   heading = ours .heading;
 }
 
+-- ---- wrong in one call
+
+-- keeps the order of arrival: adds as ours does to what it holds put in order, but what is new stands last
+abbrev pub putInOrder : Store → Store
+putInOrder s = record { held = heldOf (s .held .assumptions) (s .held .claims) (inOrder (saidBy (s .held))); lists = s .lists }
+
+abbrev pub atTheEnd : Store → Justification → Lists → Store
+atTheEnd s j l = record { held = heldOf (s .held .assumptions) (s .held .claims) (saidBy (s .held) ++ j ∷ []); lists = l }
+
+abbrev pub arriving : Store → Justification → Outcome → Outcome
+arriving s j o = answer (o .reply) (choose (isDone (o .reply)) (atTheEnd s j (o .store .lists)) s)
+
+abbrev pub arrival : Calls
+arrival = record {
+  opening = ours .opening;
+  adding = λ s c l. arriving s (justificationOf (top (s .held)) c l) (ours .adding (putInOrder s) c l);
+  question = ours .question;
+  context = ours .context;
+  member = ours .member;
+  loading = ours .loading;
+  line = ours .line;
+  heading = ours .heading;
+}
+
+-- adds without striking: a label lists the smallest sets from which its number follows, whatever else follows from them
+abbrev pub unstruck : ℕ → ℕ → List Justification → ℕ → List ℕ → Stage
+unstruck A N J k bad = record { nogoods = bad; labels = map (λ n. those (minimal A (λ E. follows J k E n)) (listing A)) (numbersTo N) }
+
+abbrev pub unstruckLists : Store → Lists
+unstruckLists s = listsOf (s .lists .depth) (unstruck (s .held .assumptions) (top (s .held)) (saidBy (s .held)) (s .lists .depth) (nogoodsHeld (s .lists)))
+
+abbrev pub sparing : Outcome → Outcome
+sparing o = choose (isDone (o .reply)) (answer Done (record { held = o .store .held; lists = unstruckLists (o .store) })) o
+
+abbrev pub lenient : Calls
+lenient = record {
+  opening = ours .opening;
+  adding = λ s c l. sparing (ours .adding s c l);
+  question = ours .question;
+  context = ours .context;
+  member = ours .member;
+  loading = ours .loading;
+  line = ours .line;
+  heading = ours .heading;
+}
+
+-- judges a file by its prefixes: the stages of nothing, of its first record, of its first two, and so on; the first refusal decides
+unfoldable pub byPrefixes : ℕ → ℕ → List Justification → List Item → Outcome
+byPrefixes A M J [] = storeOf noStore A M J
+byPrefixes A M J (i ∷ l) =
+    choose (not (isDone (storeOf noStore A M J .reply))) (storeOf noStore A M J)
+    (byPrefixes A M (joined (justificationOf (A + M) (i .consequent) (i .supports)) J) l)
+
+abbrev pub prefixesOf : Reading Case → Loaded
+prefixesOf (whole f) = recorded (f .header .records) (byPrefixes (f .header .assumptions) (f .header .claims) [] (f .items))
+prefixesOf (refused x r) = loadedOf (refused x r)
+
+abbrev pub prefixed : Calls
+prefixed = record {
+  opening = ours .opening;
+  adding = ours .adding;
+  question = ours .question;
+  context = ours .context;
+  member = ours .member;
+  loading = λ bytes. prefixesOf (caseOf bytes);
+  line = ours .line;
+  heading = ours .heading;
+}
+
+-- a question that forgets the nogoods: supported if the set contains a member of the label, else unsupported
+abbrev pub forgetting : Lists → ℕ → ℕ → Answer → Answer
+forgetting l n E (Refused r) = Refused r
+forgetting l n E Inconsistent = choose (contains (labelHeld l n) E) Supported Unsupported
+forgetting l n E Supported = Supported
+forgetting l n E Unsupported = Unsupported
+
+abbrev pub forgetful : Calls
+forgetful = record {
+  opening = ours .opening;
+  adding = ours .adding;
+  question = λ s n E. record { answer = forgetting (s .lists) n E (ours .question s n E .answer); store = s };
+  context = ours .context;
+  member = ours .member;
+  loading = ours .loading;
+  line = ours .line;
+  heading = ours .heading;
+}
+
 pub record Refuted : Type 0 where
   pub refuses : Demand2 refusing → ⊥
   pub denies : Demand2 denying → ⊥
   pub adds-nothing : Demand2 idle → ⊥
   pub stages-once : Demand2 once → ⊥
   pub made-up-depth : Demand2 deep → ⊥
+  pub keeps-arrival : Demand3 arrival → ⊥
+  pub strikes-nothing : Demand2 lenient → ⊥
+  pub judges-prefixes : Demand2 prefixed → ⊥
+  pub forgets-nogoods : Demand2 forgetful → ⊥

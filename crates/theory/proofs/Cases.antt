@@ -5,12 +5,6 @@ use Rattle.theory.specs.Cases.{Cases, verdict}
 pub cases : Cases
 unfolding verdict
 cases = record {
-  nothing = refl;
-  listed = refl;
-  each-other = refl;
-  absurdity = refl;
-  assumed = refl;
-  struck = refl;
   order = refl;
   nogoods-alone = refl;
   lists-alone = refl;

@@ -6,4 +6,4 @@ use Rattle.theory.specs.Readings.{Readings, halfBuilt, made, newNogoods,
 
 pub readings : Readings
 unfolding made satisfying stepBy newNogoods agree alike sameSets halfBuilt
-readings = record { satisfied = refl; once = refl; once-right = refl; kept = refl; kept-right = refl; half = refl; found = refl; found-right = refl }
+readings = record { satisfied = refl; satisfied-right = refl; once = refl; once-right = refl; kept = refl; kept-right = refl; half = refl; found = refl; found-right = refl }

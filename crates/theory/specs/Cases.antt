@@ -1,4 +1,4 @@
--- The cases of document 01 that speak of stages, and both sides of each limit at a small size, in one table under one theorem. Assumes nothing.
+-- Cases of the judgement: listing order, the depth, and both sides of each limit at a small size, in one table under one theorem. (Document 01's P cases stand in crate promises, over the calls.) Assumes nothing.
 use mathlib.Core.List.{List, [], _∷_}
 use mathlib.Core.Path.{_≡_}
 use Prim.Native.Nat.{ℕ}
@@ -24,22 +24,11 @@ verdict L A N J = judge L A N J
 abbrev pub room : ℕ → ℕ → Limits
 room n m = record { label = n; nogoods = m; stages = 129 }
 
+-- document 01's listed case
 abbrev pub worked : List Justification
 worked = from 4 (1 ∷ []) ∷ from 4 (2 ∷ 3 ∷ []) ∷ from 5 (2 ∷ 4 ∷ []) ∷ from 0 (1 ∷ 2 ∷ []) ∷ []
 
 pub record Cases : Type 0 where
-  -- A=0, M=0, nothing held: depth 0, no nogoods
-  pub nothing : verdict limits 0 0 [] ≡ at 0 [] []
-  -- the listed case
-  pub listed : verdict limits 3 5 worked ≡ at 2 (3 ∷ []) ((1 ∷ []) ∷ (2 ∷ []) ∷ (4 ∷ []) ∷ (1 ∷ 6 ∷ []) ∷ (6 ∷ []) ∷ [])
-  -- A=1, claims 2 and 3 supporting each other: both unsupported, depth 0
-  pub each-other : verdict limits 1 3 (from 2 (3 ∷ []) ∷ from 3 (2 ∷ []) ∷ []) ≡ at 0 [] ((1 ∷ []) ∷ [] ∷ [] ∷ [])
-  -- a premise for falsity: one nogood, the empty set; all labels empty; depth 1
-  pub absurdity : verdict limits 2 3 (from 0 [] ∷ []) ≡ at 1 (0 ∷ []) ([] ∷ [] ∷ [] ∷ [])
-  -- assumption 1 justified by assumption 2: label of 1 is {1} {2}
-  pub assumed : verdict limits 2 2 (from 1 (2 ∷ []) ∷ []) ≡ at 1 [] ((1 ∷ 2 ∷ []) ∷ (2 ∷ []) ∷ [])
-  -- nogood {1} with A=1: the label of 1 is empty
-  pub struck : verdict limits 1 1 (from 0 (1 ∷ []) ∷ []) ≡ at 1 (1 ∷ []) ([] ∷ [])
   -- {3} is 4, {1,2} is 3; {3} comes first
   pub order : verdict limits 3 4 (from 4 (1 ∷ 2 ∷ []) ∷ from 4 (3 ∷ []) ∷ []) ≡ at 1 [] ((1 ∷ []) ∷ (2 ∷ []) ∷ (4 ∷ []) ∷ (4 ∷ 3 ∷ []) ∷ [])
   -- the nogoods alone change: depth 1

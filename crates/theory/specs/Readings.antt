@@ -67,6 +67,10 @@ made A N J k step = steps step k (stageAt A N J 0)
 abbrev stage : List ℕ → List (List ℕ) → Stage
 stage n l = record { nogoods = n; labels = l }
 
+-- claims 2 and 3 support each other
+abbrev eachOther : List Justification
+eachOther = from 2 (3 ∷ []) ∷ from 3 (2 ∷ []) ∷ []
+
 -- claim 3 from 1 and 2, and one stage later from 1 alone
 abbrev shorter : List Justification
 shorter = from 3 (1 ∷ 2 ∷ []) ∷ from 4 (1 ∷ []) ∷ from 3 (4 ∷ []) ∷ []
@@ -76,9 +80,10 @@ abbrev crossed : List Justification
 crossed = from 4 (1 ∷ 2 ∷ []) ∷ from 4 (3 ∷ []) ∷ []
 
 pub record Readings : Type 0 where
-  -- two claims that support each other satisfy that with false labels: `each-other` of the table has both empty
-  pub satisfied : satisfying 3 (from 2 (3 ∷ []) ∷ from 3 (2 ∷ []) ∷ []) (stage [] ((1 ∷ []) ∷ (0 ∷ []) ∷ (0 ∷ []) ∷ [])) ≡ true
-  -- later joins bring {1,2} back: `listed` of the table has {2,3} alone for 5
+  -- two claims that support each other satisfy that with false labels; the steps leave both empty
+  pub satisfied : satisfying 3 eachOther (stage [] ((1 ∷ []) ∷ (0 ∷ []) ∷ (0 ∷ []) ∷ [])) ≡ true
+  pub satisfied-right : made 1 3 eachOther 1 (stepBy right 3 eachOther) ≡ stage [] ((1 ∷ []) ∷ [] ∷ [] ∷ [])
+  -- later joins bring {1,2} back into the label of 5
   pub once : made 3 5 worked 2 (λ s. stepBy (struckOnce worked s) 5 worked s) ≡ stage (3 ∷ []) ((1 ∷ []) ∷ (2 ∷ []) ∷ (4 ∷ []) ∷ (1 ∷ 6 ∷ []) ∷ (3 ∷ 6 ∷ []) ∷ [])
   pub once-right : made 3 5 worked 2 (stepBy right 5 worked) ≡ stage (3 ∷ []) ((1 ∷ []) ∷ (2 ∷ []) ∷ (4 ∷ []) ∷ (1 ∷ 6 ∷ []) ∷ (6 ∷ []) ∷ [])
   -- {1,2} stays beside {1}
