@@ -1,7 +1,7 @@
--- Demand 2 refutes the empty programs, each by a small case. Assumes nothing.
+-- A demand refutes each wrong program, by a small case. Assumes nothing.
 use mathlib.Core.Bool.{Bool, false, true}
 use mathlib.Core.List.{List, List·Memᴰ·eq-of-singleton, List·Memᴰ as Mem, [], _∷_, List·Memᴰ·head as here}
-use mathlib.Core.Logic.{⊎-elim}
+use mathlib.Core.Logic.{inr, ⊎-elim}
 use mathlib.Core.Path.{_∙_, _≡_, ap, ap₂, refl, subst, sym}
 use Prim.Native.Nat.{_+_, _<_, zero-le, ℕ}
 use native.Mathlib.Nat.{eq-or-lt-of-le}
@@ -22,6 +22,7 @@ use Rattle.promises.specs.Calls.{ours}
 use Rattle.promises.specs.Demand2.{Demand2, Smallest}
 use Rattle.promises.specs.Made.{Made, added, inOrder, opened}
 use Rattle.promises.specs.Room.{Reaches}
+use Rattle.promises.specs.Table.{OverCounts, ReplyTable, given}
 use Rattle.promises.specs.Wrong.{Refuted, deep, deeper, denying, forgetful, forgetting, idle, lenient, listsKept, once, refusing, sparing, unstruck, unstruckLists}
 use Rattle.replies.specs.Replies.{numberOf}
 use Rattle.replies.specs.declared.Reply.the-variants.{Done}
@@ -49,6 +50,12 @@ not-both a p q = let z : _≡_ {A = ℕ} 1 0 = ap byteOf (sym p ∙ q) in omega 
 -- ---- refuses each call
 refuses : Demand2 refusing → ⊥
 refuses d = let z : _≡_ {A = ℕ} 3 0 = ap numberOf (d .opens 0 0 zero-le zero-le) in omega arith
+
+refuses-table : ReplyTable refusing → ⊥
+unfolding given
+refuses-table t =
+    let fits : OverCounts 0 0 → ⊥ = ⊎-elim (λ (p : 32 < 0). omega arith) (λ (p : 96 < 0). omega arith) in
+    let z : _≡_ {A = ℕ} 3 0 = t .opening 0 0 0 .1 (inr (fits, refl)) in omega arith
 
 -- ---- calls every set unsupported: assumption 1 is supported by itself
 one-carries : carries [] 1 1 ≡ true
@@ -218,6 +225,7 @@ forgets-nogoods d =
 pub refuted : Refuted
 refuted = record {
   refuses = refuses;
+  refuses-table = refuses-table;
   denies = denies;
   adds-nothing = adds-nothing;
   stages-once = stages-once;

@@ -3,7 +3,6 @@ use mathlib.Core.List.{List}
 use mathlib.Core.Path.{_≡_}
 use Prim.Native.Nat.{ℕ}
 use Rattle.asking.specs.Asking.{Contexted, Membered, Questioned}
-use Rattle.casefile.specs.Case.{Parses}
 use Rattle.casefile.specs.Load.{Loads}
 use Rattle.items.specs.Steps.{IsHeader, IsRecord}
 use Rattle.labels.specs.Promised.{Build, FirstWithin}
@@ -14,7 +13,7 @@ use Rattle.replies.specs.declared.Reply.{Reply}
 use Rattle.rules.specs.Promised.{Canonical, Faulted, HoldingNothing, Inserted, IsHeld, IsRight}
 use Rattle.rules.specs.declared.Entry.{Entry}
 use Rattle.rules.specs.declared.Held.{Held}
-use Rattle.script.specs.Promised.{AreBytes, AreNumbers as AreNumerals, IsField, IsHex, IsLineEnd, IsNumber as IsNumeral, IsSame}
+use Rattle.script.specs.Promised.{AreBytes, AreNumbers as AreNumerals, HasAbove, HasZero, IsField, IsLineEnd, IsSame, IsSetOf}
 use Rattle.sets.specs.Promised.{Before, Has, Low, Only, Union, Within, Without}
 use Rattle.shape.specs.Shape.{ListsRight}
 use Rattle.stages.specs.Judged.{Judge, Start}
@@ -44,7 +43,6 @@ pub record OneAnswer : Type 0 where
   pub line-one : (s : Store) (n : ℕ) (out : List ℕ) → OneWith (Lined s n out)
   pub case-line-one : (s : Store) (out : List ℕ) → OneWith (CaseLined s out)
   pub refusal-one : (r : Reply) (k : ℕ) (out : List ℕ) → OneWith (RefusalLined r k out)
-  pub parse-one : (bytes : List ℕ) → One (Parses bytes)
   pub load-one : (bytes : List ℕ) → One (Loads bytes)
   -- replies
   pub number-one : (r : Reply) → One (Numbered r)
@@ -69,7 +67,7 @@ pub record OneAnswer : Type 0 where
   pub start-one : (A : ℕ) → One (Start A)
   pub judge-one : (h : Held) → One (Judge h)
   pub lists-one : (l : Lists) (A N : ℕ) → One (ListsRight l A N)
-  -- text: `number`, `field`, `copy`, `braces`, `members`, `line`, `head` and `refused` each promise `Put` of their text t
+  -- text: `copy`, `braces`, `line`, `head` and `refused` each promise `Put` of their text t
   pub put-one : (t : List ℕ) (at : ℕ) (out : List ℕ) → OneWith (λ r after. Put t at out after r)
   -- numbers, items
   pub read-one : (bytes : List ℕ) (at : ℕ) → One (IsNumber bytes at)
@@ -79,8 +77,9 @@ pub record OneAnswer : Type 0 where
   -- script
   pub line-end-one : (l : List ℕ) (from : ℕ) → One (IsLineEnd l from)
   pub field-one : (l : List ℕ) (from : ℕ) → One (IsField l from)
-  pub numeral-one : (l : List ℕ) → One (IsNumeral l)
-  pub hex-one : (l : List ℕ) → One (IsHex l)
   pub numerals-one : (l : List ℕ) (from : ℕ) (out : List ℕ) → OneWith (λ r after. AreNumerals l from out after r)
   pub bytes-one : (l : List ℕ) (from : ℕ) (out : List ℕ) → OneWith (λ r after. AreBytes l from out after r)
   pub same-one : (l word : List ℕ) → One (IsSame l word)
+  pub has-zero-one : (l : List ℕ) → One (HasZero l)
+  pub has-above-one : (l : List ℕ) → One (HasAbove l)
+  pub set-of-one : (l : List ℕ) → One (IsSetOf l)

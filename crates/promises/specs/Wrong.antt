@@ -16,6 +16,7 @@ use Rattle.promises.specs.Calls.{Calls, handing, ours}
 use Rattle.promises.specs.Demand2.{Demand2}
 use Rattle.promises.specs.Demand3.{Demand3}
 use Rattle.promises.specs.Made.{inOrder}
+use Rattle.promises.specs.Table.{ReplyTable}
 use Rattle.replies.specs.declared.Reply.the-variants.{Counts, Done, Ends, Shape}
 use Rattle.rules.specs.Held.{heldOf, saidBy}
 use Rattle.rules.specs.Items.{justificationOf}
@@ -197,6 +198,7 @@ forgetful = record {
 
 pub record Refuted : Type 0 where
   pub refuses : Demand2 refusing → ⊥
+  pub refuses-table : ReplyTable refusing → ⊥
   pub denies : Demand2 denying → ⊥
   pub adds-nothing : Demand2 idle → ⊥
   pub stages-once : Demand2 once → ⊥
