@@ -1,4 +1,4 @@
--- The answers of question, context and member on a made store, over what was put in. Assumes nothing.
+-- The answers of question, context, member and the lines on a made store, over what was put in. Assumes nothing.
 use mathlib.Core.Bool.{Bool, false, true}
 use mathlib.Core.List.{List, _++_}
 use mathlib.Core.Logic.{_↔_}
@@ -11,10 +11,13 @@ use borrow.Author.Tests.{le-ltb, lt-ltb}
 use Rattle.asking.specs.Asking.{byteOf, contextBytes, contextOf, contextReply, left, memberAt, memberOf, questionOf, standing}
 use Rattle.asking.specs.declared.Answer.{Answer}
 use Rattle.asking.specs.declared.Answer.the-variants.{Inconsistent, Refused, Supported, Unsupported}
-use Rattle.promises.proofs.Form.{Form, form-a, form-m}
+use Rattle.lines.specs.Lines.{caseOf, caseText, fitted, lineOf, lineText}
+use Rattle.promises.proofs.Form.{Form, form-a, form-count, form-m}
 use Rattle.promises.proofs.Right.{form-right}
 use Rattle.promises.proofs.Telling.{form-carries, form-contradicts, form-label, form-nogoods}
-use Rattle.promises.specs.Demand2.{ListsSmallest, QuestionSays, atPlace, byteBy, listedFor}
+use Rattle.promises.specs.Calls.{handing}
+use Rattle.promises.specs.Demand2.{ListsSmallest, QuestionSays, atPlace, byteBy, listedFor, textOf, writes}
+use Rattle.promises.specs.Made.{inOrder}
 use Rattle.replies.specs.declared.Reply.{Reply}
 use Rattle.replies.specs.declared.Reply.the-variants.{Done}
 use Rattle.stages.proofs.Tables.{table-same}
@@ -22,6 +25,7 @@ use Rattle.store.specs.Calls.{answer, isDone}
 use Rattle.store.specs.Reading.{labelHeld, listHeld, nogoodsHeld}
 use Rattle.store.specs.Shape.{top}
 use Rattle.store.specs.declared.Store.{Store}
+use Rattle.text.specs.Texts.{heading}
 use Rattle.theory.proofs.Demands.{carries-means}
 use Rattle.theory.proofs.Lists.{same-test}
 use Rattle.theory.specs.Demands.{carries, contradicts}
@@ -125,3 +129,24 @@ module _ {A M : ℕ} {H : List Justification} {s : Store} (f : Form A M H s) whe
   pub form-member : (n : ℕ) → n ≤ A + M → (l : List ℕ) × ListsSmallest A (listedFor H n) l × ((place : ℕ) → memberOf s n place ≡ atPlace l place)
   unfolding memberOf memberAt
   form-member n h = (listHeld (s .lists) n, list-smallest n h, λ place. rw (form-right f, number-in n h))
+
+  -- ---- lines
+
+  fits : (t out : List ℕ) → length t ≤ length out → handing s (fitted t out) ≡ writes s t out
+  unfolding fitted
+  fits t out h = rw (le-ltb (length out) (length t) h)
+
+  pub form-line : (n : ℕ) → n ≤ A + M → (l : List ℕ) × ListsSmallest A (listedFor H n) l × ((out : List ℕ) → length (textOf n l) ≤ length out → handing s (lineOf s n out) ≡ writes s (textOf n l) out)
+  unfolding lineOf lineText
+  form-line n h = (listHeld (s .lists) n, list-smallest n h, λ out k. rw (form-right f, number-in n h) (fits (textOf n (listHeld (s .lists) n)) out k))
+
+  abbrev first : List ℕ
+  first = heading A M (length (inOrder H)) (s .lists .depth)
+
+  case-text : caseText s ≡ first
+  unfolding caseText
+  case-text = ap₂ (λ (a m : ℕ). heading a m (s .held .count) (s .lists .depth)) (form-a f) (form-m f) ∙ ap (λ (k : ℕ). heading A M k (s .lists .depth)) (form-count f)
+
+  pub form-heading : (out : List ℕ) → length first ≤ length out → handing s (caseOf s out) ≡ writes s first out
+  unfolding caseOf
+  form-heading out h = rw (form-right f, case-text) (fits first out h)

@@ -4,7 +4,7 @@ use mathlib.Core.Path.{_≡_}
 use Prim.Native.Nat.{_≤_, ℕ}
 use borrow.Author.Tests.{le-ltb}
 use Rattle.promises.proofs.Adding.{form-adding}
-use Rattle.promises.proofs.Answers.{form-context, form-member, form-question}
+use Rattle.promises.proofs.Answers.{form-context, form-heading, form-line, form-member, form-question}
 use Rattle.promises.proofs.Form.{Form, made-form}
 use Rattle.promises.proofs.Loading.{load-says}
 use Rattle.promises.proofs.Telling.{form-depth, form-label, form-label-at, form-later, form-nogoods, form-nogoods-at}
@@ -22,6 +22,8 @@ form-tells f = record {
   label = form-label f;
   nogoods = form-nogoods f;
   member = form-member f;
+  line = form-line f;
+  heading = form-heading f;
   depth = form-depth f;
   label-at = form-label-at f;
   nogoods-at = form-nogoods-at f;

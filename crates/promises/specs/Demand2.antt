@@ -12,14 +12,17 @@ use Rattle.asking.specs.declared.Answer.the-variants.{Inconsistent, Refused, Su
 use Rattle.asking.specs.declared.Found.{Found}
 use Rattle.asking.specs.declared.Found.the-variants.{Is, Not}
 use Rattle.casefile.specs.Case.{Case, caseOf, whole}
-use Rattle.promises.specs.Calls.{Calls}
-use Rattle.promises.specs.Made.{Made, putIn}
+use Rattle.lines.specs.Lines.{wordOf}
+use Rattle.lines.specs.declared.Written.the-variants.{Length}
+use Rattle.promises.specs.Calls.{Calls, Line}
+use Rattle.promises.specs.Made.{Made, inOrder, putIn}
 use Rattle.promises.specs.Room.{AddSays, StagesSay}
 use Rattle.replies.specs.declared.Reply.{Reply}
 use Rattle.replies.specs.declared.Reply.the-variants.{Done, Place}
 use Rattle.store.specs.Calls.{answer}
 use Rattle.store.specs.Reading.{labelHeld, nogoodsHeld}
 use Rattle.store.specs.declared.Store.{Store}
+use Rattle.text.specs.Texts.{heading, row}
 use Rattle.theory.specs.Demands.{carries, contradicts}
 use Rattle.theory.specs.Judge.{stageAt}
 use Rattle.theory.specs.Lists.{choose, sortedBy}
@@ -63,6 +66,14 @@ listedFor H (suc i) E = carries H E (suc i)
 abbrev pub atPlace : List ℕ → ℕ → Found
 atPlace l place = choose (leb (length l) place) (Not Place) (Is (getD l place 0))
 
+-- the line of n whose list is l, as the listing has it
+abbrev pub textOf : ℕ → List ℕ → List ℕ
+textOf n l = row 32 n (wordOf n l) l
+
+-- the text and its length, bytes after it kept
+abbrev pub writes : Store → List ℕ → List ℕ → Line
+writes s t out = record { listed = record { answer = Length (length t); store = s }; bytes = t ++ drop (length t) out }
+
 -- the least k for which all labels and nogoods at k and k + 1 agree
 pub record IsDepth (A N : ℕ) (H : List Justification) (k : ℕ) : Type 0 where
   pub agrees : stageAt A N H k ≡ stageAt A N H (suc k)
@@ -80,6 +91,9 @@ pub record Tells (C : Calls) (A M : ℕ) (H : List Justification) (s : Store) : 
   pub nogoods : ListsSmallest A (contradicts H) (nogoodsHeld (s .lists))
   -- member reads them, place by place
   pub member : (n : ℕ) → n ≤ A + M → (l : List ℕ) × ListsSmallest A (listedFor H n) l × ((place : ℕ) → C .member s n place .answer ≡ atPlace l place)
+  -- so does the text line; line one has A, M, distinct justifications held, depth
+  pub line : (n : ℕ) → n ≤ A + M → (l : List ℕ) × ListsSmallest A (listedFor H n) l × ((out : List ℕ) → length (textOf n l) ≤ length out → C .line s n out ≡ writes s (textOf n l) out)
+  pub heading : (out : List ℕ) → length (heading A M (length (inOrder H)) (s .lists .depth)) ≤ length out → C .heading s out ≡ writes s (heading A M (length (inOrder H)) (s .lists .depth)) out
   -- the depth; the store's labels and nogoods are those at the depth, and every later stage agrees with them
   pub depth : IsDepth A (A + M) H (s .lists .depth)
   pub label-at : (n : ℕ) → n ≤ A + M → labelHeld (s .lists) n ≡ labelAt A H (s .lists .depth) n
