@@ -1,6 +1,7 @@
 -- Question, context and member, as document 01 has them, read from a store's lists as they stand. Assumes nothing.
 use mathlib.Core.Bool.{_||_, not}
 use mathlib.Core.List.{List, _++_}
+use mathlib.Core.Option.{Option, none, some}
 use mathlib.Core.Path.{_≡_}
 use Prim.Native.Nat.{_+_, _<_, _≤_, ℕ}
 use lib.Dec.{leb, ltb}
@@ -109,3 +110,8 @@ answerNumber (Refused r) = numberOf r
 abbrev pub memberNumber : Found → ℕ
 memberNumber (Is E) = 0
 memberNumber (Not r) = numberOf r
+
+-- the set that it reports; a refusal reports none
+abbrev pub memberSet : Found → Option ℕ
+memberSet (Is E) = some E
+memberSet (Not r) = none

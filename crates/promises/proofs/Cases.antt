@@ -5,7 +5,7 @@ use Prim.Native.Nat.{_+_, _≤_, suc, ℕ}
 use native.Mathlib.Omega.{arith}
 use lib.ListN.{getD, length}
 use borrow.Author.Tests.{le-ltb}
-use Rattle.asking.specs.Asking.{memberAt, memberOf}
+use Rattle.asking.specs.Asking.{memberAt, memberNumber, memberOf, memberSet}
 use Rattle.casefile.proofs.Cases.{listed as spells, listedCase}
 use Rattle.casefile.specs.Load.{loadOf}
 use Rattle.numbers.specs.Numbers.{numberAt, numberFrom, secondFrom}
@@ -218,8 +218,8 @@ p-cases = record {
   listed-made = made-listed;
   listed-lists = listed-are;
   listed-5 = five;
-  listed-member = member-five 0;
-  listed-last = member-five 1;
+  listed-member = ap memberSet (member-five 0);
+  listed-last = ap memberNumber (member-five 1);
   one-way-done = one-done 1 2 2 (3 ∷ []) (omega arith) (omega arith) (sounds .0);
   each-other-done = add-done made-one-way 3 (2 ∷ []) reaches-other (omega arith);
   each-other-made = made-each-other;

@@ -1,6 +1,7 @@
 -- A refusal leaves the store and every lent byte as they were. Assumes nothing.
 use mathlib.Core.Bool.{Bool, false, not, true}
 use mathlib.Core.List.{List, _++_}
+use mathlib.Core.Option.{none}
 use mathlib.Core.Path.{_≡_, refl}
 use Prim.Native.Nat.{_+_, ℕ}
 use native.Mathlib.Omega.{arith}
@@ -8,8 +9,7 @@ use lib.Dec.{leb, ltb}
 use lib.ListN.{drop, length}
 use borrow.Author.Tests.{eqb-true}
 use Rattle.asking.specs.Asking.{contextBytes, contextOf, contextReply}
-use Rattle.lines.specs.Lines.{Wrote, caseOf, caseText, fitted, kept, lineOf, lineText}
-use Rattle.lines.specs.declared.Written.the-variants.{Refused}
+use Rattle.lines.specs.Lines.{Wrote, caseOf, caseText, fitted, kept, lineOf, lineText, writtenLength}
 use Rattle.replies.specs.Replies.{numberOf}
 use Rattle.replies.specs.declared.Reply.{Reply}
 use Rattle.replies.specs.declared.Reply.the-variants.{Already, Done, Full, Number, Shape, Short}
@@ -68,17 +68,17 @@ module _ (s : Store) where
 
   -- ---- lines
 
-  -- w leaves the lent bytes where it is refused
+  -- w leaves the lent bytes where it reports no length
   abbrev KeptBytes : List ℕ → Wrote → Type 0
-  KeptBytes out w = (r : Reply) → w .answer ≡ Refused r → w .bytes ≡ out
+  KeptBytes out w = writtenLength (w .answer) ≡ none → w .bytes ≡ out
 
   kept-choose : (out : List ℕ) (b : Bool) (x : Reply) (w : Wrote) → KeptBytes out w → KeptBytes out (choose b (kept x out) w)
-  kept-choose out true x w k r e = refl
-  kept-choose out false x w k r e = k r e
+  kept-choose out true x w k e = refl
+  kept-choose out false x w k e = k e
 
   kept-fitted : (t out : List ℕ) → KeptBytes out (fitted t out)
   unfolding fitted
-  kept-fitted t out = kept-choose out (ltb (length out) (length t)) Short _ (λ r e. let z : _≡_ {A = ℕ} 0 1 = cc in absurd (omega arith))
+  kept-fitted t out = kept-choose out (ltb (length out) (length t)) Short _ (λ e. let z : _≡_ {A = ℕ} 0 1 = cc in absurd (omega arith))
 
   pub line-keeps : (n : ℕ) (out : List ℕ) → KeptBytes out (lineOf s n out)
   unfolding lineOf

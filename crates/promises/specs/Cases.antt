@@ -1,14 +1,15 @@
 -- The cases of document 01 that are proved (P), all eight in one table: over the calls, at the product's limits. Assumes nothing.
 use mathlib.Core.List.{List, [], _∷_, map}
+use mathlib.Core.Option.{some}
 use mathlib.Core.Path.{_≡_}
 use Prim.Native.Nat.{ℕ}
 use lib.ListN.{length}
-use Rattle.asking.specs.declared.Found.the-variants.{Is, Not}
+use Rattle.asking.specs.Asking.{memberNumber, memberSet}
 use Rattle.numbers.specs.Numbers.{numberAt}
 use Rattle.numbers.specs.declared.Number.the-variants.{Bad, Value}
 use Rattle.promises.specs.Calls.{Calls}
 use Rattle.promises.specs.Made.{Made}
-use Rattle.replies.specs.declared.Reply.the-variants.{Already, Done, Form, Place}
+use Rattle.replies.specs.declared.Reply.the-variants.{Already, Done, Form}
 use Rattle.store.specs.Reading.{labelHeld, nogoodsHeld}
 use Rattle.store.specs.declared.Store.{Store}
 use Rattle.theory.specs.Cases.{from, worked}
@@ -70,8 +71,8 @@ pub record PCases (C : Calls) : Type 0 where
   pub listed-lists : ListsAre (listed C) 2 (3 ∷ []) ((1 ∷ []) ∷ (2 ∷ []) ∷ (4 ∷ []) ∷ (1 ∷ 6 ∷ []) ∷ (6 ∷ []) ∷ [])
   -- {2,3} is 6
   pub listed-5 : labelHeld (listed C .lists) 5 ≡ 6 ∷ []
-  pub listed-member : C .member (listed C) 5 0 .answer ≡ Is 6
-  pub listed-last : C .member (listed C) 5 1 .answer ≡ Not Place
+  pub listed-member : memberSet (C .member (listed C) 5 0 .answer) ≡ some 6
+  pub listed-last : memberNumber (C .member (listed C) 5 1 .answer) ≡ 16
   -- A=1, claims 2 and 3 supporting each other: both unsupported, depth 0
   pub one-way-done : C .adding (C .opening 1 2 .store) 2 (3 ∷ []) .reply ≡ Done
   pub each-other-done : C .adding (oneWay C) 3 (2 ∷ []) .reply ≡ Done

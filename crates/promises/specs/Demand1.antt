@@ -1,11 +1,11 @@
 -- Demand 1, its second half: bad numbers, bad files and stores of the wrong shape are refused by number; a refusal hands back the store it was given and changes no byte of any buffer. Assumes nothing.
 use mathlib.Core.List.{List}
+use mathlib.Core.Option.{none}
 use mathlib.Core.Path.{_≡_}
 use Prim.Native.Nat.{ℕ}
-use Rattle.lines.specs.declared.Written.the-variants.{Refused}
+use Rattle.lines.specs.Lines.{writtenLength}
 use Rattle.promises.specs.Calls.{Calls}
 use Rattle.promises.specs.Table.{ReplyTable}
-use Rattle.replies.specs.declared.Reply.{Reply}
 use Rattle.replies.specs.declared.Reply.the-variants.{Done}
 use Rattle.store.specs.declared.Store.{Store}
 
@@ -21,7 +21,7 @@ pub record Demand1 (C : Calls) : Type 0 where
   pub member : (s : Store) (n place : ℕ) → C .member s n place .store ≡ s
   pub line : (s : Store) (n : ℕ) (out : List ℕ) → C .line s n out .listed .store ≡ s
   pub heading : (s : Store) (out : List ℕ) → C .heading s out .listed .store ≡ s
-  -- a refused context or line changes no byte
+  -- a refused context changes no byte; nor does a line that reports no length
   pub bytes : (s : Store) (E : ℕ) (out : List ℕ) → (C .context s E out .outcome .reply ≡ Done → ⊥) → C .context s E out .bytes ≡ out
-  pub line-bytes : (s : Store) (n : ℕ) (out : List ℕ) (r : Reply) → C .line s n out .listed .answer ≡ Refused r → C .line s n out .bytes ≡ out
-  pub heading-bytes : (s : Store) (out : List ℕ) (r : Reply) → C .heading s out .listed .answer ≡ Refused r → C .heading s out .bytes ≡ out
+  pub line-bytes : (s : Store) (n : ℕ) (out : List ℕ) → writtenLength (C .line s n out .listed .answer) ≡ none → C .line s n out .bytes ≡ out
+  pub heading-bytes : (s : Store) (out : List ℕ) → writtenLength (C .heading s out .listed .answer) ≡ none → C .heading s out .bytes ≡ out
