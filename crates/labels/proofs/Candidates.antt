@@ -1,6 +1,6 @@
 -- The candidates one after the other: the old list, then the joins of each justification held, over plain variables. Assumes nothing.
 use mathlib.Core.Bool.{Bool, false, true}
-use mathlib.Core.List.{List, [], _++_, _∷_, map}
+use mathlib.Core.List.{List, [], _++_, _∷_, append-nil, map}
 use mathlib.Core.Option.{Option, none}
 use mathlib.Core.Path.{_∙_, _≡_, ap, ap₂, refl, sym}
 use Prim.Native.Nat.{_+_, _<_, _≤_, zero, ℕ}
@@ -18,7 +18,7 @@ use Rattle.theory.specs.Stages.{Justification}
 use Rattle.theory.specs.Step.{best, candidates, joins, joinsFor}
 
 -- ---- one justification
-module _ (L : ℕ → List ℕ) (n : ℕ) (t : ℕ → Bool) where
+module _ (L : ℕ → List ℕ) (n : ℕ) where
   of-others : (j : Justification) (J : List Justification) → (j .consequent ≡ n → ⊥) → joinsFor L n (j ∷ J) ≡ joinsFor L n J
   unfolding joinsFor those
   of-others j J h = ap (λ (b : Bool). each (λ (i : Justification). joins L zero (i .supports)) (keep b j (those (λ (i : Justification). eqb (i .consequent) n) J))) (ne-eqb (j .consequent) n h)
@@ -27,13 +27,41 @@ module _ (L : ℕ → List ℕ) (n : ℕ) (t : ℕ → Bool) where
   unfolding joinsFor those each
   of-this j J h = ap (λ (b : Bool). each (λ (i : Justification). joins L zero (i .supports)) (keep b j (those (λ (i : Justification). eqb (i .consequent) n) J))) (eq-eqb (j .consequent) n h)
 
+  pub joins-not : (j : Justification) → (j .consequent ≡ n → ⊥) → joinsFor L n (j ∷ []) ≡ []
+  unfolding joinsFor those each
+  joins-not j h = of-others j [] h
+
+  pub joins-so : (j : Justification) → j .consequent ≡ n → joinsFor L n (j ∷ []) ≡ joins L zero (j .supports)
+  unfolding joinsFor those each
+  joins-so j h = of-this j [] h ∙ append-nil (joins L zero (j .supports))
+
+  pub joins-more : (j : Justification) (J : List Justification) → joinsFor L n (j ∷ J) ≡ joinsFor L n (j ∷ []) ++ joinsFor L n J
+  joins-more j J = go (eqb (j .consequent) n) refl
+    where
+      go : (b : Bool) → eqb (j .consequent) n ≡ b → joinsFor L n (j ∷ J) ≡ joinsFor L n (j ∷ []) ++ joinsFor L n J
+      go true e = let h : j .consequent ≡ n = eqb-true (j .consequent) n e in of-this j J h ∙ ap (λ (l : List ℕ). l ++ joinsFor L n J) (sym (joins-so j h))
+      go false e = let h : j .consequent ≡ n → ⊥ = eqb-false (j .consequent) n e in of-others j J h ∙ ap (λ (l : List ℕ). l ++ joinsFor L n J) (sym (joins-not j h))
+
+  pub joins-on : (entries : List Entry) (count j : ℕ) (z : Entry) → count ≤ length entries → j < count
+      → joinsFor L n (map meaning (drop j (take count entries))) ≡ joinsFor L n (meaning (getD entries j z) ∷ []) ++ joinsFor L n (map meaning (drop (j + 1) (take count entries)))
+  joins-on entries count j z fits h =
+      let k : j < length (take count entries) = omega (arith, length-take count entries) in
+      ap (λ (l : List Entry). joinsFor L n (map meaning l)) (drop-cons (take count entries) j z k)
+      ∙ ap₂ (λ (x : Entry) (i : ℕ). joinsFor L n (meaning x ∷ map meaning (drop i (take count entries)))) (getD-take count entries j z h) (sym (add-one j))
+      ∙ joins-more (meaning (getD entries j z)) (map meaning (drop (j + 1) (take count entries)))
+
+  pub joins-over : (entries : List Entry) (count j : ℕ) → count ≤ j → joinsFor L n (map meaning (drop j (take count entries))) ≡ []
+  unfolding joinsFor those each
+  joins-over entries count j h = ap (λ (l : List Entry). joinsFor L n (map meaning l)) (drop-of-length-le (take count entries) {i = j} (omega (arith, length-take count entries)))
+
+module _ (L : ℕ → List ℕ) (n : ℕ) (t : ℕ → Bool) where
   pub tried-not : (j : Justification) (a : Option ℕ) → (j .consequent ≡ n → ⊥) → a ≡ best t a (joinsFor L n (j ∷ []))
   unfolding best joinsFor those each
-  tried-not j a h = sym (ap (best t a) (of-others j [] h))
+  tried-not j a h = sym (ap (best t a) (of-others L n j [] h))
 
   pub tried-so : (j : Justification) (a r : Option ℕ) → j .consequent ≡ n → r ≡ best t a (joins L zero (j .supports)) → r ≡ best t a (joinsFor L n (j ∷ []))
   unfolding best joinsFor those each
-  tried-so j a r h e = e ∙ sym (ap (best t a) (of-this j [] h) ∙ best-append t a (joins L zero (j .supports)) [])
+  tried-so j a r h e = e ∙ sym (ap (best t a) (of-this L n j [] h) ∙ best-append t a (joins L zero (j .supports)) [])
 
   one-more : (j : Justification) (J : List Justification) (a : Option ℕ) → best t a (joinsFor L n (j ∷ J)) ≡ best t (best t a (joinsFor L n (j ∷ []))) (joinsFor L n J)
   one-more j J a = go (eqb (j .consequent) n) refl
@@ -41,11 +69,11 @@ module _ (L : ℕ → List ℕ) (n : ℕ) (t : ℕ → Bool) where
       go : (b : Bool) → eqb (j .consequent) n ≡ b → best t a (joinsFor L n (j ∷ J)) ≡ best t (best t a (joinsFor L n (j ∷ []))) (joinsFor L n J)
       go true e =
           let h : j .consequent ≡ n = eqb-true (j .consequent) n e in
-          ap (best t a) (of-this j J h) ∙ best-append t a (joins L zero (j .supports)) (joinsFor L n J)
+          ap (best t a) (of-this L n j J h) ∙ best-append t a (joins L zero (j .supports)) (joinsFor L n J)
           ∙ ap (λ (x : Option ℕ). best t x (joinsFor L n J)) (tried-so j a (best t a (joins L zero (j .supports))) h refl)
       go false e =
           let h : j .consequent ≡ n → ⊥ = eqb-false (j .consequent) n e in
-          ap (best t a) (of-others j J h) ∙ ap (λ (x : Option ℕ). best t x (joinsFor L n J)) (tried-not j a h)
+          ap (best t a) (of-others L n j J h) ∙ ap (λ (x : Option ℕ). best t x (joinsFor L n J)) (tried-not j a h)
 
   -- the old list first, then the justifications
   pub both : (old : List ℕ) (J : List Justification) (a b : Option ℕ) → a ≡ best t none old → b ≡ best t a (joinsFor L n J) → b ≡ best t none (candidates L old J n)

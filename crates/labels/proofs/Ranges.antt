@@ -1,7 +1,7 @@
 -- Each entry held has few supports, and each of them a label. Assumes nothing.
-use mathlib.Core.List.{List, List·Memᴰ as Mem, List·Memᴰ·head as here, List·Memᴰ·tail as there, [], _∷_}
+use mathlib.Core.List.{List, List·Memᴰ as Mem, [], _∷_, List·Memᴰ·head as here, List·Memᴰ·tail as there}
 use mathlib.Core.Path.{refl}
-use Prim.Native.Nat.{_+_, _<_, suc, zero, ℕ}
+use Prim.Native.Nat.{_+_, _<_, _≤_, suc, zero, ℕ}
 use native.Mathlib.Nat.{le-of-suc-le-suc, not-suc-le-zero}
 use native.Mathlib.Omega.{arith}
 use lib.ListN.{getD, length}
@@ -35,3 +35,6 @@ module _ (h : Held) (ok : Joinable h) (j : ℕ) (z : Entry) (low : j < h .count)
         let w = climbs-between (h .assumptions + h .claims) 0 l (fits .rising) (getD l i 0) (mem-at l i p) in
         (w .0, omega (arith, w .1, ok .wide));
   }
+
+  pub held-low : getD (h .entries) j z .consequent ≤ 128
+  held-low = omega (arith, fits .low, ok .wide)

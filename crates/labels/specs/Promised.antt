@@ -1,4 +1,5 @@
 -- What the functions on labels promise. Assumes nothing.
+use mathlib.Core.Bool.{Bool}
 use mathlib.Core.List.{List, [], _∷_}
 use mathlib.Core.Path.{_≡_}
 use Prim.Native.Nat.{_+_, suc, ℕ}
@@ -25,6 +26,11 @@ FirstWithin l E r = r ≡ firstWithin l E
 unfoldable pub builtOf : ℕ → List ℕ → Built
 builtOf limit l = record { count = length l; sets = padded 0 32 (take limit l) }
 
--- r is the list of n at the next stage, from the labels as they lie, its old list and the sets struck; of members above the limit one is counted
+-- r is the list of n at the next stage, from the labels as they lie, the old list and the sets struck; members after the first above the limit are not looked for
 abbrev pub Build : Held → ℕ → List ℕ → List ℕ → List ℕ → List ℕ → ℕ → Built → Type 0
 Build h n members sizes old struck limit r = r ≡ builtOf limit (picks (limit + 1) struck [] (candidates (lying members sizes) old (saidBy h) n))
+
+-- r is that list where it is stale, else the old list
+abbrev pub Renew : Held → ℕ → List ℕ → List ℕ → List ℕ → List ℕ → ℕ → Bool → Built → Type 0
+Renew h n members sizes old struck limit stale r =
+    r ≡ choose stale (builtOf limit (picks (limit + 1) struck [] (candidates (lying members sizes) old (saidBy h) n))) (builtOf limit (take (limit + 1) old))

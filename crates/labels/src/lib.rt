@@ -1,16 +1,21 @@
-// One list of the next stage, in listing order: each time the first candidate that contains no set struck and none found.
+// One list of the next stage, in listing order: in one walk over the candidates, by a pool of the smallest seen so far;
+// where the pool has no room, each time the first candidate that contains no set struck and none found.
+mod pool;
+
 use rules::Entry;
 use rules::Held;
 use sets::Set;
 ghost use mathlib.Core.Option.{none};
 ghost use mathlib.Core.List.{[], _∷_};
 ghost use mathlib.Core.Path.{_≡_};
-ghost use Prim.Native.Nat.{_≤_};
+ghost use Prim.Native.Nat.{_+_, _≤_};
+ghost use lib.ListN.{length, take};
 ghost use Rattle.rules.specs.Held.{meaning, saidBy};
 ghost use Rattle.theory.specs.Step.{best, candidates, free, joins, joinsFor, sooner};
 ghost use Rattle.labels.specs.Layout.{Few, Joinable, Layout, Ranged, lying};
 ghost use Rattle.labels.specs.Picked.{lateBy, picked};
-ghost use Rattle.labels.specs.Promised.{Build, FirstWithin};
+ghost use Rattle.labels.specs.Pool.{Offered};
+ghost use Rattle.labels.specs.Promised.{Build, FirstWithin, Renew, builtOf};
 
 // The place of the first member that lies within e, or the count of members.
 pub fn first_within(list: &[Set], e: Set) -> usize
@@ -200,8 +205,8 @@ pub struct Built {
     pub sets: [u32; 32],
 }
 
-// The list of n at the next stage, from the labels as they lie, the old list of n and the sets struck.
-pub fn build<'a>(
+// The list of n at the next stage, member after member: each time the next of all candidates.
+fn plain<'a>(
     held: Held,
     n: u8,
     members: &'a [Set],
@@ -228,5 +233,183 @@ pub fn build<'a>(
         }
         sets[count] = e;
         count += 1;
+    }
+}
+
+// e offered to the pool.
+fn admit(struck: &[Set], pool: &mut [Set], count: usize, e: Set) -> usize
+    requires { ⌜ length (now pool) ≤ 1000 ⌝ }
+    ensures { λ r. ⌜ Offered (now (struck .entry)) (e ∷ []) (now (pool .entry)) count (now (pool .exit)) r ⌝ }
+{
+    if pool.len() < count {
+        return count;
+    }
+    if !spared(struck, &pool[..count], e) {
+        return count;
+    }
+    pool::enter(pool, count, e)
+}
+
+// Each set of the list offered to the pool.
+fn pour(list: &[Set], struck: &[Set], pool: &mut [Set]) -> usize
+    requires { ⌜ length (now pool) ≤ 1000 ⌝ }
+    ensures { λ r. ⌜ Offered (now (struck .entry)) (now (list .entry)) (now (pool .entry)) 0 (now (pool .exit)) r ⌝ }
+{
+    let mut count = 0;
+    let mut i = 0;
+    while i < list.len() {
+        count = admit(struck, pool, count, list[i]);
+        i += 1;
+    }
+    count
+}
+
+// Each join of one member of the label of each support left offered to the pool. What is joined is cut where no join of it can go in.
+fn gather<'a>(
+    members: &'a [Set],
+    sizes: &'a [u8],
+    supports: &[u8],
+    struck: &[Set],
+    joined: Set,
+    pool: &mut [Set],
+    count: usize,
+) -> usize
+    requires { ⌜ Layout (now members) (now sizes) × Ranged (now supports) × (length (now pool) ≤ 1000) ⌝ }
+    ensures { λ r. ⌜ Offered (now (struck .entry)) (joins (lying (now (members .entry)) (now (sizes .entry))) joined (now (supports .entry))) (now (pool .entry)) count (now (pool .exit)) r ⌝ }
+{
+    if pool.len() < count {
+        return count;
+    }
+    if !spared(struck, &pool[..count], joined) {
+        return count;
+    }
+    if supports.len() < 1 {
+        return pool::enter(pool, count, joined);
+    }
+    let i = supports[0] as usize - 1;
+    let size = sizes[i] as usize;
+    let from = 12 * i;
+    let left = &supports[1..];
+    let mut now = count;
+    let mut k = 0;
+    while k < size {
+        now = gather(
+            members,
+            sizes,
+            left,
+            struck,
+            sets::union(joined, members[from + k]),
+            pool,
+            now,
+        );
+        k += 1;
+    }
+    now
+}
+
+// The joins of a justification offered to the pool if it is one of n.
+fn joined<'a>(
+    entry: Entry,
+    n: u8,
+    members: &'a [Set],
+    sizes: &'a [u8],
+    struck: &[Set],
+    pool: &mut [Set],
+    count: usize,
+) -> usize
+    requires { ⌜ Layout (now members) (now sizes) × Few entry × Ranged (meaning entry .supports) × (length (now pool) ≤ 1000) ⌝ }
+    ensures { λ r. ⌜ Offered (now (struck .entry)) (joinsFor (lying (now (members .entry)) (now (sizes .entry))) n (meaning entry ∷ [])) (now (pool .entry)) count (now (pool .exit)) r ⌝ }
+{
+    if entry.consequent != n {
+        return count;
+    }
+    let most = entry.count as usize;
+    let supports = entry.supports;
+    gather(members, sizes, &supports[..most], struck, 0, pool, count)
+}
+
+// The joins of all justifications of n held offered to the pool.
+fn pooled<'a>(
+    held: Held,
+    n: u8,
+    members: &'a [Set],
+    sizes: &'a [u8],
+    struck: &[Set],
+    pool: &mut [Set],
+    count: usize,
+) -> usize
+    requires { ⌜ Layout (now members) (now sizes) × Joinable held × (length (now pool) ≤ 1000) ⌝ }
+    ensures { λ r. ⌜ Offered (now (struck .entry)) (joinsFor (lying (now (members .entry)) (now (sizes .entry))) n (saidBy held)) (now (pool .entry)) count (now (pool .exit)) r ⌝ }
+{
+    let most = held.count;
+    let mut now = count;
+    let mut j = 0;
+    while j < most {
+        let entry = held.entries[j];
+        now = joined(entry, n, members, sizes, struck, pool, now);
+        j += 1;
+    }
+    now
+}
+
+// The first so many sets of the pool in 32 places.
+fn drawn(pool: &[Set], limit: usize) -> Built
+    requires { ⌜ limit ≤ 32 ⌝ }
+    ensures { λ r. ⌜ r ≡ builtOf limit (take (limit + 1) (now (pool .entry))) ⌝ }
+{
+    let mut sets = [0u32; 32];
+    let mut i: usize = 0;
+    loop {
+        if pool.len() <= i {
+            return Built { count: i, sets };
+        }
+        if limit <= i {
+            return Built { count: i + 1, sets };
+        }
+        sets[i] = pool[i];
+        i += 1;
+    }
+}
+
+// The list of n at the next stage, from the labels as they lie, the old list of n and the sets struck: in one walk over the candidates where the pool has room.
+fn build<'a>(
+    held: Held,
+    n: u8,
+    members: &'a [Set],
+    sizes: &'a [u8],
+    old: &'a [Set],
+    struck: &[Set],
+    limit: usize,
+) -> Built
+    requires { ⌜ Layout (now members) (now sizes) × Joinable held × (limit ≤ 32) ⌝ }
+    ensures { λ r. ⌜ Build held n (now (members .entry)) (now (sizes .entry)) (now (old .entry)) (now (struck .entry)) limit r ⌝ }
+{
+    let mut pool = [0u32; 96];
+    let seen = pour(old, struck, &mut pool);
+    let count = pooled(held, n, members, sizes, struck, &mut pool, seen);
+    if 96 < count {
+        return plain(held, n, members, sizes, old, struck, limit);
+    }
+    drawn(&pool[..count], limit)
+}
+
+// The list of n at the next stage, built where it is stale; else the old list stays.
+pub fn renew<'a>(
+    held: Held,
+    n: u8,
+    members: &'a [Set],
+    sizes: &'a [u8],
+    old: &'a [Set],
+    struck: &[Set],
+    limit: usize,
+    stale: bool,
+) -> Built
+    requires { ⌜ Layout (now members) (now sizes) × Joinable held × (limit ≤ 32) ⌝ }
+    ensures { λ r. ⌜ Renew held n (now (members .entry)) (now (sizes .entry)) (now (old .entry)) (now (struck .entry)) limit stale r ⌝ }
+{
+    if stale {
+        build(held, n, members, sizes, old, struck, limit)
+    } else {
+        drawn(old, limit)
     }
 }

@@ -1,82 +1,74 @@
 -- `labels::build` meets its contract. Assumes nothing.
-use mathlib.Core.Path.{ap, sym}
-use Prim.Native.Nat.{_-_}
-use native.Mathlib.Omega.{arith}
+use mathlib.Core.Path.{sym}
+use Prim.Native.Nat.{_≤_}
+use lib.ListN.{length, replicate}
 use lib.Seq.{length-take-le}
-use borrow.Author.Needs.{needs}
-use Rattle.labels.proofs.Builds.{Begun, begun-none, build-full, build-more, build-none}
-use Rattle.labels.specs.Layout.{lying}
-use Rattle.labels.specs.Picked.{picked}
-use Rattle.rules.specs.Held.{saidBy}
+use Rattle.labels.proofs.Offering.{both-offered, pool-built}
 use Rattle.theory.specs.Step.{candidates}
+use borrow.Author.Needs.{needs}
 use Rattle.labels.proofs.build.Statement.{statement}
 use Rattle.labels.proofs.build.Tie as tie
+use Rattle.labels.proofs.build.Reads as reads
+use Rattle.labels.proofs.build.Lts as lts
+use Rattle.labels.proofs.drawn.Reads as drawn-reads
+use Rattle.labels.proofs.plain.Reads as plain-reads
+use Rattle.labels.proofs.pooled.Reads as pooled-reads
+use Rattle.labels.proofs.pour.Reads as pour-reads
 
-abbrev Inv-loop : tie.InvT-loop
-Inv-loop held n members sizes old struck limit sets₀ count₀ sets count = Begun (candidates (lying members sizes) old (saidBy held) n) struck limit sets count
+-- src/lib.rt:380:34
+slice-aggregate-pour : tie.Need-slice-aggregate-pour
+slice-aggregate-pour c = search needs
 
-abbrev μ-loop : tie.MeasureT-loop
-μ-loop held n members sizes old struck limit sets₀ count₀ sets count = 33 - count
+-- src/lib.rt:380:9
+pour-requires : tie.Need-pour-requires
+pour-requires c κs = search needs
 
-loop-holds : tie.Need-loop-holds Inv-loop μ-loop
-loop-holds c = begun-none _ _ _
+-- src/lib.rt:381:57
+slice-aggregate-pooled : tie.Need-slice-aggregate-pooled
+slice-aggregate-pooled c = search needs
 
-array-share-prefix-sets : tie.Need-array-share-prefix-sets Inv-loop μ-loop
-array-share-prefix-sets c = omega (arith, c .before .before .before .before .before .pre .2, c .loop .inv .few, c .loop .inv .long)
+-- src/lib.rt:381:9
+pooled-requires : tie.Need-pooled-requires
+pooled-requires c κs = search needs
 
-slice-aggregate-next : tie.Need-slice-aggregate-next Inv-loop μ-loop
-slice-aggregate-next c = sym (length-take-le (c .before .loop .count) (c .before .loop .sets) (omega (arith, c .before .before .before .before .before .before .pre .2, c .before .loop .inv .few, c .before .loop .inv .long)))
+-- src/lib.rt:383:9
+plain-requires : tie.Need-plain-requires
+plain-requires c κs = search needs
 
-next-requires : tie.Need-next-requires Inv-loop μ-loop
-next-requires c κs = (c .before .before .before .before .before .before .pre .0, c .before .before .before .before .before .before .pre .1)
+-- src/lib.rt:383:9
+returns : tie.Need-returns
+returns c = search needs
 
-enum-known-pick : tie.Need-enum-known-pick Inv-loop μ-loop
-enum-known-pick c = search needs
+-- src/lib.rt:385:11
+array-share-prefix-pool : tie.Need-array-share-prefix-pool
+array-share-prefix-pool c = search needs
 
-enum-told : tie.Need-enum-told Inv-loop μ-loop
-enum-told c = search needs
+-- src/lib.rt:385:11
+slice-aggregate-drawn : tie.Need-slice-aggregate-drawn
+slice-aggregate-drawn c = let h : c .before .before .before .pooled .result ≤ length (c .before .before .before .pooled .last .1 .1 .1 .1 .1 .0) = search needs in sym (length-take-le (c .before .before .before .pooled .result) (c .before .before .before .pooled .last .1 .1 .1 .1 .1 .0) h)
 
-returns : tie.Need-returns Inv-loop μ-loop
-returns c = build-none _ _ _ (c .before .before .before .before .before .before .before .before .before .pre .2) (c .before .before .before .before .loop .sets) (c .before .before .before .before .loop .count) (c .before .before .before .before .loop .inv) _ (c .before .before .next .ensures) (ap picked (c .enum-told .given .1))
+-- src/lib.rt:385:5
+drawn-requires : tie.Need-drawn-requires
+drawn-requires c κs = search needs
 
-add-t16 : tie.Need-add-t16 Inv-loop μ-loop
-add-t16 c = search needs
-
-returns-2 : tie.Need-returns-2 Inv-loop μ-loop
-returns-2 c = build-full _ _ _ (c .before .before .before .before .before .before .before .before .before .before .before .pre .2) (c .before .before .before .before .before .before .loop .sets) (c .before .before .before .before .before .before .loop .count) (c .before .before .before .before .before .before .loop .inv) _ (c .before .before .before .before .next .ensures) _ (ap picked (c .before .before .pick .given .1)) (c .if1 .taken)
-
-mul-sets : tie.Need-mul-sets Inv-loop μ-loop
-mul-sets c = omega (arith, c .before .before .before .before .before .before .before .before .before .before .before .pre .2, c .before .before .before .before .before .before .loop .inv .few, c .if1 .left)
-
-array-write-sets : tie.Need-array-write-sets Inv-loop μ-loop
-array-write-sets c = omega (arith, c .before .before .before .before .before .before .before .before .before .before .before .pre .2, c .before .before .before .before .before .before .loop .inv .few, c .if1 .left)
-
-add-count : tie.Need-add-count Inv-loop μ-loop
-add-count c = omega (arith, c .before .before .before .before .before .before .before .before .before .before .before .pre .2, c .before .before .before .before .before .before .loop .inv .few, c .if1 .left)
-
-loop-less : tie.Need-loop-less Inv-loop μ-loop
-loop-less c = omega (arith, c .before .before .before .before .before .before .before .before .before .before .before .pre .2, c .before .before .before .before .before .before .loop .inv .few, c .if1 .left)
-
-loop-again : tie.Need-loop-again Inv-loop μ-loop
-loop-again c = build-more _ _ _ (c .before .before .before .before .before .before .before .before .before .before .before .pre .2) (c .before .before .before .before .before .before .loop .sets) (c .before .before .before .before .before .before .loop .count) (c .before .before .before .before .before .before .loop .inv) _ (c .before .before .before .before .next .ensures) _ (ap picked (c .before .before .pick .given .1)) (c .if1 .left)
+-- src/lib.rt:367:1
+returns-2 : tie.Need-returns-2
+unfolding candidates
+returns-2 c =
+    let h : c .before .before .before .before .pooled .result ≤ length (c .before .before .before .before .pooled .last .1 .1 .1 .1 .1 .0) = search needs in
+    pool-built _ _ _ _ (both-offered _ _ _ (replicate 96 0) _ _ (c .before .before .before .before .pooled .last .1 .1 .1 .1 .1 .0) (c .before .before .before .before .pooled .result) (c .before .before .before .before .before .before .before .pour .ensures) (c .before .before .before .before .pooled .ensures) h) _ (c .drawn .ensures)
 
 pub build-spec : {M : Type 1} → statement M
 build-spec =
     tie.close
     (tie.spec
-    Inv-loop
-    μ-loop
-    loop-holds
-    array-share-prefix-sets
-    slice-aggregate-next
-    next-requires
-    enum-known-pick
-    enum-told
+    slice-aggregate-pour
+    pour-requires
+    slice-aggregate-pooled
+    pooled-requires
+    plain-requires
     returns
-    add-t16
-    returns-2
-    mul-sets
-    array-write-sets
-    add-count
-    loop-less
-    loop-again)
+    array-share-prefix-pool
+    slice-aggregate-drawn
+    drawn-requires
+    returns-2)

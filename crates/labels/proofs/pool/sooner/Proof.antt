@@ -1,0 +1,22 @@
+use borrow.Author.Needs.{needs}
+use Rattle.labels.proofs.Pools.{choose-no, choose-yes}
+use Rattle.labels.proofs.pool.sooner.Statement.{statement}
+use Rattle.labels.proofs.pool.sooner.Tie as tie
+use Rattle.labels.proofs.pool.sooner.Reads as reads
+use Rattle.labels.proofs.pool.sooner.Lts as lts
+use Rattle.sets.proofs.before.Reads as before-reads
+
+-- src/pool.rt:26:8
+before-requires : tie.Need-before-requires
+before-requires c κs = search needs
+
+-- src/pool.rt:23:1
+returns : tie.Need-returns
+returns c = choose-yes _ _ (c .before .before2 .ensures) _ _ (c .if1 .taken)
+
+-- src/pool.rt:23:1
+returns-2 : tie.Need-returns-2
+returns-2 c = choose-no _ _ (c .before .before2 .ensures) _ _ (c .if1 .left)
+
+pub sooner-spec : {M : Type 1} → statement M
+sooner-spec = tie.close (tie.spec before-requires returns returns-2)
