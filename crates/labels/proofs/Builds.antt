@@ -1,5 +1,4 @@
 -- A list built member by member, in its places, over plain variables. Assumes nothing.
-use mathlib.Core.Bool.{Bool, false, true}
 use mathlib.Core.List.{List, [], _++_, _∷_, append-assoc, append-nil}
 use mathlib.Core.Option.{Option, none, some}
 use mathlib.Core.Path.{_∙_, _≡_, ap, ap₂, refl, sym}
@@ -13,7 +12,6 @@ use borrow.Fn.PlainCycle.{is}
 use Rattle.labels.specs.Promised.{builtOf}
 use Rattle.labels.specs.declared.Built.{Built}
 use Rattle.theory.proofs.Places.{is-table}
-use Rattle.theory.specs.Lists.{choose}
 use Rattle.theory.specs.Places.{padded}
 use Rattle.theory.specs.Step.{best, free, more, picks}
 
@@ -154,11 +152,3 @@ module _ (pool : List ℕ) (limit : ℕ) where
     drawn-full low h =
         let e : i ≡ limit = omega (arith, d .few) in
         drawn-made (i + 1) (omega (arith, length-take (limit + 1) pool)) (ap (λ (n : ℕ). take n pool) e ∙ sym (take-take limit (limit + 1) pool (omega arith)))
-
--- ---- built anew, or the old list
-module _ (t : Bool) (x y r : Built) where
-  pub renew-stale : t ≡ true → r ≡ x → r ≡ choose t x y
-  renew-stale h e = e ∙ sym (ap (λ (b : Bool). choose b x y) h)
-
-  pub renew-kept : t ≡ false → r ≡ y → r ≡ choose t x y
-  renew-kept h e = e ∙ sym (ap (λ (b : Bool). choose b x y) h)

@@ -1,15 +1,14 @@
--- The candidates one after the other: the old list, then the joins of each justification held, over plain variables. Assumes nothing.
+-- The candidates one after the other: the old list, then the joins of each justification, over plain variables. Assumes nothing.
 use mathlib.Core.Bool.{Bool, false, true}
 use mathlib.Core.List.{List, [], _++_, _∷_, append-nil, map}
 use mathlib.Core.Option.{Option, none}
-use mathlib.Core.Path.{_∙_, _≡_, ap, ap₂, refl, sym}
+use mathlib.Core.Path.{_∙_, _≡_, ap, refl, sym}
 use Prim.Native.Nat.{_+_, _<_, _≤_, zero, ℕ}
-use native.Mathlib.Numerals.{add-one}
-use native.Mathlib.Omega.{arith}
 use lib.Dec.{eqb}
-use lib.ListN.{drop, drop-of-length-le, getD, length, length-take, take}
-use lib.Seq.{drop-cons, getD-take}
+use lib.ListN.{getD, length}
 use borrow.Author.Tests.{eq-eqb, eqb-false, eqb-true, ne-eqb}
+use Rattle.labels.proofs.Pools.{rest-cons, rest-none}
+use Rattle.labels.specs.Layout.{between}
 use Rattle.rules.specs.Held.{meaning}
 use Rattle.rules.specs.declared.Entry.{Entry}
 use Rattle.theory.proofs.First.{best-append}
@@ -42,17 +41,13 @@ module _ (L : ℕ → List ℕ) (n : ℕ) where
       go true e = let h : j .consequent ≡ n = eqb-true (j .consequent) n e in of-this j J h ∙ ap (λ (l : List ℕ). l ++ joinsFor L n J) (sym (joins-so j h))
       go false e = let h : j .consequent ≡ n → ⊥ = eqb-false (j .consequent) n e in of-others j J h ∙ ap (λ (l : List ℕ). l ++ joinsFor L n J) (sym (joins-not j h))
 
-  pub joins-on : (entries : List Entry) (count j : ℕ) (z : Entry) → count ≤ length entries → j < count
-      → joinsFor L n (map meaning (drop j (take count entries))) ≡ joinsFor L n (meaning (getD entries j z) ∷ []) ++ joinsFor L n (map meaning (drop (j + 1) (take count entries)))
-  joins-on entries count j z fits h =
-      let k : j < length (take count entries) = omega (arith, length-take count entries) in
-      ap (λ (l : List Entry). joinsFor L n (map meaning l)) (drop-cons (take count entries) j z k)
-      ∙ ap₂ (λ (x : Entry) (i : ℕ). joinsFor L n (meaning x ∷ map meaning (drop i (take count entries)))) (getD-take count entries j z h) (sym (add-one j))
-      ∙ joins-more (meaning (getD entries j z)) (map meaning (drop (j + 1) (take count entries)))
+  pub joins-on : (entries : List Entry) (j hi : ℕ) (z : Entry) → hi ≤ length entries → j < hi
+      → joinsFor L n (map meaning (between entries j hi)) ≡ joinsFor L n (meaning (getD entries j z) ∷ []) ++ joinsFor L n (map meaning (between entries (j + 1) hi))
+  joins-on entries j hi z room h = ap (λ (l : List Entry). joinsFor L n (map meaning l)) (rest-cons entries z hi j room h) ∙ joins-more (meaning (getD entries j z)) (map meaning (between entries (j + 1) hi))
 
-  pub joins-over : (entries : List Entry) (count j : ℕ) → count ≤ j → joinsFor L n (map meaning (drop j (take count entries))) ≡ []
+  pub joins-over : (entries : List Entry) (j hi : ℕ) → hi ≤ j → joinsFor L n (map meaning (between entries j hi)) ≡ []
   unfolding joinsFor those each
-  joins-over entries count j h = ap (λ (l : List Entry). joinsFor L n (map meaning l)) (drop-of-length-le (take count entries) {i = j} (omega (arith, length-take count entries)))
+  joins-over entries j hi h = ap (λ (l : List Entry). joinsFor L n (map meaning l)) (rest-none entries hi j h)
 
 module _ (L : ℕ → List ℕ) (n : ℕ) (t : ℕ → Bool) where
   pub tried-not : (j : Justification) (a : Option ℕ) → (j .consequent ≡ n → ⊥) → a ≡ best t a (joinsFor L n (j ∷ []))
@@ -80,18 +75,16 @@ module _ (L : ℕ → List ℕ) (n : ℕ) (t : ℕ → Bool) where
   unfolding candidates
   both old J a b e f = f ∙ ap (λ (x : Option ℕ). best t x (joinsFor L n J)) e ∙ sym (best-append t none old (joinsFor L n J))
 
--- ---- the entries held, place by place
-module _ (L : ℕ → List ℕ) (n : ℕ) (t : ℕ → Bool) (entries : List Entry) (count : ℕ) (a : Option ℕ) (j : ℕ) (b : Option ℕ) (fits : count ≤ length entries)
-    (inv : best t a (joinsFor L n (map meaning (take count entries))) ≡ best t b (joinsFor L n (map meaning (drop j (take count entries))))) where
-  pub search-turn : (z : Entry) → j < count → (r : Option ℕ) → r ≡ best t b (joinsFor L n (meaning (getD entries j z) ∷ []))
-      → best t a (joinsFor L n (map meaning (take count entries))) ≡ best t r (joinsFor L n (map meaning (drop (j + 1) (take count entries))))
-  search-turn z h r e =
-      let k : j < length (take count entries) = omega (arith, length-take count entries) in
-      inv ∙ ap (λ (l : List Entry). best t b (joinsFor L n (map meaning l))) (drop-cons (take count entries) j z k)
-      ∙ ap₂ (λ (x : Entry) (i : ℕ). best t b (joinsFor L n (meaning x ∷ map meaning (drop i (take count entries))))) (getD-take count entries j z h) (sym (add-one j))
-      ∙ one-more L n t (meaning (getD entries j z)) (map meaning (drop (j + 1) (take count entries))) b
-      ∙ ap (λ (x : Option ℕ). best t x (joinsFor L n (map meaning (drop (j + 1) (take count entries))))) (sym e)
+-- ---- the entries, place by place
+module _ (L : ℕ → List ℕ) (n : ℕ) (t : ℕ → Bool) (entries : List Entry) (lo hi : ℕ) (a : Option ℕ) (j : ℕ) (b : Option ℕ)
+    (inv : best t a (joinsFor L n (map meaning (between entries lo hi))) ≡ best t b (joinsFor L n (map meaning (between entries j hi)))) where
+  pub search-turn : (z : Entry) → hi ≤ length entries → j < hi → (r : Option ℕ) → r ≡ best t b (joinsFor L n (meaning (getD entries j z) ∷ []))
+      → best t a (joinsFor L n (map meaning (between entries lo hi))) ≡ best t r (joinsFor L n (map meaning (between entries (j + 1) hi)))
+  search-turn z room h r e =
+      inv ∙ ap (λ (l : List Entry). best t b (joinsFor L n (map meaning l))) (rest-cons entries z hi j room h)
+      ∙ one-more L n t (meaning (getD entries j z)) (map meaning (between entries (j + 1) hi)) b
+      ∙ ap (λ (x : Option ℕ). best t x (joinsFor L n (map meaning (between entries (j + 1) hi)))) (sym e)
 
-  pub search-end : count ≤ j → b ≡ best t a (joinsFor L n (map meaning (take count entries)))
+  pub search-end : hi ≤ j → b ≡ best t a (joinsFor L n (map meaning (between entries lo hi)))
   unfolding joinsFor those each best
-  search-end h = sym (inv ∙ ap (λ (l : List Entry). best t b (joinsFor L n (map meaning l))) (drop-of-length-le (take count entries) {i = j} (omega (arith, length-take count entries))))
+  search-end h = sym (inv ∙ ap (λ (l : List Entry). best t b (joinsFor L n (map meaning l))) (rest-none entries hi j h))

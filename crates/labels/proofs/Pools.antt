@@ -19,19 +19,18 @@ module _ (t r : Bool) (e : r ≡ t) (x y : ℕ) where
   pub choose-no : r ≡ false → y ≡ choose t x y
   choose-no h = let k : t ≡ false = sym e ∙ h in rw k
 
--- ---- the part of the pool from place i on
-module _ (pool : List ℕ) (count i : ℕ) (room : count ≤ length pool) (low : i < count) where
-  pub rest-cons : take (count - i) (drop i pool) ≡ getD pool i 0 ∷ take (count - (i + 1)) (drop (i + 1) pool)
-  rest-cons =
-      let a : count - i ≡ suc (count - (i + 1)) = omega arith in
-      let b : drop i pool ≡ getD pool i 0 ∷ drop (i + 1) pool = drop-cons pool i 0 (omega arith) ∙ ap (λ (n : ℕ). getD pool i 0 ∷ drop n pool) (sym (add-one i)) in
-      ap₂ (λ (n : ℕ) (l : List ℕ). take n l) a b
+-- ---- the part of a list from place i on
+pub rest-cons : {X : Type 0} (l : List X) (z : X) (count i : ℕ) → count ≤ length l → i < count → take (count - i) (drop i l) ≡ getD l i z ∷ take (count - (i + 1)) (drop (i + 1) l)
+rest-cons {X = X} l z count i room low =
+    let a : count - i ≡ suc (count - (i + 1)) = omega arith in
+    let b : drop i l ≡ getD l i z ∷ drop (i + 1) l = drop-cons l i z (omega arith) ∙ ap (λ (n : ℕ). getD l i z ∷ drop n l) (sym (add-one i)) in
+    ap₂ (λ (n : ℕ) (m : List X). take n m) a b
 
 pub rest-all : (pool : List ℕ) (count : ℕ) → take count pool ≡ take (count - 0) (drop 0 pool)
 rest-all pool count = let e : count - 0 ≡ count = omega arith in ap (λ (n : ℕ). take n pool) (sym e)
 
-pub rest-none : (pool : List ℕ) (count i : ℕ) → count ≤ i → take (count - i) (drop i pool) ≡ []
-rest-none pool count i h = let e : count - i ≡ 0 = omega arith in ap (λ (n : ℕ). take n (drop i pool)) e
+pub rest-none : {X : Type 0} (l : List X) (count i : ℕ) → count ≤ i → take (count - i) (drop i l) ≡ []
+rest-none l count i h = let e : count - i ≡ 0 = omega arith in ap (λ (n : ℕ). take n (drop i l)) e
 
 -- ---- those that contain E go out
 module _ (E : ℕ) (goal pool : List ℕ) (count kept i : ℕ) (room : count ≤ length pool) (inv : goal ≡ take kept pool ++ purged E (take (count - i) (drop i pool))) (low : kept ≤ i) where
@@ -52,7 +51,7 @@ module _ (E : ℕ) (goal pool : List ℕ) (count kept i : ℕ) (room : count ≤
   unfolding purged those
   purge-turn h k e =
       let same : take (count - (i + 1)) (drop (i + 1) (set pool kept x)) ≡ later = ap (take (count - (i + 1))) (drop-set-lt (i + 1) pool kept x (omega arith)) in
-      inv ∙ ap (λ (l : List ℕ). take kept pool ++ purged E l) (rest-cons pool count i room h) ∙ go (within E x) refl
+      inv ∙ ap (λ (l : List ℕ). take kept pool ++ purged E l) (rest-cons pool 0 count i room h) ∙ go (within E x) refl
       ∙ ap₂ (λ (n : ℕ) (l : List ℕ). take n (set pool kept x) ++ purged E l) (sym e) (sym same)
     where
       go : (b : Bool) → within E x ≡ b → take kept pool ++ keep (not b) x (purged E later) ≡ take (choose b kept (kept + 1)) (set pool kept x) ++ purged E later
@@ -76,7 +75,7 @@ module _ (goal pool : List ℕ) (count carried i : ℕ) (room : count < length p
   place-turn h a p b q =
       let same : take (count - (i + 1)) (drop (i + 1) (set pool i a)) ≡ take (count - (i + 1)) (drop (i + 1) pool) = ap (take (count - (i + 1))) (drop-set-lt (i + 1) pool i a (omega arith)) in
       let now : take (i + 1) (set pool i a) ≡ take i pool ++ a ∷ [] = ap (λ (n : ℕ). take n (set pool i a)) (add-one i) ∙ take-suc-set pool i a (omega arith) in
-      inv ∙ ap (λ (l : List ℕ). take i pool ++ placed carried l) (rest-cons pool count i (omega arith) h)
+      inv ∙ ap (λ (l : List ℕ). take i pool ++ placed carried l) (rest-cons pool 0 count i (omega arith) h)
       ∙ ap₂ (λ (v w : ℕ). take i pool ++ v ∷ placed w (take (count - (i + 1)) (drop (i + 1) pool))) (sym p) (sym q)
       ∙ sym (append-assoc (take i pool) (a ∷ []) (placed b (take (count - (i + 1)) (drop (i + 1) pool))))
       ∙ ap₂ (λ (l m : List ℕ). l ++ placed b m) (sym now) (sym same)

@@ -6,16 +6,16 @@ use rules::Entry;
 use rules::Held;
 use sets::Set;
 ghost use mathlib.Core.Option.{none};
-ghost use mathlib.Core.List.{[], _∷_};
+ghost use mathlib.Core.List.{[], _∷_, map};
 ghost use mathlib.Core.Path.{_≡_};
 ghost use Prim.Native.Nat.{_+_, _≤_};
 ghost use lib.ListN.{length, take};
-ghost use Rattle.rules.specs.Held.{meaning, saidBy};
+ghost use Rattle.rules.specs.Held.{meaning};
 ghost use Rattle.theory.specs.Step.{best, candidates, free, joins, joinsFor, sooner};
-ghost use Rattle.labels.specs.Layout.{Few, Joinable, Layout, Ranged, lying};
+ghost use Rattle.labels.specs.Layout.{Few, Joinable, Layout, Ranged, between, lying};
 ghost use Rattle.labels.specs.Picked.{lateBy, picked};
 ghost use Rattle.labels.specs.Pool.{Offered};
-ghost use Rattle.labels.specs.Promised.{Build, FirstWithin, Renew, builtOf};
+ghost use Rattle.labels.specs.Promised.{Build, FirstWithin, builtOf};
 
 // The place of the first member that lies within e, or the count of members.
 pub fn first_within(list: &[Set], e: Set) -> usize
@@ -158,9 +158,11 @@ fn tried<'a>(
     visit(members, sizes, &supports[..count], struck, found, 0, first)
 }
 
-// The first so far, the joins of all justifications of n held offered.
+// The first so far, the joins of the justifications of n from place lo to place hi offered.
 fn search<'a>(
     held: Held,
+    lo: usize,
+    hi: usize,
     n: u8,
     members: &'a [Set],
     sizes: &'a [u8],
@@ -168,13 +170,12 @@ fn search<'a>(
     found: &[Set],
     first: Pick,
 ) -> Pick
-    requires { ⌜ Layout (now members) (now sizes) × Joinable held ⌝ }
-    ensures { λ r. ⌜ picked r ≡ best (free (now (struck .entry)) (now (found .entry))) (picked first) (joinsFor (lying (now (members .entry)) (now (sizes .entry))) n (saidBy held)) ⌝ }
+    requires { ⌜ Layout (now members) (now sizes) × Joinable (between (held .entries) lo hi) × (hi ≤ 256) ⌝ }
+    ensures { λ r. ⌜ picked r ≡ best (free (now (struck .entry)) (now (found .entry))) (picked first) (joinsFor (lying (now (members .entry)) (now (sizes .entry))) n (map meaning (between (held .entries) lo hi))) ⌝ }
 {
-    let count = held.count;
     let mut now = first;
-    let mut j = 0;
-    while j < count {
+    let mut j = lo;
+    while j < hi {
         let entry = held.entries[j];
         now = tried(entry, n, members, sizes, struck, found, now);
         j += 1;
@@ -182,9 +183,11 @@ fn search<'a>(
     now
 }
 
-// The next member after those found: of the old list and the joins of all justifications of n held, the first that is spared.
+// The next member after those found: of the old list and the joins of the justifications of n from place lo to place hi, the first that is spared.
 fn next<'a>(
     held: Held,
+    lo: usize,
+    hi: usize,
     n: u8,
     members: &'a [Set],
     sizes: &'a [u8],
@@ -192,11 +195,11 @@ fn next<'a>(
     struck: &[Set],
     found: &[Set],
 ) -> Pick
-    requires { ⌜ Layout (now members) (now sizes) × Joinable held ⌝ }
-    ensures { λ r. ⌜ picked r ≡ best (free (now (struck .entry)) (now (found .entry))) none (candidates (lying (now (members .entry)) (now (sizes .entry))) (now (old .entry)) (saidBy held) n) ⌝ }
+    requires { ⌜ Layout (now members) (now sizes) × Joinable (between (held .entries) lo hi) × (hi ≤ 256) ⌝ }
+    ensures { λ r. ⌜ picked r ≡ best (free (now (struck .entry)) (now (found .entry))) none (candidates (lying (now (members .entry)) (now (sizes .entry))) (now (old .entry)) (map meaning (between (held .entries) lo hi)) n) ⌝ }
 {
     let first = scan(old, struck, found, Pick::Nothing);
-    search(held, n, members, sizes, struck, found, first)
+    search(held, lo, hi, n, members, sizes, struck, found, first)
 }
 
 // A list as it was built: its members, or full where the count is one above the limit.
@@ -208,6 +211,8 @@ pub struct Built {
 // The list of n at the next stage, member after member: each time the next of all candidates.
 fn plain<'a>(
     held: Held,
+    lo: usize,
+    hi: usize,
     n: u8,
     members: &'a [Set],
     sizes: &'a [u8],
@@ -215,13 +220,13 @@ fn plain<'a>(
     struck: &[Set],
     limit: usize,
 ) -> Built
-    requires { ⌜ Layout (now members) (now sizes) × Joinable held × (limit ≤ 32) ⌝ }
-    ensures { λ r. ⌜ Build held n (now (members .entry)) (now (sizes .entry)) (now (old .entry)) (now (struck .entry)) limit r ⌝ }
+    requires { ⌜ Layout (now members) (now sizes) × Joinable (between (held .entries) lo hi) × (hi ≤ 256) × (limit ≤ 32) ⌝ }
+    ensures { λ r. ⌜ Build (between (held .entries) lo hi) n (now (members .entry)) (now (sizes .entry)) (now (old .entry)) (now (struck .entry)) limit r ⌝ }
 {
     let mut sets = [0u32; 32];
     let mut count: usize = 0;
     loop {
-        let pick = next(held, n, members, sizes, old, struck, &sets[..count]);
+        let pick = next(held, lo, hi, n, members, sizes, old, struck, &sets[..count]);
         let Pick::At(e) = pick else {
             return Built { count, sets };
         };
@@ -328,9 +333,11 @@ fn joined<'a>(
     gather(members, sizes, &supports[..most], struck, 0, pool, count)
 }
 
-// The joins of all justifications of n held offered to the pool.
+// The joins of the justifications of n from place lo to place hi offered to the pool.
 fn pooled<'a>(
     held: Held,
+    lo: usize,
+    hi: usize,
     n: u8,
     members: &'a [Set],
     sizes: &'a [u8],
@@ -338,13 +345,12 @@ fn pooled<'a>(
     pool: &mut [Set],
     count: usize,
 ) -> usize
-    requires { ⌜ Layout (now members) (now sizes) × Joinable held × (length (now pool) ≤ 1000) ⌝ }
-    ensures { λ r. ⌜ Offered (now (struck .entry)) (joinsFor (lying (now (members .entry)) (now (sizes .entry))) n (saidBy held)) (now (pool .entry)) count (now (pool .exit)) r ⌝ }
+    requires { ⌜ Layout (now members) (now sizes) × Joinable (between (held .entries) lo hi) × (hi ≤ 256) × (length (now pool) ≤ 1000) ⌝ }
+    ensures { λ r. ⌜ Offered (now (struck .entry)) (joinsFor (lying (now (members .entry)) (now (sizes .entry))) n (map meaning (between (held .entries) lo hi))) (now (pool .entry)) count (now (pool .exit)) r ⌝ }
 {
-    let most = held.count;
     let mut now = count;
-    let mut j = 0;
-    while j < most {
+    let mut j = lo;
+    while j < hi {
         let entry = held.entries[j];
         now = joined(entry, n, members, sizes, struck, pool, now);
         j += 1;
@@ -372,8 +378,10 @@ fn drawn(pool: &[Set], limit: usize) -> Built
 }
 
 // The list of n at the next stage, from the labels as they lie, the old list of n and the sets struck: in one walk over the candidates where the pool has room.
-fn build<'a>(
+pub fn build<'a>(
     held: Held,
+    lo: usize,
+    hi: usize,
     n: u8,
     members: &'a [Set],
     sizes: &'a [u8],
@@ -381,35 +389,14 @@ fn build<'a>(
     struck: &[Set],
     limit: usize,
 ) -> Built
-    requires { ⌜ Layout (now members) (now sizes) × Joinable held × (limit ≤ 32) ⌝ }
-    ensures { λ r. ⌜ Build held n (now (members .entry)) (now (sizes .entry)) (now (old .entry)) (now (struck .entry)) limit r ⌝ }
+    requires { ⌜ Layout (now members) (now sizes) × Joinable (between (held .entries) lo hi) × (hi ≤ 256) × (limit ≤ 32) ⌝ }
+    ensures { λ r. ⌜ Build (between (held .entries) lo hi) n (now (members .entry)) (now (sizes .entry)) (now (old .entry)) (now (struck .entry)) limit r ⌝ }
 {
     let mut pool = [0u32; 96];
     let seen = pour(old, struck, &mut pool);
-    let count = pooled(held, n, members, sizes, struck, &mut pool, seen);
+    let count = pooled(held, lo, hi, n, members, sizes, struck, &mut pool, seen);
     if 96 < count {
-        return plain(held, n, members, sizes, old, struck, limit);
+        return plain(held, lo, hi, n, members, sizes, old, struck, limit);
     }
     drawn(&pool[..count], limit)
-}
-
-// The list of n at the next stage, built where it is stale; else the old list stays.
-pub fn renew<'a>(
-    held: Held,
-    n: u8,
-    members: &'a [Set],
-    sizes: &'a [u8],
-    old: &'a [Set],
-    struck: &[Set],
-    limit: usize,
-    stale: bool,
-) -> Built
-    requires { ⌜ Layout (now members) (now sizes) × Joinable held × (limit ≤ 32) ⌝ }
-    ensures { λ r. ⌜ Renew held n (now (members .entry)) (now (sizes .entry)) (now (old .entry)) (now (struck .entry)) limit stale r ⌝ }
-{
-    if stale {
-        build(held, n, members, sizes, old, struck, limit)
-    } else {
-        drawn(old, limit)
-    }
 }

@@ -10,39 +10,30 @@ use Rattle.labels.proofs.admit.Lts as lts
 use Rattle.labels.proofs.pool.enter.Reads as enter-reads
 use Rattle.labels.proofs.spared.Reads as spared-reads
 
--- src/lib.rt:242:9
 returns : tie.Need-returns
 returns c = offered-over _ _ _ _ (c .if1 .taken)
 
--- src/lib.rt:244:24
 slice-reshare-prefix-spared : tie.Need-slice-reshare-prefix-spared
 slice-reshare-prefix-spared c = search needs
 
--- src/lib.rt:244:24
 slice-aggregate-spared : tie.Need-slice-aggregate-spared
 slice-aggregate-spared c = sym (length-take-le (c .before .before .before .before .args .count) (c .before .before .before .before .args .pool .now) (c .before .if1 .left))
 
--- src/lib.rt:244:9
 spared-requires : tie.Need-spared-requires
 spared-requires c κs = search needs
 
--- src/lib.rt:245:9
 same-length : tie.Need-same-length
 same-length c = search needs
 
--- src/lib.rt:245:9
 returns-2 : tie.Need-returns-2
 returns-2 c = offer-out _ _ (c .before .before .before .before .before .before .args .pool .now) (c .before .before .before .before .before .before .args .count) (c .before .before .before .if1 .left) _ (c .before .spared .ensures) (c .if2 .taken)
 
--- src/lib.rt:247:5
 enter-requires : tie.Need-enter-requires
 enter-requires c κs = search needs
 
--- src/lib.rt:237:1
 same-length-2 : tie.Need-same-length-2
 same-length-2 c = search needs
 
--- src/lib.rt:237:1
 returns-3 : tie.Need-returns-3
 returns-3 c = offer-in _ _ (c .before .before .before .before .before .before .before .before .before .before .args .pool .now) (c .before .before .before .before .before .before .before .before .before .before .args .count) (c .before .before .before .before .before .before .before .if1 .left) _ (c .before .before .before .before .before .spared .ensures) (c .before .before .before .before .if2 .left) _ _ (c .before .before .enter .ensures)
 

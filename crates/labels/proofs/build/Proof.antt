@@ -15,48 +15,38 @@ use Rattle.labels.proofs.plain.Reads as plain-reads
 use Rattle.labels.proofs.pooled.Reads as pooled-reads
 use Rattle.labels.proofs.pour.Reads as pour-reads
 
--- src/lib.rt:380:34
 slice-aggregate-pour : tie.Need-slice-aggregate-pour
 slice-aggregate-pour c = search needs
 
--- src/lib.rt:380:9
 pour-requires : tie.Need-pour-requires
 pour-requires c κs = search needs
 
--- src/lib.rt:381:57
 slice-aggregate-pooled : tie.Need-slice-aggregate-pooled
 slice-aggregate-pooled c = search needs
 
--- src/lib.rt:381:9
 pooled-requires : tie.Need-pooled-requires
 pooled-requires c κs = search needs
 
--- src/lib.rt:383:9
 plain-requires : tie.Need-plain-requires
 plain-requires c κs = search needs
 
--- src/lib.rt:383:9
 returns : tie.Need-returns
 returns c = search needs
 
--- src/lib.rt:385:11
 array-share-prefix-pool : tie.Need-array-share-prefix-pool
 array-share-prefix-pool c = search needs
 
--- src/lib.rt:385:11
 slice-aggregate-drawn : tie.Need-slice-aggregate-drawn
-slice-aggregate-drawn c = let h : c .before .before .before .pooled .result ≤ length (c .before .before .before .pooled .last .1 .1 .1 .1 .1 .0) = search needs in sym (length-take-le (c .before .before .before .pooled .result) (c .before .before .before .pooled .last .1 .1 .1 .1 .1 .0) h)
+slice-aggregate-drawn c = let h : c .before .before .before .pooled .result ≤ length (c .before .before .before .pooled .last .1 .1 .1 .1 .1 .1 .1 .0) = search needs in sym (length-take-le (c .before .before .before .pooled .result) (c .before .before .before .pooled .last .1 .1 .1 .1 .1 .1 .1 .0) h)
 
--- src/lib.rt:385:5
 drawn-requires : tie.Need-drawn-requires
 drawn-requires c κs = search needs
 
--- src/lib.rt:367:1
 returns-2 : tie.Need-returns-2
 unfolding candidates
 returns-2 c =
-    let h : c .before .before .before .before .pooled .result ≤ length (c .before .before .before .before .pooled .last .1 .1 .1 .1 .1 .0) = search needs in
-    pool-built _ _ _ _ (both-offered _ _ _ (replicate 96 0) _ _ (c .before .before .before .before .pooled .last .1 .1 .1 .1 .1 .0) (c .before .before .before .before .pooled .result) (c .before .before .before .before .before .before .before .pour .ensures) (c .before .before .before .before .pooled .ensures) h) _ (c .drawn .ensures)
+    let h : c .before .before .before .before .pooled .result ≤ length (c .before .before .before .before .pooled .last .1 .1 .1 .1 .1 .1 .1 .0) = search needs in
+    pool-built _ _ _ _ (both-offered _ _ _ (replicate 96 0) _ _ (c .before .before .before .before .pooled .last .1 .1 .1 .1 .1 .1 .1 .0) (c .before .before .before .before .pooled .result) (c .before .before .before .before .before .before .before .pour .ensures) (c .before .before .before .before .pooled .ensures) h) _ (c .drawn .ensures)
 
 pub build-spec : {M : Type 1} → statement M
 build-spec =

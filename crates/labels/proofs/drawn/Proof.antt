@@ -14,47 +14,36 @@ Inv-loop pool limit sets₀ i₀ sets i = Drawn pool limit sets i
 abbrev μ-loop : tie.MeasureT-loop
 μ-loop pool limit sets₀ i₀ sets i = 33 - i
 
--- src/lib.rt:351:5
 loop-holds : tie.Need-loop-holds Inv-loop μ-loop
 loop-holds c = drawn-none _ _
 
--- src/lib.rt:353:13
 returns : tie.Need-returns Inv-loop μ-loop
 returns c = drawn-all _ _ (c .before .before .pre) (c .before .loop .sets) (c .before .loop .i) (c .before .loop .inv) (c .if1 .taken)
 
--- src/lib.rt:357:24
 add-t8 : tie.Need-add-t8 Inv-loop μ-loop
 add-t8 c = omega (arith, c .before .before .loop .inv .few, c .before .before .before .pre)
 
--- src/lib.rt:356:13
 returns-2 : tie.Need-returns-2 Inv-loop μ-loop
 returns-2 c = drawn-full _ _ (c .before .before .before .pre) (c .before .before .loop .sets) (c .before .before .loop .i) (c .before .before .loop .inv) (c .before .if1 .left) (c .if2 .taken)
 
--- src/lib.rt:361:19
 mul-sets : tie.Need-mul-sets Inv-loop μ-loop
 mul-sets c = search needs
 
--- src/lib.rt:361:19
 shared-slice-read-sets : tie.Need-shared-slice-read-sets Inv-loop μ-loop
 shared-slice-read-sets c = search needs
 
--- src/lib.rt:361:9
 mul-sets-2 : tie.Need-mul-sets-2 Inv-loop μ-loop
 mul-sets-2 c = search needs
 
--- src/lib.rt:361:9
 array-write-sets : tie.Need-array-write-sets Inv-loop μ-loop
 array-write-sets c = omega (arith, c .before .before .before .loop .inv .long, c .before .before .before .before .pre, c .before .if2 .left)
 
--- src/lib.rt:362:9
 add-i : tie.Need-add-i Inv-loop μ-loop
 add-i c = omega (arith, c .before .before .before .loop .inv .few, c .before .before .before .before .pre)
 
--- src/lib.rt:351:5
 loop-less : tie.Need-loop-less Inv-loop μ-loop
 loop-less c = omega (arith, c .before .before .before .before .pre, c .before .if2 .left)
 
--- src/lib.rt:351:5
 loop-again : tie.Need-loop-again Inv-loop μ-loop
 loop-again c = drawn-more _ _ (c .before .before .before .before .pre) (c .before .before .before .loop .sets) (c .before .before .before .loop .i) (c .before .before .before .loop .inv) (c .before .if2 .left) (c .before .before .if1 .left)
 

@@ -14,31 +14,24 @@ use Rattle.labels.proofs.joined.Reads as reads
 use Rattle.labels.proofs.joined.Lts as lts
 use Rattle.labels.proofs.gather.Reads as gather-reads
 
--- src/lib.rt:313:9
 returns : tie.Need-returns
 returns c = none-offered _ _ (c .before .before .before .before .before .before .args .pool .now) (c .before .before .before .before .before .before .args .count) (joins-not (lying (c .before .before .before .before .before .before .args .members .now) (c .before .before .before .before .before .before .args .sizes .now)) _ (meaning (c .before .before .before .before .before .before .args .entry)) (c .if1 .taken))
 
--- src/lib.rt:315:16
 cast-most : tie.Need-cast-most
 cast-most c = search needs
 
--- src/lib.rt:317:28
 array-share-prefix-supports : tie.Need-array-share-prefix-supports
 array-share-prefix-supports c = let e : length (c .before .before .before .before .before .before .before .before .args .entry .supports) ≡ 4 = search needs in omega (arith, c .before .before .before .before .before .before .before .before .pre .1)
 
--- src/lib.rt:317:28
 slice-aggregate-gather : tie.Need-slice-aggregate-gather
 slice-aggregate-gather c = let e : length (c .before .before .before .before .before .before .before .before .before .args .entry .supports) ≡ 4 = search needs in sym (length-take-le _ _ (omega (arith, c .before .before .before .before .before .before .before .before .before .pre .1)))
 
--- src/lib.rt:317:5
 gather-requires : tie.Need-gather-requires
 gather-requires c κs = (c .before .before .before .before .before .before .before .before .before .before .pre .0, c .before .before .before .before .before .before .before .before .before .before .pre .2, c .before .before .before .before .before .before .before .before .before .before .pre .3)
 
--- src/lib.rt:300:1
 same-length : tie.Need-same-length
 same-length c = search needs
 
--- src/lib.rt:300:1
 returns-2 : tie.Need-returns-2
 returns-2 c = as-offered _ _ _ (c .before .before .before .before .before .before .before .before .before .before .before .before .before .args .pool .now) (c .before .before .before .before .before .before .before .before .before .before .before .before .before .args .count) _ _ (joins-so (lying (c .before .before .before .before .before .before .before .before .before .before .before .before .before .args .members .now) (c .before .before .before .before .before .before .before .before .before .before .before .before .before .args .sizes .now)) _ (meaning (c .before .before .before .before .before .before .before .before .before .before .before .before .before .args .entry)) (c .before .before .before .before .before .before .before .if1 .left)) (c .before .before .gather .ensures)
 

@@ -17,41 +17,32 @@ Inv-loop list struck pool₀ count₀ i₀ pool count i = (i ≤ length list) ×
 abbrev μ-loop : tie.MeasureT-loop
 μ-loop list struck pool₀ count₀ i₀ pool count i = length list - i
 
--- src/lib.rt:257:5
 loop-holds : tie.Need-loop-holds Inv-loop μ-loop
 loop-holds c = (omega arith, refl, λ P r o. o)
 
--- src/lib.rt:258:44
 mul-admit : tie.Need-mul-admit Inv-loop μ-loop
 mul-admit c = search needs
 
--- src/lib.rt:258:44
 shared-slice-read-admit : tie.Need-shared-slice-read-admit Inv-loop μ-loop
 shared-slice-read-admit c = omega arith
 
--- src/lib.rt:258:9
 admit-requires : tie.Need-admit-requires Inv-loop μ-loop
 admit-requires c κs = omega (arith, c .before .before .before .loop .inv .1, c .before .before .before .before .before .before .before .pre)
 
--- src/lib.rt:259:9
 add-i : tie.Need-add-i Inv-loop μ-loop
 add-i c = omega arith
 
--- src/lib.rt:257:5
 loop-less : tie.Need-loop-less Inv-loop μ-loop
 loop-less c = omega arith
 
--- src/lib.rt:257:5
 loop-again : tie.Need-loop-again Inv-loop μ-loop
 loop-again c =
     let l = c .before .before .before .before .before .before .loop in
     (omega arith, c .before .before .admit .kept .1 .0 ∙ l .inv .1, left-turn _ _ (c .before .before .before .before .before .before .before .before .before .before .args .pool .now) _ (drop (l .i) (c .before .before .before .before .before .before .before .before .before .before .args .list .now)) _ _ (l .pool) (l .count) (l .inv .2) (list-on _ (l .i) (omega arith)) _ _ (c .before .before .admit .ensures))
 
--- src/lib.rt:251:1
 same-length : tie.Need-same-length Inv-loop μ-loop
 same-length c = c .before .loop .inv .1
 
--- src/lib.rt:251:1
 returns : tie.Need-returns Inv-loop μ-loop
 returns c = left-end _ _ (c .before .before .before .before .before .args .pool .now) _ (drop (c .before .loop .i) (c .before .before .before .before .before .args .list .now)) (c .before .loop .pool) (c .before .loop .count) (c .before .loop .inv .2) (drop-of-length-le _ {i = c .before .loop .i} (omega arith))
 

@@ -6,19 +6,15 @@ use Rattle.labels.proofs.pool.counted.Reads as reads
 use Rattle.labels.proofs.pool.counted.Lts as lts
 use Rattle.sets.proofs.within.Reads as within-reads
 
--- src/pool.rt:15:8
 within-requires : tie.Need-within-requires
 within-requires c κs = search needs
 
--- src/pool.rt:18:9
 add-result : tie.Need-add-result
 add-result c = search needs
 
--- src/pool.rt:11:1
 returns : tie.Need-returns
 returns c = choose-yes _ _ (c .before .within .ensures) _ _ (c .if1 .taken)
 
--- src/pool.rt:11:1
 returns-2 : tie.Need-returns-2
 returns-2 c = choose-no _ _ (c .before .within .ensures) _ _ (c .if1 .left)
 

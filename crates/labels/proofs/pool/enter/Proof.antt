@@ -10,35 +10,27 @@ use Rattle.labels.proofs.pool.enter.Lts as lts
 use Rattle.labels.proofs.pool.place.Reads as place-reads
 use Rattle.labels.proofs.pool.purge.Reads as purge-reads
 
--- src/pool.rt:81:9
 purge-requires : tie.Need-purge-requires
 purge-requires c κs = search needs
 
--- src/pool.rt:83:16
 add-result : tie.Need-add-result
 add-result c = search needs
 
--- src/pool.rt:83:9
 same-length : tie.Need-same-length
 same-length c = search needs
 
--- src/pool.rt:83:9
 returns : tie.Need-returns
 returns c = λ h. absurd (omega arith)
 
--- src/pool.rt:85:5
 place-requires : tie.Need-place-requires
 place-requires c κs = search needs
 
--- src/pool.rt:86:5
 add-result-2 : tie.Need-add-result-2
 add-result-2 c = search needs
 
--- src/pool.rt:77:1
 same-length-2 : tie.Need-same-length-2
 same-length-2 c = search needs
 
--- src/pool.rt:77:1
 returns-2 : tie.Need-returns-2
 returns-2 c = λ h. c .before .before .place .ensures ∙ ap (placed (c .before .before .before .before .before .before .before .before .before .before .args .e)) (c .before .before .before .before .before .before .before .purge .ensures .1)
 

@@ -20,62 +20,48 @@ Inv-loop pool₀ count e carried₀ i₀ pool carried i = (i ≤ count) × (leng
 abbrev μ-loop : tie.MeasureT-loop
 μ-loop pool₀ count e carried₀ i₀ pool carried i = count - i
 
--- src/pool.rt:67:5
 loop-holds : tie.Need-loop-holds Inv-loop μ-loop
 loop-holds c = (omega arith, refl, ap (placed (c .before .args .e)) (rest-all (c .before .args .pool .now) (c .before .args .count)))
 
--- src/pool.rt:68:17
 mul-x : tie.Need-mul-x Inv-loop μ-loop
 mul-x c = search needs
 
--- src/pool.rt:68:17
 slice-read-x : tie.Need-slice-read-x Inv-loop μ-loop
 slice-read-x c = omega arith
 
--- src/pool.rt:69:19
 sooner-requires : tie.Need-sooner-requires Inv-loop μ-loop
 sooner-requires c κs = search needs
 
--- src/pool.rt:69:9
 mul-pool : tie.Need-mul-pool Inv-loop μ-loop
 mul-pool c = search needs
 
--- src/pool.rt:69:9
 slice-write-pool : tie.Need-slice-write-pool Inv-loop μ-loop
 slice-write-pool c = omega arith
 
--- src/pool.rt:70:9
 later-requires : tie.Need-later-requires Inv-loop μ-loop
 later-requires c κs = search needs
 
--- src/pool.rt:71:9
 add-i : tie.Need-add-i Inv-loop μ-loop
 add-i c = omega arith
 
--- src/pool.rt:67:5
 loop-less : tie.Need-loop-less Inv-loop μ-loop
 loop-less c = omega arith
 
--- src/pool.rt:67:5
 loop-again : tie.Need-loop-again Inv-loop μ-loop
 loop-again c =
     let s = c .before .before .before .before .before .before in
     let l = c .before .before .before .before .loop in
     (omega arith, length-set (l .pool) (l .i) _ ∙ l .inv .1, place-turn _ (l .pool) (s .args .count) (l .carried) (l .i) (omega (arith, s .pre, l .inv .1)) (l .inv .2) (c .before .before .before .loop-test .taken) _ (c .before .sooner .ensures) _ (c .later .ensures))
 
--- src/pool.rt:73:5
 mul-pool-2 : tie.Need-mul-pool-2 Inv-loop μ-loop
 mul-pool-2 c = search needs
 
--- src/pool.rt:73:5
 slice-write-pool-2 : tie.Need-slice-write-pool-2 Inv-loop μ-loop
 slice-write-pool-2 c = omega arith
 
--- src/pool.rt:61:1
 same-length : tie.Need-same-length Inv-loop μ-loop
 same-length c = length-set (c .before .loop .pool) _ _ ∙ c .before .loop .inv .1
 
--- src/pool.rt:61:1
 returns : tie.Need-returns Inv-loop μ-loop
 returns c =
     let s = c .before .before .before in

@@ -19,39 +19,30 @@ Inv-loop pool₀ count e kept₀ i₀ pool kept i = (i ≤ count) × (kept ≤ i
 abbrev μ-loop : tie.MeasureT-loop
 μ-loop pool₀ count e kept₀ i₀ pool kept i = count - i
 
--- src/pool.rt:51:5
 loop-holds : tie.Need-loop-holds Inv-loop μ-loop
 loop-holds c = (omega arith, omega arith, refl, ap (purged (c .before .args .e)) (rest-all (c .before .args .pool .now) (c .before .args .count)))
 
--- src/pool.rt:52:17
 mul-x : tie.Need-mul-x Inv-loop μ-loop
 mul-x c = search needs
 
--- src/pool.rt:52:17
 slice-read-x : tie.Need-slice-read-x Inv-loop μ-loop
 slice-read-x c = omega arith
 
--- src/pool.rt:53:9
 mul-pool : tie.Need-mul-pool Inv-loop μ-loop
 mul-pool c = search needs
 
--- src/pool.rt:53:9
 slice-write-pool : tie.Need-slice-write-pool Inv-loop μ-loop
 slice-write-pool c = omega arith
 
--- src/pool.rt:54:9
 counted-requires : tie.Need-counted-requires Inv-loop μ-loop
 counted-requires c κs = omega arith
 
--- src/pool.rt:55:9
 add-i : tie.Need-add-i Inv-loop μ-loop
 add-i c = omega arith
 
--- src/pool.rt:51:5
 loop-less : tie.Need-loop-less Inv-loop μ-loop
 loop-less c = omega arith
 
--- src/pool.rt:51:5
 loop-again : tie.Need-loop-again Inv-loop μ-loop
 loop-again c =
     let s = c .before .before .before .before .before in
@@ -59,11 +50,9 @@ loop-again c =
     let room : s .args .count ≤ length (l .pool) = omega (arith, s .pre .0, l .inv .2) in
     (omega arith, purge-low (s .args .e) _ (l .pool) (s .args .count) (l .kept) (l .i) room (l .inv .3) (l .inv .1) _ (c .counted .ensures), length-set (l .pool) (l .kept) _ ∙ l .inv .2, purge-turn (s .args .e) _ (l .pool) (s .args .count) (l .kept) (l .i) room (l .inv .3) (l .inv .1) (c .before .before .loop-test .taken) _ (c .counted .ensures))
 
--- src/pool.rt:45:1
 same-length : tie.Need-same-length Inv-loop μ-loop
 same-length c = c .before .loop .inv .2
 
--- src/pool.rt:45:1
 returns : tie.Need-returns Inv-loop μ-loop
 returns c =
     let s = c .before .before .before in

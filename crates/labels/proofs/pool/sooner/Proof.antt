@@ -6,15 +6,12 @@ use Rattle.labels.proofs.pool.sooner.Reads as reads
 use Rattle.labels.proofs.pool.sooner.Lts as lts
 use Rattle.sets.proofs.before.Reads as before-reads
 
--- src/pool.rt:26:8
 before-requires : tie.Need-before-requires
 before-requires c κs = search needs
 
--- src/pool.rt:23:1
 returns : tie.Need-returns
 returns c = choose-yes _ _ (c .before .before2 .ensures) _ _ (c .if1 .taken)
 
--- src/pool.rt:23:1
 returns-2 : tie.Need-returns-2
 returns-2 c = choose-no _ _ (c .before .before2 .ensures) _ _ (c .if1 .left)
 
