@@ -8,7 +8,6 @@ use native.Mathlib.Numerals.{add-one}
 use native.Mathlib.Omega.{arith}
 use lib.ListN.{List·getD-eq-default, getD, getD-replicate, length, length-append, length-replicate, length-take, length-set, replicate, set, take}
 use lib.Seq.{getD-set-other, getD-set-same, getD-take, length-take-le, take-all, take-at, take-suc-set, take-take}
-use borrow.Fn.PlainCycle.{is}
 use Rattle.labels.specs.Promised.{builtOf}
 use Rattle.labels.specs.declared.Built.{Built}
 use Rattle.theory.proofs.Places.{is-table}

@@ -4,6 +4,7 @@ pub mod Pools
 pub mod Selects
 pub mod Visits
 pub mod Offering
+pub mod Turns
 pub mod Candidates
 pub mod Ranges
 pub mod Builds

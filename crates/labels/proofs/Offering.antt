@@ -1,76 +1,89 @@
 -- Sets offered to the pool one after the other, as the loops and the recursion do, over plain variables. Assumes nothing.
-use mathlib.Core.Bool.{Bool, false, not, true}
+use mathlib.Core.Bool.{Bool, _&&_, false, not, true}
 use mathlib.Core.List.{List, List·Memᴰ as Mem, [], _++_, _∷_, List·Memᴰ·head as here, List·Memᴰ·tail as there}
+use mathlib.Core.Logic.{⊎-elim}
 use mathlib.Core.Path.{_∙_, _≡_, ap, ap₂, refl, subst, sym}
-use Prim.Native.Nat.{_*_, _+_, _-_, _<_, _≤_, suc, ℕ}
+use Prim.Native.Nat.{_*_, _+_, _-_, _<_, _≤_, ℕ}
+use native.Mathlib.Decide.{decLt}
 use native.Mathlib.Numerals.{add-one}
 use native.Mathlib.Omega.{arith}
+use lib.Dec.{leb, ltb}
 use lib.ListN.{drop, drop-of-length-le, getD, length, take}
-use lib.Seq.{drop-cons}
-use borrow.Author.Tests.{not-true}
-use Rattle.labels.proofs.Selects.{admit-selects}
-use Rattle.labels.proofs.Visits.{free-more, left, left-is, lying-at, lying-length}
+use lib.Seq.{drop-cons, length-take-le}
+use borrow.Author.Tests.{le-leb, le-ltb, leb-true, lt-ltb, ltb-true, not-false, not-true}
+use Rattle.labels.proofs.Pools.{in-over}
+use Rattle.labels.proofs.Visits.{free-more, late-more, left, left-is, lying-at, lying-length}
 use Rattle.labels.specs.Layout.{Layout, Ranged, lying}
-use Rattle.labels.specs.Pool.{Entered, Offered, admitted, admittedAll, placed, purged}
-use Rattle.labels.specs.Promised.{builtOf}
-use Rattle.labels.specs.declared.Built.{Built}
-use Rattle.theory.proofs.Lists.{clash, not-so}
-use Rattle.theory.proofs.Picks.{picks-selection}
+use Rattle.labels.specs.Pool.{Entered, Filled, Holds, Offered, Roomy, closed, entered, enters, filled, fullBy, inUse, offered, offeredAll}
+use Rattle.theory.proofs.Lists.{and-intro, and-left, and-right, clash, either, not-so, same-test}
 use Rattle.theory.proofs.Step.{joins-from}
 use Rattle.theory.specs.Lists.{choose, each}
-use Rattle.theory.specs.Sets.{union}
-use Rattle.theory.specs.Step.{free, joins, picks}
+use Rattle.theory.specs.Sets.{before, union, within}
+use Rattle.theory.specs.Step.{free, joins}
 
-not-false : (b : Bool) → not b ≡ false → b ≡ true
-not-false true e = refl
-not-false false e = clash refl e
+-- what contains a set that cannot go in cannot go in either
+enters-more : (struck l : List ℕ) (full : Bool) (G H : ℕ) → within G H ≡ true → enters struck full l H ≡ true → enters struck full l G ≡ true
+unfolding enters
+enters-more struck l full G H w e = and-intro (stands full (and-left (not (closed full l H)) (free struck l H) e)) (free-more struck l G H w (and-right (not (closed full l H)) (free struck l H) e))
+  where
+    last : ℕ
+    last = getD l (length l - 1) 0
+
+    stands : (b : Bool) → not (b && not (before H last)) ≡ true → not (b && not (before G last)) ≡ true
+    stands false f = f
+    stands true f = ⊎-elim (λ t. ap (λ (x : Bool). not (not x)) t) (λ t. clash f (ap (λ (x : Bool). not (not x)) (late-more G H last w t))) (either (before G last))
 
 module _ (struck : List ℕ) where
   -- ---- the sets offered, as a function
-  admit-append : (m n l : List ℕ) → admittedAll struck l (m ++ n) ≡ admittedAll struck (admittedAll struck l m) n
-  unfolding admittedAll
-  admit-append [] n l = refl
-  admit-append (E ∷ m) n l = admit-append m n (admitted struck l E)
+  pub offered-append : (room : ℕ) (m n : List ℕ) (f : Filled) → offeredAll room struck f (m ++ n) ≡ offeredAll room struck (offeredAll room struck f m) n
+  unfolding offeredAll
+  offered-append room [] n f = refl
+  offered-append room (E ∷ m) n f = offered-append room m n (offered room struck f E)
 
-  admit-skip : (m l : List ℕ) → ((x : ℕ) → Mem x m → free struck l x ≡ false) → admittedAll struck l m ≡ l
-  unfolding admittedAll
-  admit-skip [] l f = refl
-  admit-skip (E ∷ m) l f = ap (λ (b : Bool). admittedAll struck (choose b (placed E (purged E l)) l) m) (f E (here refl)) ∙ admit-skip m l (λ x o. f x (there o))
+  offered-skip : (room : ℕ) (m : List ℕ) (f : Filled) → ((x : ℕ) → Mem x m → enters struck (fullBy room f) (f .sets) x ≡ false) → offeredAll room struck f m ≡ f
+  unfolding offeredAll
+  offered-skip room [] f h = refl
+  offered-skip room (E ∷ m) f h = ap (λ (b : Bool). offeredAll room struck (choose b (entered room f E) f) m) (h E (here refl)) ∙ offered-skip room m f (λ x o. h x (there o))
 
-  -- ---- in the places of the pool
-  pub offered-over : (m pool : List ℕ) (count : ℕ) → length pool < count → Offered struck m pool count pool count
-  offered-over m pool count h = λ r. absurd (omega arith)
+  -- ---- one set offered to a pool in its places
+  module _ (E : ℕ) (pool : List ℕ) (count : ℕ) (fits : inUse (length pool) count ≤ length pool) (u : ℕ) (us : u ≡ inUse (length pool) count) (b : Bool)
+      (e : b ≡ enters struck (ltb (length pool + length pool) count) (take u pool) E) where
+    abbrev room : ℕ
+    room = length pool
 
-  offered-nothing : (pool : List ℕ) (count : ℕ) → Offered struck [] pool count pool count
-  unfolding admittedAll
-  offered-nothing pool count = λ r. (r, refl)
+    full-is : ltb (room + room) count ≡ fullBy room (filled room pool count)
+    full-is = elim (decLt room count) [
+      | yes p ↦ (let k : inUse room count ≡ count - room - 1 = in-over room count p in
+          let l : length (take (inUse room count) pool) ≡ inUse room count = length-take-le (inUse room count) pool fits in
+          same-test
+          (λ t. and-intro (lt-ltb room count p) (le-leb room (length (take (inUse room count) pool)) (omega (arith, ltb-true (room + room) count t))))
+          (λ t. lt-ltb (room + room) count (omega (arith, leb-true room (length (take (inUse room count) pool)) (and-right (ltb room count) (leb room (length (take (inUse room count) pool))) t)))))
+      | no p ↦ le-ltb (room + room) count (omega arith) ∙ sym (ap (λ (t : Bool). t && leb room (length (take (inUse room count) pool))) (le-ltb room count (omega arith)))
+    ]
 
-  offered-then : (m n pool pool′ pool″ : List ℕ) (count k r : ℕ) → Offered struck m pool count pool′ k → Offered struck n pool′ k pool″ r → Offered struck (m ++ n) pool count pool″ r
-  offered-then m n pool pool′ pool″ count k r a b = λ h.
-      let w = b h in
-      let v = a (w .0) in
-      (v .0, w .1 ∙ ap (λ (l : List ℕ). admittedAll struck l n) (v .1) ∙ sym (admit-append m n (take count pool)))
+    test : b ≡ enters struck (fullBy room (filled room pool count)) (take (inUse room count) pool) E
+    test = e ∙ ap₂ (λ (t : Bool) (n : ℕ). enters struck t (take n pool) E) full-is us
 
-  module _ (E : ℕ) (pool : List ℕ) (count : ℕ) (room : count ≤ length pool) (b : Bool) (e : b ≡ free struck (take count pool) E) where
     pub offer-out : not b ≡ true → Offered struck (E ∷ []) pool count pool count
-    offer-out h = λ r. (
-      room,
-      sym (admit-skip (E ∷ []) (take count pool) (λ x m. elim m [
-        | here q ↦ subst (λ (v : ℕ). free struck (take count pool) v ≡ false) (sym q) (sym e ∙ not-true b h)
+    offer-out h = (
+      sym (offered-skip room (E ∷ []) (filled room pool count) (λ x m. elim m [
+        | here q ↦ subst (λ (v : ℕ). enters struck (fullBy room (filled room pool count)) (take (inUse room count) pool) v ≡ false) (sym q) (sym test ∙ not-true b h)
         | there o ↦ elim o [ ]
       ])),
+      fits,
     )
 
     pub offer-in : not b ≡ false → (pool′ : List ℕ) (r : ℕ) → Entered pool count E pool′ r → Offered struck (E ∷ []) pool count pool′ r
-    unfolding admittedAll
-    offer-in h pool′ r a = λ q. (room, a q ∙ ap (λ (c : Bool). choose c (placed E (purged E (take count pool))) (take count pool)) (sym (not-false b h) ∙ e))
+    unfolding offeredAll
+    offer-in h pool′ r a = (a .0 ∙ ap (λ (c : Bool). choose c (entered room (filled room pool count) E) (filled room pool count)) (sym (not-false b h) ∙ test), a .1)
 
-    -- what is joined contains a set struck or one of the pool: none of its joins goes in
+    -- what is joined cannot go in: none of its joins can
     pub gather-cut : (L : ℕ → List ℕ) (supports : List ℕ) → not b ≡ true → Offered struck (joins L E supports) pool count pool count
-    gather-cut L supports h = λ r. (
-      room,
-      sym (admit-skip (joins L E supports) (take count pool)
-          (λ H m. not-so (free struck (take count pool) H) (λ f. clash (free-more struck (take count pool) E H (joins-from L supports E m) f) (sym e ∙ not-true b h)))),
+    gather-cut L supports h = (
+      sym (offered-skip room (joins L E supports) (filled room pool count)
+          (λ H m. not-so (enters struck (fullBy room (filled room pool count)) (take (inUse room count) pool) H)
+          (λ f. clash (enters-more struck (take (inUse room count) pool) (fullBy room (filled room pool count)) E H (joins-from L supports E m) f) (sym test ∙ not-true b h)))),
+      fits,
     )
 
   pub gather-end : (L : ℕ → List ℕ) (supports : List ℕ) (joined : ℕ) (pool : List ℕ) (count : ℕ) (pool′ : List ℕ) (r : ℕ) → length supports < 1 → Offered struck (joined ∷ []) pool count pool′ r → Offered struck (joins L joined supports) pool count pool′ r
@@ -80,27 +93,42 @@ module _ (struck : List ℕ) where
   pub as-offered : (m n pool : List ℕ) (count : ℕ) (pool′ : List ℕ) (r : ℕ) → n ≡ m → Offered struck m pool count pool′ r → Offered struck n pool count pool′ r
   as-offered m n pool count pool′ r e o = subst (λ (l : List ℕ). Offered struck l pool count pool′ r) (sym e) o
 
-  pub none-offered : (n pool : List ℕ) (count : ℕ) → n ≡ [] → Offered struck n pool count pool count
-  none-offered n pool count e = as-offered [] n pool count pool count e (offered-nothing pool count)
+  pub none-offered : (n pool : List ℕ) (count : ℕ) → inUse (length pool) count ≤ length pool → n ≡ [] → Offered struck n pool count pool count
+  unfolding offeredAll
+  none-offered n pool count fits e = as-offered [] n pool count pool count e (refl, fits)
 
   -- ---- what is left to offer
   module _ (all start : List ℕ) (first : ℕ) where
-    -- with what is left offered too, all is
-    abbrev pub Left : List ℕ → List ℕ → ℕ → Type 0
-    Left m pool count = (P : List ℕ) (r : ℕ) → Offered struck m pool count P r → Offered struck all start first P r
+    -- all offered from the start is what is left offered from here
+    pub record Left (m pool : List ℕ) (count : ℕ) : Type 0 where
+      pub same : length pool ≡ length start
+      pub fits : inUse (length start) count ≤ length start
+      pub rest : offeredAll (length start) struck (filled (length start) start first) all ≡ offeredAll (length start) struck (filled (length start) pool count) m
 
-    pub left-turn : (m n p pool : List ℕ) (count : ℕ) → Left m pool count → m ≡ n ++ p → (pool′ : List ℕ) (k : ℕ) → Offered struck n pool count pool′ k → Left p pool′ k
-    left-turn m n p pool count inv e pool′ k o = λ P r q. inv P r (subst (λ (l : List ℕ). Offered struck l pool count P r) (sym e) (offered-then n p pool pool′ P count k r o q))
+    pub left-all : (m : List ℕ) → Roomy start first → all ≡ m → Left m start first
+    left-all m ok e = record { same = refl; fits = ok .fits; rest = ap (offeredAll (length start) struck (filled (length start) start first)) e }
+
+    pub left-roomy : (m pool : List ℕ) (count : ℕ) → Roomy start first → Left m pool count → Roomy pool count
+    left-roomy m pool count ok inv = record {
+      some = omega (arith, ok .some, inv .same);
+      few = omega (arith, ok .few, inv .same);
+      fits = subst (λ (n : ℕ). inUse n count ≤ n) (sym (inv .same)) (inv .fits);
+    }
+
+    pub left-turn : (m n p pool : List ℕ) (count : ℕ) → Left m pool count → m ≡ n ++ p → (pool′ : List ℕ) (k : ℕ) → length pool′ ≡ length pool → Offered struck n pool count pool′ k → Left p pool′ k
+    left-turn m n p pool count inv e pool′ k s o =
+        let w : Holds (length start) pool′ k (offeredAll (length start) struck (filled (length start) pool count) n) =
+        subst (λ (v : ℕ). Holds v pool′ k (offeredAll v struck (filled v pool count) n)) (inv .same) o in
+        record {
+          same = s ∙ inv .same;
+          fits = w .1;
+          rest = inv .rest ∙ ap (offeredAll (length start) struck (filled (length start) pool count)) e ∙ offered-append (length start) n p (filled (length start) pool count)
+              ∙ ap (λ (f : Filled). offeredAll (length start) struck f p) (sym (w .0));
+        }
 
     pub left-end : (m pool : List ℕ) (count : ℕ) → Left m pool count → m ≡ [] → Offered struck all start first pool count
-    left-end m pool count inv e = inv pool count (subst (λ (l : List ℕ). Offered struck l pool count pool count) (sym e) (offered-nothing pool count))
-
-  -- ---- the two parts of the candidates
-  pub both-offered : (old new start pool : List ℕ) (k : ℕ) (pool′ : List ℕ) (r : ℕ) → Offered struck old start 0 pool k → Offered struck new pool k pool′ r → r ≤ length pool′ → take r pool′ ≡ admittedAll struck [] (old ++ new)
-  both-offered old new start pool k pool′ r a b h = offered-then old new start pool pool′ 0 k r a b h .1
-
-  pub pool-built : (limit : ℕ) (cands X : List ℕ) → X ≡ admittedAll struck [] cands → (b : Built) → b ≡ builtOf limit (take (limit + 1) X) → b ≡ builtOf limit (picks (limit + 1) struck [] cands)
-  pool-built limit cands X e b q = q ∙ ap (builtOf limit) (ap (take (limit + 1)) e ∙ sym (picks-selection struck cands (limit + 1) (admittedAll struck [] cands) (admit-selects struck cands)))
+    unfolding offeredAll
+    left-end m pool count inv e = (sym (inv .rest ∙ ap (offeredAll (length start) struck (filled (length start) pool count)) e), inv .fits)
 
 -- the sets of a list, place by place
 pub list-on : (l : List ℕ) (i : ℕ) → i < length l → drop i l ≡ (getD l i 0 ∷ []) ++ drop (i + 1) l

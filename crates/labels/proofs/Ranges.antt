@@ -27,10 +27,10 @@ module _ (h : Held) (right : heldRight h ≡ true) (wide : h .assumptions + h .c
       let r = right-elim h right in
       fits-elim (h .assumptions + h .claims) (getD (h .entries) j z) (all-first (fitting (h .assumptions + h .claims)) (h .entries) (h .count) j z (omega (arith, r .few, r .long)) (r .fits) low)
 
-  held-few : Few (getD (h .entries) j z)
+  pub held-few : Few (getD (h .entries) j z)
   held-few = fits .few
 
-  held-ranged : Ranged (meaning (getD (h .entries) j z) .supports)
+  pub held-ranged : Ranged (meaning (getD (h .entries) j z) .supports)
   held-ranged = record {
     range = λ i p.
         let l : List ℕ = meaning (getD (h .entries) j z) .supports in

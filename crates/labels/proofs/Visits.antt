@@ -35,7 +35,7 @@ free-more struck found G H w f =
     rw (x, y)
 
 -- what contains a set that does not stand before y does not stand before y either
-late-more : (G H y : ℕ) → within G H ≡ true → before G y ≡ false → before H y ≡ false
+pub late-more : (G H y : ℕ) → within G H ≡ true → before G y ≡ false → before H y ≡ false
 late-more G H y w l =
     ⊎-elim (λ (q : G ≡ H). subst (λ (x : ℕ). before x y ≡ false) q l) (λ b. not-so (before H y) (λ c. clash (before-trans G H y b c) l)) (within-before G H w)
 

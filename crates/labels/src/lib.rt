@@ -1,10 +1,11 @@
-// One list of the next stage, in listing order: in one walk over the candidates, by a pool of the smallest seen so far;
-// where the pool has no room, each time the first candidate that contains no set struck and none found.
+// One list of the next stage, in listing order: by a pool of the smallest candidates seen so far, in one walk over the candidates
+// where the pool has room for all, else in several; in the end each time the first candidate that contains no set struck and none found.
 mod pool;
 
 use rules::Entry;
 use rules::Held;
 use sets::Set;
+ghost use mathlib.Core.Bool.{true};
 ghost use mathlib.Core.Option.{none};
 ghost use mathlib.Core.List.{[], _∷_, map};
 ghost use mathlib.Core.Path.{_≡_};
@@ -14,7 +15,7 @@ ghost use Rattle.rules.specs.Held.{meaning};
 ghost use Rattle.theory.specs.Step.{best, candidates, free, joins, joinsFor, sooner};
 ghost use Rattle.labels.specs.Layout.{Few, Joinable, Layout, Ranged, between, lying};
 ghost use Rattle.labels.specs.Picked.{lateBy, picked};
-ghost use Rattle.labels.specs.Pool.{Offered};
+ghost use Rattle.labels.specs.Pool.{Offered, Roomy, enters};
 ghost use Rattle.labels.specs.Promised.{Build, FirstWithin, builtOf};
 
 // The place of the first member that lies within e, or the count of members.
@@ -241,32 +242,43 @@ fn plain<'a>(
     }
 }
 
+// Whether e can go in: it contains no set struck and none held, and where the pool is full it stands before the last.
+fn passes(struck: &[Set], pool: &[Set], full: bool, e: Set) -> bool
+    requires { ⌜ (full ≡ true → 1 ≤ length (now pool)) ⌝ }
+    ensures { λ r. ⌜ r ≡ enters (now (struck .entry)) full (now (pool .entry)) e ⌝ }
+{
+    if pool::shut(pool, full, e) {
+        return false;
+    }
+    spared(struck, pool, e)
+}
+
 // e offered to the pool.
 fn admit(struck: &[Set], pool: &mut [Set], count: usize, e: Set) -> usize
-    requires { ⌜ length (now pool) ≤ 1000 ⌝ }
+    requires { ⌜ Roomy (now pool) count ⌝ }
     ensures { λ r. ⌜ Offered (now (struck .entry)) (e ∷ []) (now (pool .entry)) count (now (pool .exit)) r ⌝ }
 {
-    if pool.len() < count {
-        return count;
-    }
-    if !spared(struck, &pool[..count], e) {
+    let room = pool.len();
+    let used = pool::used(room, count);
+    let full = room + room < count;
+    if !passes(struck, &pool[..used], full, e) {
         return count;
     }
     pool::enter(pool, count, e)
 }
 
 // Each set of the list offered to the pool.
-fn pour(list: &[Set], struck: &[Set], pool: &mut [Set]) -> usize
-    requires { ⌜ length (now pool) ≤ 1000 ⌝ }
-    ensures { λ r. ⌜ Offered (now (struck .entry)) (now (list .entry)) (now (pool .entry)) 0 (now (pool .exit)) r ⌝ }
+fn pour(list: &[Set], struck: &[Set], pool: &mut [Set], count: usize) -> usize
+    requires { ⌜ Roomy (now pool) count ⌝ }
+    ensures { λ r. ⌜ Offered (now (struck .entry)) (now (list .entry)) (now (pool .entry)) count (now (pool .exit)) r ⌝ }
 {
-    let mut count = 0;
+    let mut now = count;
     let mut i = 0;
     while i < list.len() {
-        count = admit(struck, pool, count, list[i]);
+        now = admit(struck, pool, now, list[i]);
         i += 1;
     }
-    count
+    now
 }
 
 // Each join of one member of the label of each support left offered to the pool. What is joined is cut where no join of it can go in.
@@ -279,13 +291,13 @@ fn gather<'a>(
     pool: &mut [Set],
     count: usize,
 ) -> usize
-    requires { ⌜ Layout (now members) (now sizes) × Ranged (now supports) × (length (now pool) ≤ 1000) ⌝ }
+    requires { ⌜ Layout (now members) (now sizes) × Ranged (now supports) × Roomy (now pool) count ⌝ }
     ensures { λ r. ⌜ Offered (now (struck .entry)) (joins (lying (now (members .entry)) (now (sizes .entry))) joined (now (supports .entry))) (now (pool .entry)) count (now (pool .exit)) r ⌝ }
 {
-    if pool.len() < count {
-        return count;
-    }
-    if !spared(struck, &pool[..count], joined) {
+    let room = pool.len();
+    let used = pool::used(room, count);
+    let full = room + room < count;
+    if !passes(struck, &pool[..used], full, joined) {
         return count;
     }
     if supports.len() < 1 {
@@ -322,7 +334,7 @@ fn joined<'a>(
     pool: &mut [Set],
     count: usize,
 ) -> usize
-    requires { ⌜ Layout (now members) (now sizes) × Few entry × Ranged (meaning entry .supports) × (length (now pool) ≤ 1000) ⌝ }
+    requires { ⌜ Layout (now members) (now sizes) × Few entry × Ranged (meaning entry .supports) × Roomy (now pool) count ⌝ }
     ensures { λ r. ⌜ Offered (now (struck .entry)) (joinsFor (lying (now (members .entry)) (now (sizes .entry))) n (meaning entry ∷ [])) (now (pool .entry)) count (now (pool .exit)) r ⌝ }
 {
     if entry.consequent != n {
@@ -345,7 +357,7 @@ fn pooled<'a>(
     pool: &mut [Set],
     count: usize,
 ) -> usize
-    requires { ⌜ Layout (now members) (now sizes) × Joinable (between (held .entries) lo hi) × (hi ≤ 256) × (length (now pool) ≤ 1000) ⌝ }
+    requires { ⌜ Layout (now members) (now sizes) × Joinable (between (held .entries) lo hi) × (hi ≤ 256) × Roomy (now pool) count ⌝ }
     ensures { λ r. ⌜ Offered (now (struck .entry)) (joinsFor (lying (now (members .entry)) (now (sizes .entry))) n (map meaning (between (held .entries) lo hi))) (now (pool .entry)) count (now (pool .exit)) r ⌝ }
 {
     let mut now = count;
@@ -377,7 +389,7 @@ fn drawn(pool: &[Set], limit: usize) -> Built
     }
 }
 
-// The list of n at the next stage, from the labels as they lie, the old list of n and the sets struck: in one walk over the candidates where the pool has room.
+// The list of n at the next stage, from the labels as they lie, the old list of n and the sets struck. Where a set went out for want of room, another walk over the candidates begins with what the pool holds.
 pub fn build<'a>(
     held: Held,
     lo: usize,
@@ -393,10 +405,16 @@ pub fn build<'a>(
     ensures { λ r. ⌜ Build (between (held .entries) lo hi) n (now (members .entry)) (now (sizes .entry)) (now (old .entry)) (now (struck .entry)) limit r ⌝ }
 {
     let mut pool = [0u32; 96];
-    let seen = pour(old, struck, &mut pool);
-    let count = pooled(held, lo, hi, n, members, sizes, struck, &mut pool, seen);
-    if 96 < count {
-        return plain(held, lo, hi, n, members, sizes, old, struck, limit);
+    let mut count = 0;
+    let mut turn = 0;
+    while turn <= limit {
+        let seen = pour(old, struck, &mut pool, count);
+        let all = pooled(held, lo, hi, n, members, sizes, struck, &mut pool, seen);
+        if all <= 96 {
+            return drawn(&pool[..all], limit);
+        }
+        count = all - 96 - 1;
+        turn += 1;
     }
-    drawn(&pool[..count], limit)
+    plain(held, lo, hi, n, members, sizes, old, struck, limit)
 }

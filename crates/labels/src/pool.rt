@@ -1,11 +1,13 @@
-// The pool: the smallest sets seen so far, in listing order, in its first so many places.
+// The pool: the smallest sets seen so far, in listing order, in its first so many places; where there is no room the last goes out.
 use sets::Set;
+ghost use mathlib.Core.Bool.{true};
+ghost use mathlib.Core.List.{[], _++_, _∷_};
 ghost use mathlib.Core.Path.{_≡_};
-ghost use Prim.Native.Nat.{_+_, _<_, _≤_};
+ghost use Prim.Native.Nat.{_+_, _≤_};
 ghost use lib.ListN.{length, take};
 ghost use Rattle.theory.specs.Lists.{choose};
 ghost use Rattle.theory.specs.Sets.{before, within};
-ghost use Rattle.labels.specs.Pool.{Entered, placed, purged};
+ghost use Rattle.labels.specs.Pool.{Entered, Roomy, closed, inUse, placed, purged};
 
 // One place more where x does not contain e.
 fn counted(kept: usize, e: Set, x: Set) -> usize
@@ -45,10 +47,10 @@ fn purge(pool: &mut [Set], count: usize, e: Set) -> usize
     kept
 }
 
-// e put among the first so many sets, in listing order.
-fn place(pool: &mut [Set], count: usize, e: Set)
-    requires { ⌜ count < length (now pool) ⌝ }
-    ensures { λ _. ⌜ take (count + 1) (now (pool .exit)) ≡ placed e (take count (now (pool .entry))) ⌝ }
+// e put among the first so many sets, in listing order; the last of all is left over.
+fn squeeze(pool: &mut [Set], count: usize, e: Set) -> Set
+    requires { ⌜ count ≤ length (now pool) ⌝ }
+    ensures { λ r. ⌜ take count (now (pool .exit)) ++ r ∷ [] ≡ placed e (take count (now (pool .entry))) ⌝ }
 {
     let mut carried = e;
     let mut i = 0;
@@ -58,18 +60,51 @@ fn place(pool: &mut [Set], count: usize, e: Set)
         carried = later(carried, x);
         i += 1;
     }
-    pool[count] = carried;
+    carried
 }
 
-// e taken in, and those that contain it put out; the count is one above the room where there is no place.
+// How many sets a count tells of; a count above the room tells too that one went out.
+pub(crate) fn used(room: usize, count: usize) -> usize
+    ensures { λ r. ⌜ r ≡ inUse room count ⌝ }
+{
+    if room < count {
+        count - room - 1
+    } else {
+        count
+    }
+}
+
+// Whether the pool is full and e does not stand before its last set.
+pub(crate) fn shut(pool: &[Set], full: bool, e: Set) -> bool
+    requires { ⌜ (full ≡ true → 1 ≤ length (now pool)) ⌝ }
+    ensures { λ r. ⌜ r ≡ closed full (now (pool .entry)) e ⌝ }
+{
+    if !full {
+        return false;
+    }
+    if sets::before(e, pool[pool.len() - 1]) {
+        false
+    } else {
+        true
+    }
+}
+
+// e taken in, and those that contain it put out; where there is no room the last goes out.
 pub(crate) fn enter(pool: &mut [Set], count: usize, e: Set) -> usize
-    requires { ⌜ (count ≤ length (now pool)) × (length (now pool) ≤ 1000) ⌝ }
+    requires { ⌜ Roomy (now pool) count ⌝ }
     ensures { λ r. ⌜ Entered (now (pool .entry)) count e (now (pool .exit)) r ⌝ }
 {
-    let kept = purge(pool, count, e);
-    if pool.len() <= kept {
-        return pool.len() + 1;
+    let room = pool.len();
+    let most = used(room, count);
+    let kept = purge(pool, most, e);
+    let last = squeeze(pool, kept, e);
+    if room <= kept {
+        return room + room + 1;
     }
-    place(pool, kept, e);
-    kept + 1
+    pool[kept] = last;
+    if room < count {
+        room + kept + 2
+    } else {
+        kept + 1
+    }
 }

@@ -1,32 +1,33 @@
 -- `labels::admit` meets its contract. Assumes nothing.
 use mathlib.Core.Path.{sym}
+use native.Mathlib.Omega.{arith}
 use lib.Seq.{length-take-le}
-use Rattle.labels.proofs.Offering.{offer-in, offer-out, offered-over}
+use Rattle.labels.proofs.Offering.{offer-in, offer-out}
+use Rattle.labels.proofs.Pools.{full-some}
 use borrow.Author.Needs.{needs}
 use Rattle.labels.proofs.admit.Statement.{statement}
 use Rattle.labels.proofs.admit.Tie as tie
-use Rattle.labels.proofs.admit.Reads as reads
-use Rattle.labels.proofs.admit.Lts as lts
-use Rattle.labels.proofs.pool.enter.Reads as enter-reads
-use Rattle.labels.proofs.spared.Reads as spared-reads
 
-returns : tie.Need-returns
-returns c = offered-over _ _ _ _ (c .if1 .taken)
+used-requires : tie.Need-used-requires
+used-requires c κs = search needs
 
-slice-reshare-prefix-spared : tie.Need-slice-reshare-prefix-spared
-slice-reshare-prefix-spared c = search needs
+add-full : tie.Need-add-full
+add-full c = search needs
 
-slice-aggregate-spared : tie.Need-slice-aggregate-spared
-slice-aggregate-spared c = sym (length-take-le (c .before .before .before .before .args .count) (c .before .before .before .before .args .pool .now) (c .before .if1 .left))
+slice-reshare-prefix-passes : tie.Need-slice-reshare-prefix-passes
+slice-reshare-prefix-passes c = search needs
 
-spared-requires : tie.Need-spared-requires
-spared-requires c κs = search needs
+slice-aggregate-passes : tie.Need-slice-aggregate-passes
+slice-aggregate-passes c = sym (length-take-le (c .before .used .result) (c .before .before .before .before .args .pool .now) (omega (arith, c .before .used .ensures, c .before .before .before .before .pre .fits)))
+
+passes-requires : tie.Need-passes-requires
+passes-requires c κs = full-some (c .before .before .before .before .args .pool .now) _ _ (c .before .before .before .before .pre) (c .before .used .ensures)
 
 same-length : tie.Need-same-length
 same-length c = search needs
 
-returns-2 : tie.Need-returns-2
-returns-2 c = offer-out _ _ (c .before .before .before .before .before .before .args .pool .now) (c .before .before .before .before .before .before .args .count) (c .before .before .before .if1 .left) _ (c .before .spared .ensures) (c .if2 .taken)
+returns : tie.Need-returns
+returns c = offer-out _ _ (c .before .before .before .before .before .before .args .pool .now) (c .before .before .before .before .before .before .args .count) (c .before .before .before .before .before .before .pre .fits) _ (c .before .before .before .used .ensures) _ (c .before .passes .ensures) (c .if1 .taken)
 
 enter-requires : tie.Need-enter-requires
 enter-requires c κs = search needs
@@ -34,19 +35,20 @@ enter-requires c κs = search needs
 same-length-2 : tie.Need-same-length-2
 same-length-2 c = search needs
 
-returns-3 : tie.Need-returns-3
-returns-3 c = offer-in _ _ (c .before .before .before .before .before .before .before .before .before .before .args .pool .now) (c .before .before .before .before .before .before .before .before .before .before .args .count) (c .before .before .before .before .before .before .before .if1 .left) _ (c .before .before .before .before .before .spared .ensures) (c .before .before .before .before .if2 .left) _ _ (c .before .before .enter .ensures)
+returns-2 : tie.Need-returns-2
+returns-2 c = offer-in _ _ (c .before .before .before .before .before .before .before .before .before .before .args .pool .now) (c .before .before .before .before .before .before .before .before .before .before .args .count) (c .before .before .before .before .before .before .before .before .before .before .pre .fits) _ (c .before .before .before .before .before .before .before .used .ensures) _ (c .before .before .before .before .before .passes .ensures) (c .before .before .before .before .if1 .left) _ _ (c .before .before .enter .ensures)
 
 pub admit-spec : {M : Type 1} → statement M
 admit-spec =
     tie.close
     (tie.spec
-    returns
-    slice-reshare-prefix-spared
-    slice-aggregate-spared
-    spared-requires
+    used-requires
+    add-full
+    slice-reshare-prefix-passes
+    slice-aggregate-passes
+    passes-requires
     same-length
-    returns-2
+    returns
     enter-requires
     same-length-2
-    returns-3)
+    returns-2)

@@ -5,8 +5,6 @@ use borrow.Author.Needs.{needs}
 use Rattle.labels.proofs.Builds.{Drawn, drawn-all, drawn-full, drawn-more, drawn-none}
 use Rattle.labels.proofs.drawn.Statement.{statement}
 use Rattle.labels.proofs.drawn.Tie as tie
-use Rattle.labels.proofs.drawn.Reads as reads
-use Rattle.labels.proofs.drawn.Lts as lts
 
 abbrev Inv-loop : tie.InvT-loop
 Inv-loop pool limit sets₀ i₀ sets i = Drawn pool limit sets i

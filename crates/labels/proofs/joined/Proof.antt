@@ -10,12 +10,9 @@ use Rattle.rules.specs.Held.{meaning}
 use borrow.Author.Needs.{needs}
 use Rattle.labels.proofs.joined.Statement.{statement}
 use Rattle.labels.proofs.joined.Tie as tie
-use Rattle.labels.proofs.joined.Reads as reads
-use Rattle.labels.proofs.joined.Lts as lts
-use Rattle.labels.proofs.gather.Reads as gather-reads
 
 returns : tie.Need-returns
-returns c = none-offered _ _ (c .before .before .before .before .before .before .args .pool .now) (c .before .before .before .before .before .before .args .count) (joins-not (lying (c .before .before .before .before .before .before .args .members .now) (c .before .before .before .before .before .before .args .sizes .now)) _ (meaning (c .before .before .before .before .before .before .args .entry)) (c .if1 .taken))
+returns c = none-offered _ _ (c .before .before .before .before .before .before .args .pool .now) (c .before .before .before .before .before .before .args .count) (c .before .before .before .before .before .before .pre .3 .fits) (joins-not (lying (c .before .before .before .before .before .before .args .members .now) (c .before .before .before .before .before .before .args .sizes .now)) _ (meaning (c .before .before .before .before .before .before .args .entry)) (c .if1 .taken))
 
 cast-most : tie.Need-cast-most
 cast-most c = search needs

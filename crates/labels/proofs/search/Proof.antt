@@ -14,9 +14,6 @@ use Rattle.rules.specs.Held.{meaning}
 use Rattle.theory.specs.Step.{best, free, joinsFor}
 use Rattle.labels.proofs.search.Statement.{statement}
 use Rattle.labels.proofs.search.Tie as tie
-use Rattle.labels.proofs.search.Reads as reads
-use Rattle.labels.proofs.search.Lts as lts
-use Rattle.labels.proofs.tried.Reads as tried-reads
 
 abbrev Inv-loop : tie.InvT-loop
 Inv-loop lo hi n members sizes struck found held now₀ j₀ now j = (lo ≤ j) × (best (free struck found) (picked now₀) (joinsFor (lying members sizes) n (map meaning (between (held .entries) lo hi))) ≡ best (free struck found) (picked now) (joinsFor (lying members sizes) n (map meaning (between (held .entries) j hi))))

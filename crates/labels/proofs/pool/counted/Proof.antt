@@ -1,10 +1,8 @@
+-- `labels::pool::counted` meets its contract. Assumes nothing.
 use borrow.Author.Needs.{needs}
 use Rattle.labels.proofs.Pools.{choose-no, choose-yes}
 use Rattle.labels.proofs.pool.counted.Statement.{statement}
 use Rattle.labels.proofs.pool.counted.Tie as tie
-use Rattle.labels.proofs.pool.counted.Reads as reads
-use Rattle.labels.proofs.pool.counted.Lts as lts
-use Rattle.sets.proofs.within.Reads as within-reads
 
 within-requires : tie.Need-within-requires
 within-requires c κs = search needs

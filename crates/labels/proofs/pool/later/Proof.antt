@@ -1,10 +1,8 @@
+-- `labels::pool::later` meets its contract. Assumes nothing.
 use borrow.Author.Needs.{needs}
 use Rattle.labels.proofs.Pools.{choose-no, choose-yes}
 use Rattle.labels.proofs.pool.later.Statement.{statement}
 use Rattle.labels.proofs.pool.later.Tie as tie
-use Rattle.labels.proofs.pool.later.Reads as reads
-use Rattle.labels.proofs.pool.later.Lts as lts
-use Rattle.sets.proofs.before.Reads as before-reads
 
 before-requires : tie.Need-before-requires
 before-requires c κs = search needs

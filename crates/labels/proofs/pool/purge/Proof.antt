@@ -1,17 +1,14 @@
 -- `labels::pool::purge` meets its contract. Assumes nothing.
 use mathlib.Core.List.{_++_}
-use mathlib.Core.Path.{_∙_, _≡_, ap, refl, sym}
+use mathlib.Core.Path.{_∙_, _≡_, ap, refl}
 use Prim.Native.Nat.{_+_, _-_, _≤_}
 use native.Mathlib.Omega.{arith}
 use lib.ListN.{drop, length, length-set, take}
 use borrow.Author.Needs.{needs}
-use Rattle.labels.specs.Pool.{placed, purged}
+use Rattle.labels.specs.Pool.{purged}
 use Rattle.labels.proofs.Pools.{purge-end, purge-low, purge-turn, rest-all}
 use Rattle.labels.proofs.pool.purge.Statement.{statement}
 use Rattle.labels.proofs.pool.purge.Tie as tie
-use Rattle.labels.proofs.pool.purge.Reads as reads
-use Rattle.labels.proofs.pool.purge.Lts as lts
-use Rattle.labels.proofs.pool.counted.Reads as counted-reads
 
 abbrev Inv-loop : tie.InvT-loop
 Inv-loop pool₀ count e kept₀ i₀ pool kept i = (i ≤ count) × (kept ≤ i) × (length pool ≡ length pool₀) × (purged e (take count pool₀) ≡ take kept pool ++ purged e (take (count - i) (drop i pool)))

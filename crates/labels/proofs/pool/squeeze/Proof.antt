@@ -1,18 +1,14 @@
--- `labels::pool::place` meets its contract. Assumes nothing.
+-- `labels::pool::squeeze` meets its contract. Assumes nothing.
 use mathlib.Core.List.{_++_}
-use mathlib.Core.Path.{_∙_, _≡_, ap, refl, sym}
+use mathlib.Core.Path.{_∙_, _≡_, ap, refl}
 use Prim.Native.Nat.{_+_, _-_, _≤_}
 use native.Mathlib.Omega.{arith}
 use lib.ListN.{drop, length, length-set, take}
 use borrow.Author.Needs.{needs}
-use Rattle.labels.specs.Pool.{placed, purged}
-use Rattle.labels.proofs.Pools.{place-end, place-turn, rest-all}
-use Rattle.labels.proofs.pool.place.Statement.{statement}
-use Rattle.labels.proofs.pool.place.Tie as tie
-use Rattle.labels.proofs.pool.place.Reads as reads
-use Rattle.labels.proofs.pool.place.Lts as lts
-use Rattle.labels.proofs.pool.later.Reads as later-reads
-use Rattle.labels.proofs.pool.sooner.Reads as sooner-reads
+use Rattle.labels.specs.Pool.{placed}
+use Rattle.labels.proofs.Pools.{rest-all, squeeze-end, squeeze-turn}
+use Rattle.labels.proofs.pool.squeeze.Statement.{statement}
+use Rattle.labels.proofs.pool.squeeze.Tie as tie
 
 abbrev Inv-loop : tie.InvT-loop
 Inv-loop pool₀ count e carried₀ i₀ pool carried i = (i ≤ count) × (length pool ≡ length pool₀) × (placed e (take count pool₀) ≡ take i pool ++ placed carried (take (count - i) (drop i pool)))
@@ -51,25 +47,19 @@ loop-again : tie.Need-loop-again Inv-loop μ-loop
 loop-again c =
     let s = c .before .before .before .before .before .before in
     let l = c .before .before .before .before .loop in
-    (omega arith, length-set (l .pool) (l .i) _ ∙ l .inv .1, place-turn _ (l .pool) (s .args .count) (l .carried) (l .i) (omega (arith, s .pre, l .inv .1)) (l .inv .2) (c .before .before .before .loop-test .taken) _ (c .before .sooner .ensures) _ (c .later .ensures))
-
-mul-pool-2 : tie.Need-mul-pool-2 Inv-loop μ-loop
-mul-pool-2 c = search needs
-
-slice-write-pool-2 : tie.Need-slice-write-pool-2 Inv-loop μ-loop
-slice-write-pool-2 c = omega arith
+    (omega arith, length-set (l .pool) (l .i) _ ∙ l .inv .1, squeeze-turn _ (l .pool) (s .args .count) (l .carried) (l .i) (omega (arith, s .pre, l .inv .1)) (l .inv .2) (c .before .before .before .loop-test .taken) _ (c .before .sooner .ensures) _ (c .later .ensures))
 
 same-length : tie.Need-same-length Inv-loop μ-loop
-same-length c = length-set (c .before .loop .pool) _ _ ∙ c .before .loop .inv .1
+same-length c = c .before .loop .inv .1
 
 returns : tie.Need-returns Inv-loop μ-loop
 returns c =
     let s = c .before .before .before in
     let l = c .before .loop in
-    place-end _ (l .pool) (s .args .count) (l .carried) (l .i) (omega (arith, s .pre, l .inv .1)) (l .inv .2) (l .inv .0) (c .loop-test .left)
+    squeeze-end _ (l .pool) (s .args .count) (l .carried) (l .i) (omega (arith, s .pre, l .inv .1)) (l .inv .2) (l .inv .0) (c .loop-test .left)
 
-pub place-spec : {M : Type 1} → statement M
-place-spec =
+pub squeeze-spec : {M : Type 1} → statement M
+squeeze-spec =
     tie.close
     (tie.spec
     Inv-loop
@@ -84,7 +74,5 @@ place-spec =
     add-i
     loop-less
     loop-again
-    mul-pool-2
-    slice-write-pool-2
     same-length
     returns)
