@@ -300,7 +300,8 @@ fn gather<'a>(
     if !passes(struck, &pool[..used], full, joined) {
         return count;
     }
-    if supports.len() < 1 {
+    let most = supports.len();
+    if most < 1 {
         return pool::enter(pool, count, joined);
     }
     let i = supports[0] as usize - 1;

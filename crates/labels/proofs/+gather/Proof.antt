@@ -34,11 +34,11 @@ abbrev gather-below : ℕ → In 4 gather-kinds.ps
 gather-below t = and 4 gather-kinds.ps (falls 4 gather-kinds.ps _<_ μ-gather t) gather.Pre
 
 abbrev gather-Inv-loop : gather-lts.InvT-loop
-gather-Inv-loop members sizes supports struck joined pool₀ count room used full i size from left now₀ k₀ pool now k =
+gather-Inv-loop members sizes supports struck joined pool₀ count room used full most i size from left now₀ k₀ pool now k =
     (k ≤ size) × Left struck (joins (lying members sizes) joined supports) pool₀ count (each (λ F. joins (lying members sizes) (union joined F) (drop 1 supports)) (drop k (lying members sizes (getD supports 0 0)))) pool now
 
 abbrev gather-μ-loop : gather-lts.MeasureT-loop
-gather-μ-loop members sizes supports struck joined pool₀ count room used full i size from left now₀ k₀ pool now k = size - k
+gather-μ-loop members sizes supports struck joined pool₀ count room used full most i size from left now₀ k₀ pool now k = size - k
 
 abbrev claims : ℕ → gather-lts.Claims
 claims t = (used-reads.Asked, used-reads.Learnt, passes-reads.Asked, passes-reads.Learnt, enter-reads.Asked, enter-reads.Learnt, union-reads.Asked, union-reads.Learnt, gather-below t, gather.Post)
