@@ -2,5 +2,6 @@ pub mod Tables
 pub mod Writing
 pub mod Stages
 pub mod Nexts
+pub mod Keeps
 pub mod Same
 pub mod Walk

@@ -54,24 +54,28 @@ module _ (limit : ℕ) (X : List ℕ) (r : Built) (is : r ≡ builtOf limit (tak
       let s : length X ≤ limit = built-short h in
       ap (λ (b : Built). b .sets) is ∙ ap (λ (l : List ℕ). padded 0 32 (take limit l)) (take-all (limit + 1) X (omega arith)) ∙ ap (padded 0 32) (take-all limit X s)
 
--- ---- the nogoods of the next stage in their places, and no labels yet
-module _ (d : ℕ) (s : Stage) (l : Lists) (is : l ≡ listsOf d (firstLabels 0 s)) (few : l .count ≤ 32) where
-  nogoods-count : l .count ≡ length (s .nogoods)
-  unfolding listsOf
-  nogoods-count = ap (λ (x : Lists). x .count) is
+-- ---- the nogoods that are built, where they are not over
+pub built-whole : (X : List ℕ) (r : Built) → r ≡ builtOf 32 (take (32 + 1) X) → r .count ≤ 32 → r ≡ builtOf 32 X
+unfolding builtOf
+built-whole X r is h = is ∙ ap (builtOf 32) (take-all 33 X (omega (arith, built-short 32 X r is h)))
 
-  nogoods-padded : l .nogoods ≡ padded 0 32 (s .nogoods)
-  unfolding listsOf
-  nogoods-padded = ap (λ (x : Lists). x .nogoods) is
+module _ (X : List ℕ) (b : Built) (is : b ≡ builtOf 32 X) (few : b .count ≤ 32) where
+  whole-count : b .count ≡ length X
+  unfolding builtOf
+  whole-count = ap (λ (x : Built). x .count) is
 
-  pub struck-few : length (s .nogoods) ≤ 32
-  struck-few = omega (arith, nogoods-count)
+  pub whole-few : length X ≤ 32
+  whole-few = omega (arith, whole-count)
 
-  pub struck-long : length (l .nogoods) ≡ 32
-  struck-long = ap length nogoods-padded ∙ length-padded 0 32 (s .nogoods)
+  whole-sets : b .sets ≡ padded 0 32 X
+  unfolding builtOf
+  whole-sets = ap (λ (x : Built). x .sets) is ∙ ap (padded 0 32) (take-all 32 X whole-few)
 
-  pub struck-is : take (l .count) (l .nogoods) ≡ s .nogoods
-  struck-is = ap₂ (λ (n : ℕ) (x : List ℕ). take n x) nogoods-count nogoods-padded ∙ unpadded 0 32 (s .nogoods) struck-few
+  pub whole-long : length (b .sets) ≡ 32
+  whole-long = ap length whole-sets ∙ length-padded 0 32 X
+
+  pub whole-taken : take (b .count) (b .sets) ≡ X
+  whole-taken = ap₂ (λ (n : ℕ) (l : List ℕ). take n l) whole-count whole-sets ∙ unpadded 0 32 X whole-few
 
 -- ---- the lists that are built
 module _ (h : Held) (l : Lists) (re : Reached h l) where
@@ -146,12 +150,11 @@ module _ (k : ℕ) (s : Stage) where
 
 -- ---- the labels one after the other
 
-pub labels-none : (d : ℕ) (s : Stage) (b : Built) → b ≡ builtOf 32 (take (32 + 1) (s .nogoods)) → b .count ≤ 32
+pub labels-none : (d : ℕ) (s : Stage) (b : Built) → b ≡ builtOf 32 (s .nogoods) → b .count ≤ 32
     → _≡_ {A = Lists} (record { sizes = replicate 128 0; members = replicate 1536 0; count = b .count; nogoods = b .sets; depth = d }) (listsOf d (firstLabels 0 s))
 unfolding listsOf
 labels-none d s b e few =
-    ap₂ (λ (z m : List ℕ). filled z m (b .count) (b .sets)) (replicate-table 128 0) (replicate-table 1536 0)
-    ∙ ap₂ (filled (table 128 (λ i. 0)) (table 1536 (λ i. 0))) (built-length 32 (s .nogoods) b e few) (built-sets 32 (s .nogoods) b e few)
+    ap₂ (λ (z m : List ℕ). filled z m (b .count) (b .sets)) (replicate-table 128 0) (replicate-table 1536 0) ∙ ap₂ (filled (table 128 (λ i. 0)) (table 1536 (λ i. 0))) (whole-count (s .nogoods) b e few) (whole-sets (s .nogoods) b e few)
   where
     filled : List ℕ → List ℕ → ℕ → List ℕ → Lists
     filled z m c g = record { sizes = z; members = m; count = c; nogoods = g; depth = d }

@@ -166,7 +166,7 @@ module _ (h : Held) (l : Lists) (re : Reached h l) (v : Verdict) (so : v ≡ fro
     lists-is : r .lists ≡ listsOf (l .depth + 1) (stageBy h (l .depth + 1))
     lists-is = step-lists (l .depth + 1) (stageBy h (l .depth + 1)) r made n number z
 
-    depth-is : r .lists .depth ≡ l .depth + 1
+    pub depth-is : r .lists .depth ≡ l .depth + 1
     unfolding listsOf
     depth-is = ap (λ (x : Lists). x .depth) lists-is
 

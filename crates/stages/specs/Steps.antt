@@ -1,11 +1,12 @@
 -- One stage after the other, as the code hands them on. Assumes nothing.
 use mathlib.Core.Bool.{Bool, _&&_, false, true}
+use mathlib.Core.List.{List, List·Memᴰ as Mem, []}
 use mathlib.Core.Path.{_≡_}
-use Prim.Native.Nat.{_*_, _+_, _≤_, suc, zero, ℕ}
+use Prim.Native.Nat.{_*_, _+_, _<_, _≤_, suc, zero, ℕ}
 use lib.Dec.{eqb}
-use lib.ListN.{set, take}
+use lib.ListN.{getD, set, take}
 use lib.Seq.{paste}
-use Rattle.labels.specs.Layout.{Joinable}
+use Rattle.labels.specs.Layout.{Joinable, lying}
 use Rattle.labels.specs.declared.Built.{Built}
 use Rattle.replies.specs.declared.Reply.the-variants.{Done, Label, Nogoods}
 use Rattle.rules.specs.Held.{saidBy}
@@ -14,6 +15,9 @@ use Rattle.stages.specs.Judged.{refusal}
 use Rattle.stages.specs.Lists.{listsOf}
 use Rattle.stages.specs.declared.Judged.{Judged}
 use Rattle.stages.specs.declared.Lists.{Lists}
+use Rattle.theory.specs.Lists.{allOf}
+use Rattle.theory.specs.Stages.{Justification}
+use Rattle.theory.specs.Step.{labelIn}
 use Rattle.theory.specs.Judge.{Stage, labelLong, limits, nogoodsLong, sameSets, stageAt}
 
 -- stage k of the justifications held
@@ -53,3 +57,25 @@ withLabel l i b = record { sizes = set (l .sizes) i (b .count); members = paste 
 -- all labels and nogoods are the same
 unfoldable pub sameLists : Lists → Lists → Bool
 sameLists l m = eqb (l .count) (m .count) && (sameSets (l .sizes) (m .sizes) && (sameSets (l .members) (m .members) && sameSets (l .nogoods) (m .nogoods)))
+
+-- the label of n is the same in both, as they lie
+abbrev pub sameLabel : List ℕ → List ℕ → List ℕ → List ℕ → ℕ → Bool
+sameLabel members sizes later counts n = sameSets (lying members sizes n) (lying later counts n)
+
+-- where the mark of n is 0, every support of its justifications passes the test
+abbrev pub Untouched : (ℕ → Bool) → List Justification → List ℕ → Type 0
+Untouched same J marks = (n : ℕ) → n ≤ 128 → getD marks n 0 ≡ 0 → (r : Justification) → Mem r J → r .consequent ≡ n → allOf same (r .supports) ≡ true
+
+-- no label that the list of n is made of changed in the step to stage k
+pub record Steady (h : Held) (k n : ℕ) : Type 0 where
+  pub before : ℕ
+  pub next : k ≡ suc before
+  pub same : (r : Justification) → Mem r (saidBy h) → r .consequent ≡ n → (s : ℕ) → Mem s (r .supports) → labelIn (stageBy h (suc before) .labels) s ≡ labelIn (stageBy h before .labels) s
+
+-- each list without a mark is so
+abbrev pub Fresh : Held → ℕ → List ℕ → Type 0
+Fresh h k stale = (n : ℕ) → n ≤ 128 → getD stale n 0 ≡ 0 → Steady h k n
+
+-- each label without a mark is the same at the next stage
+abbrev pub Lasting : Held → ℕ → List ℕ → Type 0
+Lasting h k stale = (i : ℕ) → i < h .assumptions + h .claims → getD stale (i + 1) 0 ≡ 0 → getD (stageBy h (k + 1) .labels) i [] ≡ getD (stageBy h k .labels) i []

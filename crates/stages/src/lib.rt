@@ -1,14 +1,20 @@
 // The lists of a stage, from one stage to the next, and the walk to the depth.
 use labels::Built;
 use replies::Reply;
+use rules::Entry;
 use rules::Held;
+ghost use mathlib.Core.Bool.{_&&_};
 ghost use mathlib.Core.Path.{_≡_};
 ghost use Prim.Native.Nat.{_+_, _<_, _≤_};
-ghost use lib.ListN.{length};
+ghost use lib.Dec.{eqb};
+ghost use lib.ListN.{length, replicate};
+ghost use Rattle.theory.specs.Lists.{allOf, choose};
+ghost use Rattle.rules.specs.Held.{meaning, saidBy};
+ghost use Rattle.labels.specs.Layout.{Few, Joinable, Layout, Ranged};
 ghost use Rattle.theory.specs.Judge.{limits, course, sameSets};
+ghost use Rattle.labels.specs.Promised.{builtOf};
 ghost use Rattle.stages.specs.Judged.{Judge, Judgeable, Start, judgedBy, refusal};
-ghost use Rattle.stages.specs.Lists.{listsOf};
-ghost use Rattle.stages.specs.Steps.{Reached, firstLabels, fitted, sameLists, stageBy, withLabel};
+ghost use Rattle.stages.specs.Steps.{Fresh, Lasting, Reached, Untouched, fitted, sameLabel, sameLists, stageBy, withLabel};
 
 // The labels and nogoods of a stage: label n at its own twelve places 12 (n - 1) up, its size beside it; unused places zero.
 pub struct Lists {
@@ -81,14 +87,15 @@ impl Lists {
     }
 
     // The lists of the next stage, or the refusal: its nogoods first, then every label with those nogoods.
-    fn next(self, held: Held) -> Judged
-        requires { ⌜ Reached held self ⌝ }
+    fn next(self, held: Held, stale: [u8; 129]) -> Judged
+        requires { ⌜ Reached held self × Fresh held (self .depth) stale ⌝ }
         ensures { λ r. ⌜ r ≡ fitted (self .depth + 1) (stageBy held (self .depth + 1)) ⌝ }
     {
         let count = self.count;
         let nogoods = self.nogoods;
         let none = [0u32; 1];
-        let built = labels::build(
+        let due = stale[0] != 0;
+        let later = labels::renew(
             held,
             0,
             &self.members,
@@ -96,48 +103,49 @@ impl Lists {
             &nogoods[..count],
             &none[..0],
             32,
+            due,
         );
-        if 32 < built.count {
+        if 32 < later.count {
             return refused(Reply::Nogoods);
         }
-        let sets = built.sets;
-        let depth = self.depth + 1;
-        let later = Lists {
-            sizes: [0u8; 128],
-            members: [0u32; 1536],
-            count: built.count,
-            nogoods: sets,
-            depth,
-        };
-        self.labelled(held, later)
+        let all = outdated(count, nogoods, later, stale);
+        self.relabelled(held, later, all)
     }
 
-    // The lists of the next stage, its labels struck by its nogoods, or the refusal; of those handed in only the nogoods stand yet.
-    fn labelled(self, held: Held, mut later: Lists) -> Judged
-        requires { ⌜ Reached held self × (later ≡ listsOf (self .depth + 1) (firstLabels 0 (stageBy held (self .depth + 1)))) × (later .count ≤ 32) ⌝ }
+    // The labels of the next stage, struck by its nogoods.
+    fn relabelled(self, held: Held, nogoods: Built, stale: [u8; 129]) -> Judged
+        requires { ⌜ Reached held self × (nogoods ≡ builtOf 32 (stageBy held (self .depth + 1) .nogoods)) × (nogoods .count ≤ 32) × Lasting held (self .depth) stale ⌝ }
         ensures { λ r. ⌜ r ≡ fitted (self .depth + 1) (stageBy held (self .depth + 1)) ⌝ }
     {
         let old = self.members;
-        let count = later.count;
-        let struck = later.nogoods;
+        let count = nogoods.count;
+        let struck = nogoods.sets;
+        let mut later = Lists {
+            sizes: [0u8; 128],
+            members: [0u32; 1536],
+            count,
+            nogoods: struck,
+            depth: self.depth + 1,
+        };
         let top = held.assumptions + held.claims;
         let mut i = 0u8;
         while i < top {
-            let n = i + 1;
             let at = i as usize;
             let from = 12 * at;
             let end = from + self.sizes[at] as usize;
-            let label = labels::build(
+            let due = stale[at + 1] != 0;
+            let label = labels::renew(
                 held,
-                n,
+                i + 1,
                 &self.members,
                 &self.sizes,
                 &old[from..end],
                 &struck[..count],
                 12,
+                due,
             );
             if 12 < label.count {
-                return refused(Reply::Label(n));
+                return refused(Reply::Label(i + 1));
             }
             later = later.with(at, label);
             i += 1;
@@ -163,6 +171,20 @@ impl Lists {
         }
         false
     }
+}
+
+// What is stale once the nogoods are known: all where they changed.
+fn outdated(count: usize, nogoods: [u32; 32], later: Built, stale: [u8; 129]) -> [u8; 129]
+    ensures { λ r. ⌜ r ≡ choose (eqb count (later .count) && sameSets nogoods (later .sets)) stale (replicate 129 1) ⌝ }
+{
+    if count != later.count {
+        return [1u8; 129];
+    }
+    let sets = later.sets;
+    if same_sets(&nogoods, &sets) {
+        return stale;
+    }
+    [1u8; 129]
 }
 
 // Whether two lists of sizes of one length are the same.
@@ -195,14 +217,101 @@ fn same_sets(a: &[u32], b: &[u32]) -> bool
     true
 }
 
+// Whether the label of n is the same in both.
+fn same_label<'a>(
+    n: u8,
+    members: &'a [u32],
+    sizes: &'a [u8],
+    later: &'a [u32],
+    counts: &'a [u8],
+) -> bool
+    requires { ⌜ (1 ≤ n) × (n ≤ 128) × Layout (now members) (now sizes) × Layout (now later) (now counts) ⌝ }
+    ensures { λ r. ⌜ r ≡ sameLabel (now (members .entry)) (now (sizes .entry)) (now (later .entry)) (now (counts .entry)) n ⌝ }
+{
+    let i = n as usize - 1;
+    if sizes[i] != counts[i] {
+        return false;
+    }
+    let size = sizes[i] as usize;
+    let from = 12 * i;
+    let end = from + size;
+    same_sets(&members[from..end], &later[from..end])
+}
+
+// Whether the labels of all supports are the same in both.
+fn steady<'a>(
+    supports: &[u8],
+    members: &'a [u32],
+    sizes: &'a [u8],
+    later: &'a [u32],
+    counts: &'a [u8],
+) -> bool
+    requires { ⌜ Ranged (now supports) × Layout (now members) (now sizes) × Layout (now later) (now counts) ⌝ }
+    ensures { λ r. ⌜ r ≡ allOf (sameLabel (now (members .entry)) (now (sizes .entry)) (now (later .entry)) (now (counts .entry))) (now (supports .entry)) ⌝ }
+{
+    let mut i = 0;
+    while i < supports.len() {
+        if !same_label(supports[i], members, sizes, later, counts) {
+            return false;
+        }
+        i += 1;
+    }
+    true
+}
+
+// The mark of the consequent after one justification of it more: 1 where the label of a support changed.
+fn marked<'a>(
+    entry: Entry,
+    mark: u8,
+    members: &'a [u32],
+    sizes: &'a [u8],
+    later: &'a [u32],
+    counts: &'a [u8],
+) -> u8
+    requires { ⌜ Few entry × Ranged (meaning entry .supports) × Layout (now members) (now sizes) × Layout (now later) (now counts) ⌝ }
+    ensures { λ r. ⌜ r ≡ choose (allOf (sameLabel (now (members .entry)) (now (sizes .entry)) (now (later .entry)) (now (counts .entry))) (meaning entry .supports)) mark 1 ⌝ }
+{
+    let most = entry.count as usize;
+    let supports = entry.supports;
+    if steady(&supports[..most], members, sizes, later, counts) {
+        mark
+    } else {
+        1
+    }
+}
+
+// A mark for each list that has to be built at the next stage: the label of a support of one of its justifications changed.
+fn touched<'a>(
+    held: Held,
+    members: &'a [u32],
+    sizes: &'a [u8],
+    later: &'a [u32],
+    counts: &'a [u8],
+) -> [u8; 129]
+    requires { ⌜ Joinable held × Layout (now members) (now sizes) × Layout (now later) (now counts) ⌝ }
+    ensures { λ r. ⌜ Untouched (sameLabel (now (members .entry)) (now (sizes .entry)) (now (later .entry)) (now (counts .entry))) (saidBy held) r ⌝ }
+{
+    let count = held.count;
+    let mut marks = [0u8; 129];
+    let mut j = 0;
+    while j < count {
+        let entry = held.entries[j];
+        let n = entry.consequent as usize;
+        marks[n] = marked(entry, marks[n], members, sizes, later, counts);
+        j += 1;
+    }
+    marks
+}
+
 // The stages from 0 upward, to the first that agrees with the next, or the refusal.
 pub fn judge(held: Held) -> Judged
     requires { ⌜ Judgeable held ⌝ }
     ensures { λ r. ⌜ Judge held r ⌝ }
 {
     let mut lists = start(held.assumptions);
+    let mut stale = [1u8; 129];
     while lists.depth < 129 {
-        let step = lists.next(held);
+        let step = lists.next(held, stale);
         let reply = step.reply;
         if replies::number(reply) != 0 {
             return step;
@@ -214,17 +323,24 @@ pub fn judge(held: Held) -> Judged
                 lists,
             };
         }
+        stale = touched(
+            held,
+            &lists.members,
+            &lists.sizes,
+            &later.members,
+            &later.sizes,
+        );
         lists = later;
     }
-    last(held, lists)
+    last(held, lists, stale)
 }
 
 // Stage 129 against stage 130.
-fn last(held: Held, lists: Lists) -> Judged
-    requires { ⌜ Reached held lists × (lists .depth ≡ 129) ⌝ }
+fn last(held: Held, lists: Lists, stale: [u8; 129]) -> Judged
+    requires { ⌜ Reached held lists × (lists .depth ≡ 129) × Fresh held (lists .depth) stale ⌝ }
     ensures { λ r. ⌜ r ≡ judgedBy (course limits (stageBy held) 1 129) ⌝ }
 {
-    let step = lists.next(held);
+    let step = lists.next(held, stale);
     let reply = step.reply;
     if replies::number(reply) != 0 {
         return refused(Reply::Unsettled);

@@ -1,12 +1,12 @@
 -- `stages::Lists::with` meets its contract. Assumes nothing.
-use mathlib.Core.Path.{_∙_, _≡_, ap}
-use Prim.Native.Nat.{_*_, _-_, _≤_, ℕ}
-use native.Mathlib.Omega.{arith}
-use lib.ListN.{length, set}
-use lib.Seq.{paste, paste-zero}
-use borrow.Author.Needs.{needs}
-use Rattle.stages.proofs.Writing.{withMembers, write-turn}
 use Rattle.stages.specs.declared.Lists.{Lists}
+use lib.Seq.{paste, paste-zero}
+use Rattle.stages.proofs.Writing.{withMembers, write-turn}
+use mathlib.Core.Path.{_≡_, ap, _∙_}
+use Prim.Native.Nat.{ℕ, _-_, _*_, _≤_}
+use native.Mathlib.Omega.{arith}
+use borrow.Author.Needs.{needs}
+use lib.ListN.{length, set}
 use Rattle.stages.proofs.Lists.with.Statement.{statement}
 use Rattle.stages.proofs.Lists.with.Tie as tie
 
