@@ -1,6 +1,6 @@
 -- A list whose labels did not change in the last step does not change in this one. Assumes nothing.
 use mathlib.Core.Bool.{Bool, _&&_, false, not, true}
-use mathlib.Core.List.{List, List·Memᴰ·cases-cons, List·Memᴰ as Mem, [], _++_, _∷_, map, List·Memᴰ·head as here, List·Memᴰ·tail as there}
+use mathlib.Core.List.{List, List·Memᴰ·cases-cons, List·Memᴰ as Mem, [], _∷_, map, List·Memᴰ·head as here, List·Memᴰ·tail as there}
 use mathlib.Core.Logic.{_⊎_, inl, inr, ⊎-elim}
 use mathlib.Core.Path.{_∙_, _≡_, ap, ap₂, refl, subst, sym}
 use Prim.Native.Nat.{_*_, _+_, _-_, _<_, _≤_, suc, zero, ℕ}
@@ -12,17 +12,16 @@ use lib.Seq.{drop-cons, getD-set-other, getD-set-same}
 use native.Mathlib.Nat.{le-of-suc-le-suc, not-suc-le-zero}
 use borrow.Author.Tests.{eq-eqb, eqb-false, eqb-true, ne-eqb, not-true}
 use Rattle.labels.proofs.Visits.{lying-length}
-use Rattle.labels.specs.Layout.{Joinable, Layout, lying}
-use Rattle.labels.specs.Promised.{builtOf}
-use Rattle.labels.specs.declared.Built.{Built}
+use Rattle.labels.specs.Layout.{Layout, lying}
 use Rattle.rules.proofs.Laws.{right-range}
 use Rattle.rules.specs.Held.{meaning, saidBy}
 use Rattle.rules.specs.declared.Entry.{Entry}
 use Rattle.rules.specs.declared.Held.{Held}
-use Rattle.stages.proofs.Nexts.{whole-taken}
-use Rattle.stages.proofs.Stages.{lies, nogoods-lie, part-lies}
+use Rattle.stages.proofs.Parts.{wide}
+use Rattle.stages.proofs.Stages.{lies, listed-taken, nogoods-lie, nogoods-listed, part-lies}
+use Rattle.stages.specs.Judged.{Judgeable}
 use Rattle.stages.specs.Lists.{listsOf}
-use Rattle.stages.specs.Steps.{Fresh, Lasting, Reached, Room, Steady, Untouched, sameLabel, stageBy}
+use Rattle.stages.specs.Steps.{Fresh, Lasting, Listed, Reached, Room, Steady, Untouched, sameLabel, stageBy}
 use Rattle.stages.specs.declared.Lists.{Lists}
 use Rattle.theory.proofs.Judgement.{same-elim, stage-label, stage-labelIn, stage-nogoods}
 use Rattle.theory.proofs.Lasting.{joins-same}
@@ -31,18 +30,11 @@ use Rattle.theory.proofs.Select.{Selection, selection-unique}
 use Rattle.theory.proofs.Sets.{within-refl}
 use Rattle.theory.proofs.Start.{label-selection, nogood-selection}
 use Rattle.theory.proofs.Step.{candidates-cases, candidates-join, candidates-old, labelCands, nogoodCands}
-use Rattle.theory.specs.Judge.{sameSets, stageAt}
+use Rattle.theory.specs.Judge.{sameSets}
 use Rattle.theory.specs.Lists.{allOf, choose}
 use Rattle.theory.specs.Sets.{contains}
 use Rattle.theory.specs.Stages.{Justification, labelAt, nogoodsAt}
-use Rattle.theory.specs.Step.{candidates, joins, labelIn, picks}
-
-zero-of : (x : ℕ) → not (eqb x 0) ≡ false → x ≡ 0
-zero-of x e = eqb-true x 0 (yes (eqb x 0) e)
-  where
-    yes : (b : Bool) → not b ≡ false → b ≡ true
-    yes true z = refl
-    yes false z = clash refl z
+use Rattle.theory.specs.Step.{candidates, labelIn}
 
 marked-all : (n : ℕ) → n ≤ 128 → getD (replicate 129 (suc zero)) n zero ≡ zero → ⊥
 marked-all n h z = omega (arith, getD-replicate 129 n (suc zero) zero (omega arith))
@@ -73,7 +65,7 @@ nogoods-still A J k same =
     (still A J k zero same (nogoodsAt A J (suc k)) (nogoodsAt A J k) (λ E. true) (nogood-selection A J k))
 
 -- ---- over what is held
-module _ (h : Held) (ok : Joinable h) (k : ℕ) where
+module _ (h : Held) (ok : Judgeable h) (k : ℕ) where
   abbrev A : ℕ
   A = h .assumptions
 
@@ -91,7 +83,7 @@ module _ (h : Held) (ok : Joinable h) (k : ℕ) where
   at-next : (d : ℕ) → k ≡ suc d → k + 1 ≡ suc (suc d)
   at-next d e = add-one k ∙ ap suc e
 
-  pub nogoods-keep : Steady h k 0 → stageBy h (k + 1) .nogoods ≡ stageBy h k .nogoods
+  nogoods-keep : Steady h k 0 → stageBy h (k + 1) .nogoods ≡ stageBy h k .nogoods
   nogoods-keep d =
       ap (λ (m : ℕ). stageBy h m .nogoods) (at-next (d .before) (d .next)) ∙ stage-nogoods A N J (suc (suc (d .before)))
       ∙ nogoods-still A J (d .before) (same-at 0 d) ∙ sym (ap (λ (m : ℕ). stageBy h m .nogoods) (d .next) ∙ stage-nogoods A N J (suc (d .before)))
@@ -107,24 +99,32 @@ module _ (h : Held) (ok : Joinable h) (k : ℕ) where
 
   -- the nogoods as they were: what is not stale lasts
   keeps : (stale : List ℕ) → Fresh h k stale → stageBy h (k + 1) .nogoods ≡ stageBy h k .nogoods → Lasting h k stale
-  keeps stale f e = λ i low z. label-keep e i low (f (i + 1) (omega (arith, ok .wide)) z)
+  keeps stale f e = λ i low z. label-keep e i low (f (i + 1) (omega (arith, wide h ok)) z)
 
   none-lasts : Lasting h k (replicate 129 1)
-  none-lasts = λ i low z. absurd (marked-all (i + 1) (omega (arith, ok .wide)) z)
+  none-lasts = λ i low z. absurd (marked-all (i + 1) (omega (arith, wide h ok)) z)
 
-  -- ---- what is stale once the nogoods are built
-  pub outdated-lasts : (l : Lists) → l ≡ listsOf k (stageBy h k) → Room (stageBy h k) → (b : Built) → b ≡ builtOf 32 (stageBy h (k + 1) .nogoods) → b .count ≤ 32
-      → (stale : List ℕ) → Fresh h k stale → (r : List ℕ) → r ≡ choose (eqb (l .count) (b .count) && sameSets (l .nogoods) (b .sets)) stale (replicate 129 1) → Lasting h k r
-  outdated-lasts l is room b made few stale f r e = go (eqb (l .count) (b .count) && sameSets (l .nogoods) (b .sets)) refl e
+  -- ---- what is stale once the nogoods are known
+  pub outdated-lasts : (l : Lists) → l ≡ listsOf k (stageBy h k) → Room (stageBy h k) → (many : ℕ) (later : List ℕ) → Listed (stageBy h (k + 1) .nogoods) many later
+      → (stale : List ℕ) → Fresh h k stale → (r : List ℕ) → r ≡ choose (eqb (l .count) many && sameSets (l .nogoods) later) stale (replicate 129 1) → Lasting h k r
+  outdated-lasts l is room many later n stale f r e = go (eqb (l .count) many && sameSets (l .nogoods) later) refl e
     where
-      go : (t : Bool) → eqb (l .count) (b .count) && sameSets (l .nogoods) (b .sets) ≡ t → r ≡ choose t stale (replicate 129 1) → Lasting h k r
+      go : (t : Bool) → eqb (l .count) many && sameSets (l .nogoods) later ≡ t → r ≡ choose t stale (replicate 129 1) → Lasting h k r
       go false q w = subst (Lasting h k) (sym w) none-lasts
       go true q w =
-          let c : l .count ≡ b .count = eqb-true (l .count) (b .count) (and-left (eqb (l .count) (b .count)) (sameSets (l .nogoods) (b .sets)) q) in
-          let s : l .nogoods ≡ b .sets = same-elim (l .nogoods) (b .sets) (and-right (eqb (l .count) (b .count)) (sameSets (l .nogoods) (b .sets)) q) in
+          let c : l .count ≡ many = eqb-true (l .count) many (and-left (eqb (l .count) many) (sameSets (l .nogoods) later) q) in
+          let s : l .nogoods ≡ later = same-elim (l .nogoods) later (and-right (eqb (l .count) many) (sameSets (l .nogoods) later) q) in
           let g : stageBy h (k + 1) .nogoods ≡ stageBy h k .nogoods =
-          sym (whole-taken (stageBy h (k + 1) .nogoods) b made few) ∙ sym (ap₂ (λ (n : ℕ) (m : List ℕ). take n m) c s) ∙ nogoods-lie k (stageBy h k) room l is in
+          sym (listed-taken (stageBy h (k + 1) .nogoods) many later n) ∙ sym (ap₂ (λ (n : ℕ) (m : List ℕ). take n m) c s) ∙ nogoods-lie k (stageBy h k) room l is in
           subst (Lasting h k) (sym w) (keeps stale f g)
+
+  -- no mark for falsity: the nogoods stay
+  module _ (stale : List ℕ) (f : Fresh h k stale) (z : getD stale 0 0 ≡ 0) where
+    pub kept-lasts : Lasting h k stale
+    kept-lasts = keeps stale f (nogoods-keep (f 0 (omega arith) z))
+
+    pub kept-listed : (l : Lists) → l ≡ listsOf k (stageBy h k) → Room (stageBy h k) → Listed (stageBy h (k + 1) .nogoods) (l .count) (l .nogoods)
+    kept-listed l is room = subst (λ (n : List ℕ). Listed n (l .count) (l .nogoods)) (sym (nogoods-keep (f 0 (omega arith) z))) (nogoods-listed k (stageBy h k) room l is)
 
 -- ---- the tests of the code
 module _ (a b : ℕ) (t : Bool) (x y : List ℕ) where
@@ -216,36 +216,9 @@ fresh-on h l m a b e marks u = λ n low z. record {
   before = l .depth;
   next = e ∙ add-one (l .depth);
   same = λ r i q s t.
-      let top : s ≤ 128 = omega (arith, right-range h (a .joinable .right) r i .between s t .1, a .joinable .wide) in
+      let top : s ≤ 128 = omega (arith, right-range h (a .judgeable .right) r i .between s t .1, wide h (a .judgeable)) in
       let w : lying (l .members) (l .sizes) s ≡ lying (m .members) (m .sizes) s =
       same-elim (lying (l .members) (l .sizes) s) (lying (m .members) (m .sizes) s) (all-elim (sameLabel (l .members) (l .sizes) (m .members) (m .sizes)) (u n low z r i q) t) in
       ap (λ (k : ℕ). labelIn (stageBy h k .labels) s) (sym (e ∙ add-one (l .depth)))
       ∙ sym (lies (m .depth) (stageBy h (m .depth)) (b .room) m (b .is) s top) ∙ sym w ∙ lies (l .depth) (stageBy h (l .depth)) (a .room) l (a .is) s top;
 }
-
--- ---- a list that is renewed is that of the next stage
-module _ (h : Held) (l : Lists) (re : Reached h l) where
-  pub nogoods-renewed : (stale : List ℕ) → Fresh h (l .depth) stale → (b : Bool) → b ≡ not (eqb (getD stale 0 0) 0) → (X : Built) → (r : Built)
-      → (b ≡ true → X ≡ builtOf 32 (take (32 + 1) (stageBy h (l .depth + 1) .nogoods))) → r ≡ choose b X (builtOf 32 (take (32 + 1) (take (l .count) (l .nogoods))))
-      → r ≡ builtOf 32 (take (32 + 1) (stageBy h (l .depth + 1) .nogoods))
-  nogoods-renewed stale f b e X r x q = go b refl q
-    where
-      go : (c : Bool) → b ≡ c → r ≡ choose c X (builtOf 32 (take (32 + 1) (take (l .count) (l .nogoods)))) → r ≡ builtOf 32 (take (32 + 1) (stageBy h (l .depth + 1) .nogoods))
-      go true p w = w ∙ x p
-      go false p w =
-          let z : getD stale 0 0 ≡ 0 = zero-of (getD stale 0 0) (sym e ∙ p) in
-          w ∙ ap (λ (y : List ℕ). builtOf 32 (take 33 y)) (nogoods-lie (l .depth) (stageBy h (l .depth)) (re .room) l (re .is) ∙ sym (nogoods-keep h (re .joinable) (l .depth) (f 0 (omega arith) z)))
-
-  pub label-renewed : (stale : List ℕ) → Lasting h (l .depth) stale → (i : ℕ) → i < h .assumptions + h .claims → (b : Bool) → b ≡ not (eqb (getD stale (i + 1) 0) 0) → (X : Built) (old : List ℕ) → old ≡ lying (l .members) (l .sizes) (i + 1) → (r : Built)
-      → (b ≡ true → X ≡ builtOf 12 (take (12 + 1) (getD (stageBy h (l .depth + 1) .labels) i []))) → r ≡ choose b X (builtOf 12 (take (12 + 1) old))
-      → r ≡ builtOf 12 (take (12 + 1) (getD (stageBy h (l .depth + 1) .labels) i []))
-  unfolding labelIn
-  label-renewed stale f i low b e X old o r x q = go b refl q
-    where
-      go : (c : Bool) → b ≡ c → r ≡ choose c X (builtOf 12 (take (12 + 1) old)) → r ≡ builtOf 12 (take (12 + 1) (getD (stageBy h (l .depth + 1) .labels) i []))
-      go true p w = w ∙ x p
-      go false p w =
-          let z : getD stale (i + 1) 0 ≡ 0 = zero-of (getD stale (i + 1) 0) (sym e ∙ p) in
-          let y : lying (l .members) (l .sizes) (i + 1) ≡ getD (stageBy h (l .depth) .labels) i [] =
-          lies (l .depth) (stageBy h (l .depth)) (re .room) l (re .is) (i + 1) (omega (arith, re .joinable .wide)) ∙ ap (labelIn (stageBy h (l .depth) .labels)) (add-one i) in
-          w ∙ ap (λ (v : List ℕ). builtOf 12 (take 13 v)) (o ∙ y ∙ sym (f i low z))

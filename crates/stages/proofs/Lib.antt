@@ -1,4 +1,5 @@
 pub mod Tables
+pub mod Parts
 pub mod Writing
 pub mod Stages
 pub mod Nexts

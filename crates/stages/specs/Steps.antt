@@ -2,20 +2,19 @@
 use mathlib.Core.Bool.{Bool, _&&_, false, true}
 use mathlib.Core.List.{List, List·Memᴰ as Mem, []}
 use mathlib.Core.Path.{_≡_}
-use Prim.Native.Nat.{_*_, _+_, _<_, _≤_, suc, zero, ℕ}
+use Prim.Native.Nat.{_+_, _<_, _≤_, suc, zero, ℕ}
 use lib.Dec.{eqb}
-use lib.ListN.{getD, set, take}
-use lib.Seq.{paste}
-use Rattle.labels.specs.Layout.{Joinable, lying}
-use Rattle.labels.specs.declared.Built.{Built}
+use lib.ListN.{getD, length}
+use Rattle.labels.specs.Layout.{lying}
 use Rattle.replies.specs.declared.Reply.the-variants.{Done, Label, Nogoods}
 use Rattle.rules.specs.Held.{saidBy}
 use Rattle.rules.specs.declared.Held.{Held}
-use Rattle.stages.specs.Judged.{refusal}
+use Rattle.stages.specs.Judged.{Judgeable, refusal}
 use Rattle.stages.specs.Lists.{listsOf}
 use Rattle.stages.specs.declared.Judged.{Judged}
 use Rattle.stages.specs.declared.Lists.{Lists}
-use Rattle.theory.specs.Lists.{allOf}
+use Rattle.theory.specs.Lists.{allOf, those}
+use Rattle.theory.specs.Places.{padded, table}
 use Rattle.theory.specs.Stages.{Justification}
 use Rattle.theory.specs.Step.{labelIn}
 use Rattle.theory.specs.Judge.{Stage, labelLong, limits, nogoodsLong, sameSets, stageAt}
@@ -41,18 +40,24 @@ pub record Room (s : Stage) : Type 0 where
 
 -- the lists are those of their stage, none is over, and the stage is 129 at most
 pub record Reached (h : Held) (l : Lists) : Type 0 where
-  pub joinable : Joinable h
+  pub judgeable : Judgeable h
   pub is : l ≡ listsOf (l .depth) (stageBy h (l .depth))
   pub room : Room (stageBy h (l .depth))
   pub low : l .depth ≤ 129
 
--- the first n labels of a stage, with its nogoods
-abbrev pub firstLabels : ℕ → Stage → Stage
-firstLabels n s = record { nogoods = s .nogoods; labels = take n (s .labels) }
+-- how many justifications of n are in the list
+abbrev pub manyOf : List Justification → ℕ → ℕ
+manyOf J n = length (those (λ j. eqb (j .consequent) n) J)
 
--- the label of the number i + 1 written
-abbrev pub withLabel : Lists → ℕ → Built → Lists
-withLabel l i b = record { sizes = set (l .sizes) i (b .count); members = paste (l .members) (12 * i) (b .sets) 12; count = l .count; nogoods = l .nogoods; depth = l .depth }
+-- how many justifications of each number are held
+unfoldable pub tallied : Held → List ℕ
+tallied h = table 129 (manyOf (saidBy h))
+
+-- the nogoods in their places, at most 32
+pub record Listed (nogoods : List ℕ) (count : ℕ) (places : List ℕ) : Type 0 where
+  pub counted : count ≡ length nogoods
+  pub few : count ≤ 32
+  pub lie : places ≡ padded 0 32 nogoods
 
 -- all labels and nogoods are the same
 unfoldable pub sameLists : Lists → Lists → Bool

@@ -5,16 +5,16 @@ use rules::Entry;
 use rules::Held;
 ghost use mathlib.Core.Bool.{_&&_};
 ghost use mathlib.Core.Path.{_≡_};
-ghost use Prim.Native.Nat.{_+_, _<_, _≤_};
+ghost use Prim.Native.Nat.{_+_, _≤_};
 ghost use lib.Dec.{eqb};
 ghost use lib.ListN.{length, replicate};
+ghost use lib.Seq.{paste};
 ghost use Rattle.theory.specs.Lists.{allOf, choose};
 ghost use Rattle.rules.specs.Held.{meaning, saidBy};
-ghost use Rattle.labels.specs.Layout.{Few, Joinable, Layout, Ranged};
+ghost use Rattle.labels.specs.Layout.{Few, Layout, Ranged};
 ghost use Rattle.theory.specs.Judge.{limits, course, sameSets};
-ghost use Rattle.labels.specs.Promised.{builtOf};
 ghost use Rattle.stages.specs.Judged.{Judge, Judgeable, Start, judgedBy, refusal};
-ghost use Rattle.stages.specs.Steps.{Fresh, Lasting, Reached, Untouched, fitted, sameLabel, sameLists, stageBy, withLabel};
+ghost use Rattle.stages.specs.Steps.{Fresh, Lasting, Listed, Reached, Untouched, fitted, sameLabel, sameLists, stageBy, tallied};
 
 // The labels and nogoods of a stage: label n at its own twelve places 12 (n - 1) up, its size beside it; unused places zero.
 pub struct Lists {
@@ -72,87 +72,91 @@ pub fn start(assumptions: u8) -> Lists
 }
 
 impl Lists {
-    // The label of the number i + 1 written.
-    fn with(mut self, i: usize, label: Built) -> Lists
-        requires { ⌜ (i < 128) × (label .count ≤ 12) ⌝ }
-        ensures { λ r. ⌜ r ≡ withLabel self i label ⌝ }
-    {
-        let from = 12 * i;
-        let sets = label.sets;
-        for k in 0..12 {
-            self.members[from + k] = sets[k];
-        }
-        self.sizes[i] = label.count as u8;
-        self
-    }
-
     // The lists of the next stage, or the refusal: its nogoods first, then every label with those nogoods.
-    fn next(self, held: Held, stale: [u8; 129]) -> Judged
-        requires { ⌜ Reached held self × Fresh held (self .depth) stale ⌝ }
+    fn next(self, held: Held, tallies: [u16; 129], stale: [u8; 129]) -> Judged
+        requires { ⌜ Reached held self × (tallies ≡ tallied held) × Fresh held (self .depth) stale ⌝ }
         ensures { λ r. ⌜ r ≡ fitted (self .depth + 1) (stageBy held (self .depth + 1)) ⌝ }
     {
         let count = self.count;
         let nogoods = self.nogoods;
         let none = [0u32; 1];
-        let due = stale[0] != 0;
-        let later = labels::renew(
+        if stale[0] == 0 {
+            return self.relabelled(held, tallies, count, nogoods, stale);
+        }
+        let end = tallies[0] as usize;
+        let built = labels::build(
             held,
+            0,
+            end,
             0,
             &self.members,
             &self.sizes,
             &nogoods[..count],
             &none[..0],
             32,
-            due,
         );
-        if 32 < later.count {
+        let many = built.count;
+        if 32 < many {
             return refused(Reply::Nogoods);
         }
-        let all = outdated(count, nogoods, later, stale);
-        self.relabelled(held, later, all)
+        let later = built.sets;
+        let all = outdated(count, nogoods, many, later, stale);
+        self.relabelled(held, tallies, many, later, all)
     }
 
-    // The labels of the next stage, struck by its nogoods.
-    fn relabelled(self, held: Held, nogoods: Built, stale: [u8; 129]) -> Judged
-        requires { ⌜ Reached held self × (nogoods ≡ builtOf 32 (stageBy held (self .depth + 1) .nogoods)) × (nogoods .count ≤ 32) × Lasting held (self .depth) stale ⌝ }
+    // The labels of the next stage, struck by its nogoods: those that are stale built and written, the others kept.
+    fn relabelled(
+        self,
+        held: Held,
+        tallies: [u16; 129],
+        count: usize,
+        struck: [u32; 32],
+        stale: [u8; 129],
+    ) -> Judged
+        requires { ⌜ Reached held self × (tallies ≡ tallied held) × Listed (stageBy held (self .depth + 1) .nogoods) count struck × Lasting held (self .depth) stale ⌝ }
         ensures { λ r. ⌜ r ≡ fitted (self .depth + 1) (stageBy held (self .depth + 1)) ⌝ }
     {
         let old = self.members;
-        let count = nogoods.count;
-        let struck = nogoods.sets;
-        let mut later = Lists {
-            sizes: [0u8; 128],
-            members: [0u32; 1536],
-            count,
-            nogoods: struck,
-            depth: self.depth + 1,
-        };
+        let mut members = self.members;
+        let mut sizes = self.sizes;
         let top = held.assumptions + held.claims;
+        let mut lo = tallies[0] as usize;
         let mut i = 0u8;
         while i < top {
             let at = i as usize;
-            let from = 12 * at;
-            let end = from + self.sizes[at] as usize;
-            let due = stale[at + 1] != 0;
-            let label = labels::renew(
-                held,
-                i + 1,
-                &self.members,
-                &self.sizes,
-                &old[from..end],
-                &struck[..count],
-                12,
-                due,
-            );
-            if 12 < label.count {
-                return refused(Reply::Label(i + 1));
+            let hi = lo + tallies[at + 1] as usize;
+            if stale[at + 1] != 0 {
+                let from = 12 * at;
+                let end = from + self.sizes[at] as usize;
+                let label = labels::build(
+                    held,
+                    lo,
+                    hi,
+                    i + 1,
+                    &self.members,
+                    &self.sizes,
+                    &old[from..end],
+                    &struck[..count],
+                    12,
+                );
+                if 12 < label.count {
+                    return refused(Reply::Label(i + 1));
+                }
+                write(&mut members, from, label);
+                sizes[at] = label.count as u8;
             }
-            later = later.with(at, label);
+            lo = hi;
             i += 1;
         }
         Judged {
             reply: Reply::Done,
-            lists: later,
+            lists: Lists {
+                sizes,
+                members,
+                count,
+                nogoods: struck,
+                depth: self.depth + 1,
+            },
         }
     }
 
@@ -174,17 +178,52 @@ impl Lists {
 }
 
 // What is stale once the nogoods are known: all where they changed.
-fn outdated(count: usize, nogoods: [u32; 32], later: Built, stale: [u8; 129]) -> [u8; 129]
-    ensures { λ r. ⌜ r ≡ choose (eqb count (later .count) && sameSets nogoods (later .sets)) stale (replicate 129 1) ⌝ }
+fn outdated(
+    count: usize,
+    nogoods: [u32; 32],
+    many: usize,
+    later: [u32; 32],
+    stale: [u8; 129],
+) -> [u8; 129]
+    ensures { λ r. ⌜ r ≡ choose (eqb count many && sameSets nogoods later) stale (replicate 129 1) ⌝ }
 {
-    if count != later.count {
+    if count != many {
         return [1u8; 129];
     }
-    let sets = later.sets;
-    if same_sets(&nogoods, &sets) {
+    if same_sets(&nogoods, &later) {
         return stale;
     }
     [1u8; 129]
+}
+
+// A label written in its twelve places.
+fn write(members: &mut [u32], from: usize, label: Built)
+    requires { ⌜ from + 12 ≤ length (now members) ⌝ }
+    ensures { λ _. ⌜ now (members .exit) ≡ paste (now (members .entry)) from (label .sets) 12 ⌝ }
+{
+    let sets = label.sets;
+    let mut k = 0;
+    while k < 12 {
+        members[from + k] = sets[k];
+        k += 1;
+    }
+}
+
+// How many justifications of each number are held: they stand in the order of their numbers.
+fn tally(held: Held) -> [u16; 129]
+    requires { ⌜ Judgeable held ⌝ }
+    ensures { λ r. ⌜ r ≡ tallied held ⌝ }
+{
+    let count = held.count;
+    let mut tallies = [0u16; 129];
+    let mut j = 0;
+    while j < count {
+        let entry = held.entries[j];
+        let n = entry.consequent as usize;
+        tallies[n] += 1;
+        j += 1;
+    }
+    tallies
 }
 
 // Whether two lists of sizes of one length are the same.
@@ -288,7 +327,7 @@ fn touched<'a>(
     later: &'a [u32],
     counts: &'a [u8],
 ) -> [u8; 129]
-    requires { ⌜ Joinable held × Layout (now members) (now sizes) × Layout (now later) (now counts) ⌝ }
+    requires { ⌜ Judgeable held × Layout (now members) (now sizes) × Layout (now later) (now counts) ⌝ }
     ensures { λ r. ⌜ Untouched (sameLabel (now (members .entry)) (now (sizes .entry)) (now (later .entry)) (now (counts .entry))) (saidBy held) r ⌝ }
 {
     let count = held.count;
@@ -308,10 +347,11 @@ pub fn judge(held: Held) -> Judged
     requires { ⌜ Judgeable held ⌝ }
     ensures { λ r. ⌜ Judge held r ⌝ }
 {
+    let tallies = tally(held);
     let mut lists = start(held.assumptions);
     let mut stale = [1u8; 129];
     while lists.depth < 129 {
-        let step = lists.next(held, stale);
+        let step = lists.next(held, tallies, stale);
         let reply = step.reply;
         if replies::number(reply) != 0 {
             return step;
@@ -332,15 +372,15 @@ pub fn judge(held: Held) -> Judged
         );
         lists = later;
     }
-    last(held, lists, stale)
+    last(held, tallies, lists, stale)
 }
 
 // Stage 129 against stage 130.
-fn last(held: Held, lists: Lists, stale: [u8; 129]) -> Judged
-    requires { ⌜ Reached held lists × (lists .depth ≡ 129) × Fresh held (lists .depth) stale ⌝ }
+fn last(held: Held, tallies: [u16; 129], lists: Lists, stale: [u8; 129]) -> Judged
+    requires { ⌜ Reached held lists × (lists .depth ≡ 129) × (tallies ≡ tallied held) × Fresh held (lists .depth) stale ⌝ }
     ensures { λ r. ⌜ r ≡ judgedBy (course limits (stageBy held) 1 129) ⌝ }
 {
-    let step = lists.next(held, stale);
+    let step = lists.next(held, tallies, stale);
     let reply = step.reply;
     if replies::number(reply) != 0 {
         return refused(Reply::Unsettled);

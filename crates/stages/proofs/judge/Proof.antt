@@ -11,61 +11,46 @@ use Rattle.stages.specs.Steps.{Fresh, Reached}
 use Rattle.theory.specs.Judge.{judge, limits}
 use Rattle.stages.proofs.judge.Statement.{statement}
 use Rattle.stages.proofs.judge.Tie as tie
-use Rattle.stages.proofs.judge.Reads as reads
-use Rattle.stages.proofs.judge.Lts as lts
-use Rattle.replies.proofs.number.Reads as number-reads
-use Rattle.stages.proofs.Lists.next.Reads as next-reads
-use Rattle.stages.proofs.Lists.same.Reads as same-reads
-use Rattle.stages.proofs.last.Reads as last-reads
-use Rattle.stages.proofs.start.Reads as start-reads
-use Rattle.stages.proofs.touched.Reads as touched-reads
 
 abbrev Inv-loop : tie.InvT-loop
-Inv-loop held lists₀ stale₀ lists stale = Reached held lists × (judge limits (held .assumptions) (held .assumptions + held .claims) (saidBy held) ≡ fromStage held (lists .depth)) × Fresh held (lists .depth) stale
+Inv-loop held tallies lists₀ stale₀ lists stale = Reached held lists × (judge limits (held .assumptions) (held .assumptions + held .claims) (saidBy held) ≡ fromStage held (lists .depth)) × Fresh held (lists .depth) stale
 
 abbrev μ-loop : tie.MeasureT-loop
-μ-loop held lists₀ stale₀ lists stale = 129 - lists .depth
+μ-loop held tallies lists₀ stale₀ lists stale = 129 - lists .depth
 
--- src/lib.rt:268:21
+tally-requires : tie.Need-tally-requires Inv-loop μ-loop
+tally-requires c κs = c .pre
+
 start-requires : tie.Need-start-requires Inv-loop μ-loop
-start-requires c κs = c .pre .assumptions
+start-requires c κs = c .before .pre .assumptions
 
--- src/lib.rt:270:5
 loop-holds : tie.Need-loop-holds Inv-loop μ-loop
-loop-holds c = (judge-reached _ (c .before .pre) _ (c .start .ensures), judge-from _ (c .before .pre) _ (c .start .ensures), fresh-start _ _)
+loop-holds c = (judge-reached _ (c .before .before .pre) _ (c .start .ensures), judge-from _ (c .before .before .pre) _ (c .start .ensures), fresh-start _ _)
 
--- src/lib.rt:271:13
 next-requires : tie.Need-next-requires Inv-loop μ-loop
-next-requires c κs = (c .before .loop .inv .0, c .before .loop .inv .2)
+next-requires c κs = (c .before .loop .inv .0, c .before .before .before .tally .ensures, c .before .loop .inv .2)
 
--- src/lib.rt:273:12
 number-requires : tie.Need-number-requires Inv-loop μ-loop
 number-requires c κs = search needs
 
--- src/lib.rt:274:13
 returns : tie.Need-returns Inv-loop μ-loop
 returns c = let l = c .before .before .before .before .loop in judge-refused _ (l .lists) (l .inv .0) _ (l .inv .1) _ (c .before .before .next .ensures) _ (c .before .number .ensures) (c .before .before .before .loop-test .taken) (c .if1 .taken)
 
--- src/lib.rt:277:12
 same-requires : tie.Need-same-requires Inv-loop μ-loop
 same-requires c κs = search needs
 
--- src/lib.rt:278:13
 returns-2 : tie.Need-returns-2 Inv-loop μ-loop
 returns-2 c = let l = c .before .before .before .before .before .before .before .loop in judge-settled _ (l .lists) (l .inv .0) _ (l .inv .1) _ (c .before .before .before .before .before .next .ensures) _ (c .before .before .before .before .number .ensures) (c .before .before .before .if1 .left) _ (c .before .same .ensures) (c .if2 .taken)
 
--- src/lib.rt:283:9
 touched-requires : tie.Need-touched-requires Inv-loop μ-loop
 touched-requires c κs =
     let l = c .before .before .before .before .before .before .before .before .before .before .before .before .before .before .before .before .before .loop in
     let m = judge-next _ (l .lists) (l .inv .0) _ (l .inv .1) _ (c .before .before .before .before .before .before .before .before .before .before .before .before .before .before .before .next .ensures) _ (c .before .before .before .before .before .before .before .before .before .before .before .before .before .before .number .ensures) (c .before .before .before .before .before .before .before .before .before .before .before .before .before .if1 .left) (c .before .before .before .before .before .before .before .before .before .before .before .before .before .before .before .before .loop-test .taken) in
-    (l .inv .0 .joinable, layout _ _ (l .inv .0 .room) _ (l .inv .0 .is), layout _ _ (m .room) _ (m .is))
+    (l .inv .0 .judgeable, layout _ _ (l .inv .0 .room) _ (l .inv .0 .is), layout _ _ (m .room) _ (m .is))
 
--- src/lib.rt:270:5
 loop-less : tie.Need-loop-less Inv-loop μ-loop
 loop-less c = let l = c .before .before .before .before .before .before .before .before .before .before .before .before .before .before .before .before .before .before .loop in judge-less _ (l .lists) (l .inv .0) _ (l .inv .1) _ (c .before .before .before .before .before .before .before .before .before .before .before .before .before .before .before .before .next .ensures) _ (c .before .before .before .before .before .before .before .before .before .before .before .before .before .before .before .number .ensures) (c .before .before .before .before .before .before .before .before .before .before .before .before .before .before .if1 .left) (c .before .before .before .before .before .before .before .before .before .before .before .before .before .before .before .before .before .loop-test .taken)
 
--- src/lib.rt:270:5
 loop-again : tie.Need-loop-again Inv-loop μ-loop
 loop-again c =
     let l = c .before .before .before .before .before .before .before .before .before .before .before .before .before .before .before .before .before .before .loop in
@@ -75,13 +60,11 @@ loop-again c =
       fresh-on _ (l .lists) _ (l .inv .0) m (depth-is _ (l .lists) (l .inv .0) _ (l .inv .1) _ (c .before .before .before .before .before .before .before .before .before .before .before .before .before .before .before .before .next .ensures) _ (c .before .before .before .before .before .before .before .before .before .before .before .before .before .before .before .number .ensures) (c .before .before .before .before .before .before .before .before .before .before .before .before .before .before .if1 .left)) (c .touched .result) (c .touched .ensures),
     )
 
--- src/lib.rt:286:5
 last-requires : tie.Need-last-requires Inv-loop μ-loop
-last-requires c κs = let l = c .before .loop in (l .inv .0, omega (arith, l .inv .0 .low, c .loop-test .left), l .inv .2)
+last-requires c κs = let l = c .before .loop in (l .inv .0, omega (arith, l .inv .0 .low, c .loop-test .left), c .before .before .before .tally .ensures, l .inv .2)
 
--- src/lib.rt:264:1
 returns-3 : tie.Need-returns-3 Inv-loop μ-loop
-returns-3 c = let l = c .before .before .loop in last-is (c .before .before .before .before .args .held) (l .lists) _ (l .inv .1) (omega (arith, l .inv .0 .low, c .before .loop-test .left)) _ (c .last .ensures)
+returns-3 c = let l = c .before .before .loop in last-is (c .before .before .before .before .before .args .held) (l .lists) _ (l .inv .1) (omega (arith, l .inv .0 .low, c .before .loop-test .left)) _ (c .last .ensures)
 
 pub judge-spec : {M : Type 1} → statement M
 judge-spec =
@@ -89,6 +72,7 @@ judge-spec =
     (tie.spec
     Inv-loop
     μ-loop
+    tally-requires
     start-requires
     loop-holds
     next-requires

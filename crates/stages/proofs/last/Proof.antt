@@ -5,7 +5,7 @@ use Rattle.stages.proofs.last.Statement.{statement}
 use Rattle.stages.proofs.last.Tie as tie
 
 next-requires : tie.Need-next-requires
-next-requires c κs = (c .pre .0, c .pre .2)
+next-requires c κs = (c .pre .0, c .pre .2, c .pre .3)
 
 number-requires : tie.Need-number-requires
 number-requires c κs = search needs

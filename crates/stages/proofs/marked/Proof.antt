@@ -7,31 +7,22 @@ use Rattle.labels.proofs.Pools.{choose-no, choose-yes}
 use borrow.Author.Needs.{needs}
 use Rattle.stages.proofs.marked.Statement.{statement}
 use Rattle.stages.proofs.marked.Tie as tie
-use Rattle.stages.proofs.marked.Reads as reads
-use Rattle.stages.proofs.marked.Lts as lts
-use Rattle.stages.proofs.steady.Reads as steady-reads
 
--- src/lib.rt:237:16
 cast-most : tie.Need-cast-most
 cast-most c = search needs
 
--- src/lib.rt:239:15
 array-share-prefix-supports : tie.Need-array-share-prefix-supports
 array-share-prefix-supports c = let e : length (c .before .before .before .before .before .before .args .entry .supports) ≡ 4 = search needs in omega (arith, c .before .before .before .before .before .before .pre .0)
 
--- src/lib.rt:239:15
 slice-aggregate-steady : tie.Need-slice-aggregate-steady
 slice-aggregate-steady c = let e : length (c .before .before .before .before .before .before .before .args .entry .supports) ≡ 4 = search needs in sym (length-take-le _ _ (omega (arith, c .before .before .before .before .before .before .before .pre .0)))
 
--- src/lib.rt:239:8
 steady-requires : tie.Need-steady-requires
 steady-requires c κs = search needs
 
--- src/lib.rt:233:1
 returns : tie.Need-returns
 returns c = choose-yes _ _ (c .before .steady .ensures) _ _ (c .if1 .taken)
 
--- src/lib.rt:233:1
 returns-2 : tie.Need-returns-2
 returns-2 c = choose-no _ _ (c .before .steady .ensures) _ _ (c .if1 .left)
 

@@ -5,33 +5,24 @@ use Rattle.stages.proofs.Keeps.{out-count, out-not, out-sets}
 use borrow.Author.Needs.{needs}
 use Rattle.stages.proofs.outdated.Statement.{statement}
 use Rattle.stages.proofs.outdated.Tie as tie
-use Rattle.stages.proofs.outdated.Reads as reads
-use Rattle.stages.proofs.outdated.Lts as lts
-use Rattle.stages.proofs.same_sets.Reads as same-sets-reads
 
--- src/lib.rt:163:9
 returns : tie.Need-returns
-returns c = out-count _ _ _ (c .before .before .args .stale) (replicate 129 1) (c .if1 .taken)
+returns c = out-count _ _ _ (c .before .args .stale) (replicate 129 1) (c .if1 .taken)
 
--- src/lib.rt:166:18
 slice-aggregate-same-sets : tie.Need-slice-aggregate-same-sets
 slice-aggregate-same-sets c = search needs
 
--- src/lib.rt:166:28
 slice-aggregate-same-sets-2 : tie.Need-slice-aggregate-same-sets-2
 slice-aggregate-same-sets-2 c = search needs
 
--- src/lib.rt:166:8
 same-sets-requires : tie.Need-same-sets-requires
-same-sets-requires c κs = let a : length (c .before .before .before .before .before .args .t2) ≡ 32 = search needs in let b : length (c .before .before .before .before .before .args .later .sets) ≡ 32 = search needs in a ∙ sym b
+same-sets-requires c κs = let a : length (c .before .before .before .args .t2) ≡ 32 = search needs in let b : length (c .before .before .before .args .t4) ≡ 32 = search needs in a ∙ sym b
 
--- src/lib.rt:167:9
 returns-2 : tie.Need-returns-2
-returns-2 c = out-sets _ _ _ (c .before .before .before .before .before .before .before .args .stale) (replicate 129 1) (c .before .before .before .before .before .if1 .left) _ (c .before .same-sets .ensures) (c .if2 .taken)
+returns-2 c = out-sets _ _ _ (c .before .before .before .before .before .args .stale) (replicate 129 1) (c .before .before .before .before .if1 .left) _ (c .before .same-sets .ensures) (c .if2 .taken)
 
--- src/lib.rt:159:1
 returns-3 : tie.Need-returns-3
-returns-3 c = out-not _ _ _ (c .before .before .before .before .before .before .before .args .stale) (replicate 129 1) (c .before .before .before .before .before .if1 .left) _ (c .before .same-sets .ensures) (c .if2 .left)
+returns-3 c = out-not _ _ _ (c .before .before .before .before .before .args .stale) (replicate 129 1) (c .before .before .before .before .if1 .left) _ (c .before .same-sets .ensures) (c .if2 .left)
 
 pub outdated-spec : {M : Type 1} → statement M
 outdated-spec =

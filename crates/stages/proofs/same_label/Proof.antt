@@ -5,79 +5,58 @@ use Rattle.stages.proofs.Keeps.{label-compared, label-differs}
 use borrow.Author.Needs.{needs}
 use Rattle.stages.proofs.same_label.Statement.{statement}
 use Rattle.stages.proofs.same_label.Tie as tie
-use Rattle.stages.proofs.same_label.Reads as reads
-use Rattle.stages.proofs.same_label.Lts as lts
-use Rattle.stages.proofs.same_sets.Reads as same-sets-reads
 
--- src/lib.rt:207:13
 sub-i : tie.Need-sub-i
 sub-i c = search needs
 
--- src/lib.rt:208:8
 shared-slice-read-if1 : tie.Need-shared-slice-read-if1
 shared-slice-read-if1 c = search needs
 
--- src/lib.rt:208:20
 shared-slice-read-if1-2 : tie.Need-shared-slice-read-if1-2
 shared-slice-read-if1-2 c = search needs
 
--- src/lib.rt:209:9
 returns : tie.Need-returns
 returns c = label-differs _ _ _ _ (c .before .before .before .before .before .before .before .pre .2) (c .before .before .before .before .before .before .before .pre .3) _ (c .before .before .before .before .before .before .before .pre .0) (c .before .before .before .before .before .before .before .pre .1) (c .if1 .taken)
 
--- src/lib.rt:211:16
 shared-slice-read-size : tie.Need-shared-slice-read-size
 shared-slice-read-size c = search needs
 
--- src/lib.rt:211:16
 cast-size : tie.Need-cast-size
 cast-size c = omega (arith, c .before .before .before .before .before .before .before .before .pre .2 .sizes-small (c .before .before .before .before .before .before .before .before .args .n - 1))
 
--- src/lib.rt:212:16
 mul-from : tie.Need-mul-from
 mul-from c = search needs
 
--- src/lib.rt:213:15
 add-end : tie.Need-add-end
 add-end c = omega (arith, c .before .before .before .before .before .before .before .before .pre .2 .sizes-small (c .before .before .before .before .before .before .before .before .args .n - 1), c .before .before .before .before .before .before .before .before .pre .1)
 
--- src/lib.rt:214:15
 mul-same-sets : tie.Need-mul-same-sets
 mul-same-sets c = search needs
 
--- src/lib.rt:214:15
 sub-same-sets : tie.Need-sub-same-sets
 sub-same-sets c = search needs
 
--- src/lib.rt:214:15
 part-same-sets-start : tie.Need-part-same-sets-start
 part-same-sets-start c = search needs
 
--- src/lib.rt:214:15
 part-same-sets-end : tie.Need-part-same-sets-end
 part-same-sets-end c = omega (arith, c .before .before .before .before .before .before .before .before .pre .2 .sizes-small (c .before .before .before .before .before .before .before .before .args .n - 1), c .before .before .before .before .before .before .before .before .pre .1, c .before .before .before .before .before .before .before .before .pre .0, c .before .before .before .before .before .before .before .before .pre .2 .members-length)
 
--- src/lib.rt:214:36
 mul-same-sets-2 : tie.Need-mul-same-sets-2
 mul-same-sets-2 c = search needs
 
--- src/lib.rt:214:36
 sub-same-sets-2 : tie.Need-sub-same-sets-2
 sub-same-sets-2 c = search needs
 
--- src/lib.rt:214:36
 part-same-sets-start-2 : tie.Need-part-same-sets-start-2
 part-same-sets-start-2 c = search needs
 
--- src/lib.rt:214:36
 part-same-sets-end-2 : tie.Need-part-same-sets-end-2
 part-same-sets-end-2 c = omega (arith, c .before .before .before .before .before .before .before .before .before .pre .2 .sizes-small (c .before .before .before .before .before .before .before .before .before .args .n - 1), c .before .before .before .before .before .before .before .before .before .pre .1, c .before .before .before .before .before .before .before .before .before .pre .0, c .before .before .before .before .before .before .before .before .before .pre .3 .members-length)
 
--- src/lib.rt:214:5
 same-sets-requires : tie.Need-same-sets-requires
 same-sets-requires c κs = search needs
 
--- src/lib.rt:203:1
 returns-2 : tie.Need-returns-2
 returns-2 c = label-compared _ _ _ _ (c .before .before .before .before .before .before .before .before .before .before .before .pre .2) (c .before .before .before .before .before .before .before .before .before .before .before .pre .3) _ (c .before .before .before .before .before .before .before .before .before .before .before .pre .0) (c .before .before .before .before .before .before .before .before .before .before .before .pre .1) (c .before .before .before .before .if1 .left) _ (c .same-sets .ensures)
 

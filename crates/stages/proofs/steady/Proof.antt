@@ -8,9 +8,6 @@ use Rattle.stages.specs.Steps.{sameLabel}
 use Rattle.theory.specs.Lists.{allOf}
 use Rattle.stages.proofs.steady.Statement.{statement}
 use Rattle.stages.proofs.steady.Tie as tie
-use Rattle.stages.proofs.steady.Reads as reads
-use Rattle.stages.proofs.steady.Lts as lts
-use Rattle.stages.proofs.same_label.Reads as same-label-reads
 
 abbrev Inv-loop : tie.InvT-loop
 Inv-loop supports members sizes later counts i₀ i = (i ≤ length supports) × (allOf (sameLabel members sizes later counts) supports ≡ allOf (sameLabel members sizes later counts) (drop i supports))
@@ -18,35 +15,27 @@ Inv-loop supports members sizes later counts i₀ i = (i ≤ length supports) ×
 abbrev μ-loop : tie.MeasureT-loop
 μ-loop supports members sizes later counts i₀ i = length supports - i
 
--- src/lib.rt:223:5
 loop-holds : tie.Need-loop-holds Inv-loop μ-loop
 loop-holds c = (omega arith, refl)
 
--- src/lib.rt:224:24
 shared-slice-read-same-label : tie.Need-shared-slice-read-same-label Inv-loop μ-loop
 shared-slice-read-same-label c = omega arith
 
--- src/lib.rt:224:13
 same-label-requires : tie.Need-same-label-requires Inv-loop μ-loop
 same-label-requires c κs = (c .before .before .before .before .before .before .before .before .pre .0 .range (c .before .before .loop .i) (omega arith) .0, c .before .before .before .before .before .before .before .before .pre .0 .range (c .before .before .loop .i) (omega arith) .1, c .before .before .before .before .before .before .before .before .pre .1, c .before .before .before .before .before .before .before .before .pre .2)
 
--- src/lib.rt:225:13
 returns : tie.Need-returns Inv-loop μ-loop
 returns c = all-no _ _ (c .before .before .before .before .loop .i) (c .before .before .before .before .loop .inv .1) (omega arith) _ (c .before .same-label .ensures) (c .if1 .taken)
 
--- src/lib.rt:227:9
 add-i : tie.Need-add-i Inv-loop μ-loop
 add-i c = omega arith
 
--- src/lib.rt:223:5
 loop-less : tie.Need-loop-less Inv-loop μ-loop
 loop-less c = omega arith
 
--- src/lib.rt:223:5
 loop-again : tie.Need-loop-again Inv-loop μ-loop
 loop-again c = (omega arith, all-on _ _ (c .before .before .before .before .loop .i) (c .before .before .before .before .loop .inv .1) (omega arith) _ (c .before .same-label .ensures) (c .if1 .left))
 
--- src/lib.rt:218:1
 returns-2 : tie.Need-returns-2 Inv-loop μ-loop
 returns-2 c = all-end _ _ (c .before .loop .i) (c .before .loop .inv .1) (omega arith)
 

@@ -1,24 +1,17 @@
 -- `stages::touched` meets its contract. Assumes nothing.
-use mathlib.Core.List.{[], map}
+use mathlib.Core.List.{map}
 use mathlib.Core.Path.{_∙_, _≡_, refl}
 use Prim.Native.Nat.{_-_, _≤_}
 use native.Mathlib.Omega.{arith}
 use lib.ListN.{length, length-set, replicate, take}
-use Rattle.labels.proofs.Ranges.{held-few, held-low, held-ranged}
 use Rattle.rules.proofs.Scan.{right-elim}
+use Rattle.rules.proofs.Steps.{beyond}
 use Rattle.rules.specs.Held.{meaning}
-use Rattle.rules.specs.declared.Entry.{Entry}
 use Rattle.stages.proofs.Keeps.{touched-end, touched-none, touched-turn}
+use Rattle.stages.proofs.Parts.{entry-few, entry-low, entry-ranged}
 use Rattle.stages.specs.Steps.{Untouched, sameLabel}
 use Rattle.stages.proofs.touched.Statement.{statement}
 use Rattle.stages.proofs.touched.Tie as tie
-use Rattle.stages.proofs.touched.Reads as reads
-use Rattle.stages.proofs.touched.Lts as lts
-use Rattle.stages.proofs.marked.Reads as marked-reads
-
--- what an entry beyond the last would be
-abbrev none : Entry
-none = record { consequent = 0; count = 0; supports = [] }
 
 abbrev Inv-loop : tie.InvT-loop
 Inv-loop members sizes later counts held count marks₀ j₀ marks j = (j ≤ count) × (length marks ≡ 129) × Untouched (sameLabel members sizes later counts) (map meaning (take j (held .entries))) marks
@@ -26,51 +19,40 @@ Inv-loop members sizes later counts held count marks₀ j₀ marks j = (j ≤ co
 abbrev μ-loop : tie.MeasureT-loop
 μ-loop members sizes later counts held count marks₀ j₀ marks j = count - j
 
--- src/lib.rt:254:5
 loop-holds : tie.Need-loop-holds Inv-loop μ-loop
 loop-holds c = (omega arith, refl, touched-none _ (replicate 129 0))
 
--- src/lib.rt:255:21
 mul-entry : tie.Need-mul-entry Inv-loop μ-loop
 mul-entry c = omega (arith, right-elim _ (c .before .before .before .before .before .before .pre .0 .right) .few)
 
--- src/lib.rt:255:21
 element-copy-out-entry : tie.Need-element-copy-out-entry Inv-loop μ-loop
 element-copy-out-entry c = omega (arith, right-elim _ (c .before .before .before .before .before .before .pre .0 .right) .few, right-elim _ (c .before .before .before .before .before .before .pre .0 .right) .long)
 
--- src/lib.rt:256:17
 cast-n : tie.Need-cast-n Inv-loop μ-loop
-cast-n c = omega (arith, held-low _ (c .before .before .before .before .before .before .before .before .pre .0) (c .before .before .before .loop .j) none (c .before .before .loop-test .taken))
+cast-n c = omega (arith, entry-low _ (c .before .before .before .before .before .before .before .before .pre .0) (c .before .before .before .loop .j) beyond (c .before .before .loop-test .taken))
 
--- src/lib.rt:257:34
 array-read-marked : tie.Need-array-read-marked Inv-loop μ-loop
-array-read-marked c = omega (arith, held-low _ (c .before .before .before .before .before .before .before .before .pre .0) (c .before .before .before .loop .j) none (c .before .before .loop-test .taken), c .before .before .before .loop .inv .1)
+array-read-marked c = omega (arith, entry-low _ (c .before .before .before .before .before .before .before .before .pre .0) (c .before .before .before .loop .j) beyond (c .before .before .loop-test .taken), c .before .before .before .loop .inv .1)
 
--- src/lib.rt:257:20
 marked-requires : tie.Need-marked-requires Inv-loop μ-loop
-marked-requires c κs = (held-few _ (c .before .before .before .before .before .before .before .before .pre .0) (c .before .before .before .loop .j) _ (c .before .before .loop-test .taken), held-ranged _ (c .before .before .before .before .before .before .before .before .pre .0) (c .before .before .before .loop .j) _ (c .before .before .loop-test .taken), c .before .before .before .before .before .before .before .before .pre .1, c .before .before .before .before .before .before .before .before .pre .2)
+marked-requires c κs = (entry-few _ (c .before .before .before .before .before .before .before .before .pre .0) (c .before .before .before .loop .j) _ (c .before .before .loop-test .taken), entry-ranged _ (c .before .before .before .before .before .before .before .before .pre .0) (c .before .before .before .loop .j) _ (c .before .before .loop-test .taken), c .before .before .before .before .before .before .before .before .pre .1, c .before .before .before .before .before .before .before .before .pre .2)
 
--- src/lib.rt:257:9
 array-write-marks : tie.Need-array-write-marks Inv-loop μ-loop
-array-write-marks c = omega (arith, held-low _ (c .before .before .before .before .before .before .before .before .before .pre .0) (c .before .before .before .before .loop .j) none (c .before .before .before .loop-test .taken), c .before .before .before .before .loop .inv .1)
+array-write-marks c = omega (arith, entry-low _ (c .before .before .before .before .before .before .before .before .before .pre .0) (c .before .before .before .before .loop .j) beyond (c .before .before .before .loop-test .taken), c .before .before .before .before .loop .inv .1)
 
--- src/lib.rt:258:9
 add-j : tie.Need-add-j Inv-loop μ-loop
 add-j c = omega (arith, c .before .before .before .loop-test .taken, right-elim _ (c .before .before .before .before .before .before .before .before .before .pre .0 .right) .few)
 
--- src/lib.rt:254:5
 loop-less : tie.Need-loop-less Inv-loop μ-loop
 loop-less c = omega (arith, c .before .before .before .loop-test .taken)
 
--- src/lib.rt:254:5
 loop-again : tie.Need-loop-again Inv-loop μ-loop
 loop-again c =
     let s = c .before .before .before .before .before .before .before .before .before in
     let l = c .before .before .before .before .loop in
     let r = right-elim _ (s .pre .0 .right) in
-    (omega (arith, c .before .before .before .loop-test .taken), length-set (l .marks) _ _ ∙ l .inv .1, touched-turn _ (s .args .t1 .entries) (l .j) _ (omega (arith, c .before .before .before .loop-test .taken, r .few, r .long)) (l .marks) (l .inv .2) (omega (arith, held-low _ (s .pre .0) (l .j) none (c .before .before .before .loop-test .taken), l .inv .1)) _ (c .marked .ensures))
+    (omega (arith, c .before .before .before .loop-test .taken), length-set (l .marks) _ _ ∙ l .inv .1, touched-turn _ (s .args .t1 .entries) (l .j) _ (omega (arith, c .before .before .before .loop-test .taken, r .few, r .long)) (l .marks) (l .inv .2) (omega (arith, entry-low _ (s .pre .0) (l .j) beyond (c .before .before .before .loop-test .taken), l .inv .1)) _ (c .marked .ensures))
 
--- src/lib.rt:247:1
 returns : tie.Need-returns Inv-loop μ-loop
 returns c = touched-end _ (c .before .before .before .before .before .before .args .t1 .entries) (c .before .before .before .before .before .before .args .t1 .count) (c .before .loop .j) (c .before .loop .inv .0) (c .loop-test .left) (c .before .loop .marks) (c .before .loop .inv .2)
 
