@@ -1,4 +1,4 @@
--- A list whose labels did not change in the last step does not change in this one. Assumes nothing.
+-- A list whose supports' labels did not change in the last step loses in this one what contains a nogood, and nothing else. Assumes nothing.
 use mathlib.Core.Bool.{Bool, _&&_, false, not, true}
 use mathlib.Core.List.{List, List·Memᴰ·cases-cons, List·Memᴰ as Mem, [], _∷_, map, List·Memᴰ·head as here, List·Memᴰ·tail as there}
 use mathlib.Core.Logic.{_⊎_, inl, inr, ⊎-elim}
@@ -21,48 +21,84 @@ use Rattle.stages.proofs.Parts.{wide}
 use Rattle.stages.proofs.Stages.{lies, listed-taken, nogoods-lie, nogoods-listed, part-lies}
 use Rattle.stages.specs.Judged.{Judgeable}
 use Rattle.stages.specs.Lists.{listsOf}
-use Rattle.stages.specs.Steps.{Fresh, Lasting, Listed, Reached, Room, Steady, Untouched, sameLabel, stageBy}
+use Rattle.stages.specs.Steps.{Fresh, Listed, Reached, Room, Steady, Told, Untouched, sameLabel, sparedOf, stageBy}
 use Rattle.stages.specs.declared.Lists.{Lists}
+use Rattle.theory.proofs.Following.{follows-keep}
 use Rattle.theory.proofs.Judgement.{same-elim, stage-label, stage-labelIn, stage-nogoods}
+use Rattle.theory.proofs.Label.{contains-elim, contains-intro, nogood-below, nogood-elim}
 use Rattle.theory.proofs.Lasting.{joins-same}
-use Rattle.theory.proofs.Lists.{all-elim, and-left, and-right, clash, not-so}
+use Rattle.theory.proofs.Lists.{all-elim, and-left, and-right, clash, not-so, those-elim, those-intro}
+use Rattle.theory.proofs.Order.{sorted-those}
 use Rattle.theory.proofs.Select.{Selection, selection-unique}
-use Rattle.theory.proofs.Sets.{within-refl}
+use Rattle.theory.proofs.Sets.{within-refl, within-trans}
 use Rattle.theory.proofs.Start.{label-selection, nogood-selection}
 use Rattle.theory.proofs.Step.{candidates-cases, candidates-join, candidates-old, labelCands, nogoodCands}
 use Rattle.theory.specs.Judge.{sameSets}
-use Rattle.theory.specs.Lists.{allOf, choose}
-use Rattle.theory.specs.Sets.{contains}
+use Rattle.theory.specs.Lists.{allOf, choose, those}
+use Rattle.theory.specs.Sets.{before, contains, within}
 use Rattle.theory.specs.Stages.{Justification, labelAt, nogoodsAt}
 use Rattle.theory.specs.Step.{candidates, labelIn}
 
 marked-all : (n : ℕ) → n ≤ 128 → getD (replicate 129 (suc zero)) n zero ≡ zero → ⊥
 marked-all n h z = omega (arith, getD-replicate 129 n (suc zero) zero (omega arith))
 
+told : (b : Bool) → not b ≡ false → b ≡ true
+told true z = refl
+told false z = clash refl z
+
+those-all : (p : ℕ → Bool) (l : List ℕ) → ((E : ℕ) → Mem E l → p E ≡ true) → those p l ≡ l
+unfolding those
+those-all p [] f = refl
+those-all p (x ∷ l) f = rw (f x (here refl), those-all p l (λ y m. f y (there m)))
+
+-- a part of what is spared is spared
+spared-below : (l : List ℕ) (F H : ℕ) → within F H ≡ true → not (contains l H) ≡ true → not (contains l F) ≡ true
+spared-below l F H w c =
+    ap not (not-so (contains l F) (λ h. let g = contains-elim l F h in clash (contains-intro H (g .1) (within-trans (g .0) F H (g .2) w)) (not-true (contains l H) c)))
+
 -- ---- over the definitions
+-- what contains a nogood contains one at the next stage
+nogoods-grow : (A : ℕ) (J : List Justification) (k H : ℕ) → not (contains (nogoodsAt A J (suc k)) H) ≡ true → not (contains (nogoodsAt A J k) H) ≡ true
+nogoods-grow A J k H c =
+    ap not (not-so (contains (nogoodsAt A J k) H) (λ h.
+    let g = contains-elim (nogoodsAt A J k) H h in
+    let i = nogood-elim A J k (g .1) in
+    let b = nogood-below A J (suc k) (g .0) (i .small) (follows-keep J k (g .0) zero (i .least .has)) in
+    clash (contains-intro H (b .1) (within-trans (b .0) (g .0) H (b .2) (g .2))) (not-true (contains (nogoodsAt A J (suc k)) H) c)))
+
 module _ (A : ℕ) (J : List Justification) (k n : ℕ) (same : (r : Justification) → Mem r J → r .consequent ≡ n → (s : ℕ) → Mem s (r .supports) → labelAt A J (suc k) s ≡ labelAt A J k s) where
-  still : (X old : List ℕ) (p : ℕ → Bool) → Selection X (candidates (labelAt A J k) old J n) p → Selection X (candidates (labelAt A J (suc k)) X J n) p
-  still X old p s = record {
-    sorted = s .sorted;
-    apart = s .apart;
-    from = λ E m. (candidates-old (labelAt A J (suc k)) J n m, s .from E m .1);
-    inner = λ H m c. ⊎-elim (λ o. (H, o, within-refl H))
-        (λ w. s .inner H (candidates-join (labelAt A J k) old J n (w .0) (w .1) (w .2)
-        (subst (Mem H) (joins-same (labelAt A J (suc k)) (labelAt A J k) (w .0 .supports) zero (same (w .0) (w .1) (w .2))) (w .3))) c)
+  -- a list that was selected by p: those of it that pass q are selected by q
+  left : (X old : List ℕ) (p q : ℕ → Bool) → ((H : ℕ) → q H ≡ true → p H ≡ true) → ((F H : ℕ) → within F H ≡ true → q H ≡ true → q F ≡ true)
+      → Selection X (candidates (labelAt A J k) old J n) p → Selection (those q X) (candidates (labelAt A J (suc k)) X J n) q
+  left X old p q more below s = record {
+    sorted = sorted-those before q X (s .sorted);
+    apart = λ F E f e w. s .apart F E (those-elim q X f .0) (those-elim q X e .0) w;
+    from = λ E m. let t = those-elim q X m in (candidates-old (labelAt A J (suc k)) J n (t .0), t .1);
+    inner = λ H m c. ⊎-elim (λ o. (H, those-intro q o c, within-refl H))
+        (λ w.
+        let i = s .inner H (candidates-join (labelAt A J k) old J n (w .0) (w .1) (w .2)
+        (subst (Mem H) (joins-same (labelAt A J (suc k)) (labelAt A J k) (w .0 .supports) zero (same (w .0) (w .1) (w .2))) (w .3))) (more H c) in
+        (i .0, those-intro q (i .1) (below (i .0) H (i .2) c), i .2))
         (candidates-cases (labelAt A J (suc k)) X J n m);
   }
 
-  label-still : nogoodsAt A J (suc (suc k)) ≡ nogoodsAt A J (suc k) → labelAt A J (suc (suc k)) n ≡ labelAt A J (suc k) n
-  label-still e =
-      let p : ℕ → Bool = λ E. not (contains (nogoodsAt A J (suc k)) E) in
-      selection-unique (labelAt A J (suc (suc k)) n) (labelAt A J (suc k) n) (labelCands A J (suc k) n) p
-      (subst (λ (l : List ℕ). Selection (labelAt A J (suc (suc k)) n) (labelCands A J (suc k) n) (λ E. not (contains l E))) e (label-selection A J (suc k) n))
-      (still (labelAt A J (suc k) n) (labelAt A J k n) p (label-selection A J k n))
+  -- a label loses what contains a nogood, and nothing else
+  label-left : labelAt A J (suc (suc k)) n ≡ sparedOf (nogoodsAt A J (suc (suc k))) (labelAt A J (suc k) n)
+  label-left =
+      let N : List ℕ = nogoodsAt A J (suc (suc k)) in
+      let q : ℕ → Bool = λ E. not (contains N E) in
+      selection-unique (labelAt A J (suc (suc k)) n) (those q (labelAt A J (suc k) n)) (labelCands A J (suc k) n) q (label-selection A J (suc k) n)
+      (left (labelAt A J (suc k) n) (labelAt A J k n) (λ E. not (contains (nogoodsAt A J (suc k)) E)) q (nogoods-grow A J (suc k)) (spared-below N) (label-selection A J k n))
+
+label-spared : (A : ℕ) (J : List Justification) (k n : ℕ) → sparedOf (nogoodsAt A J (suc k)) (labelAt A J (suc k) n) ≡ labelAt A J (suc k) n
+label-spared A J k n = those-all (λ E. not (contains (nogoodsAt A J (suc k)) E)) (labelAt A J (suc k) n) (λ E m. label-selection A J k n .from E m .1)
 
 nogoods-still : (A : ℕ) (J : List Justification) (k : ℕ) → ((r : Justification) → Mem r J → r .consequent ≡ zero → (s : ℕ) → Mem s (r .supports) → labelAt A J (suc k) s ≡ labelAt A J k s) → nogoodsAt A J (suc (suc k)) ≡ nogoodsAt A J (suc k)
 nogoods-still A J k same =
-    selection-unique (nogoodsAt A J (suc (suc k))) (nogoodsAt A J (suc k)) (nogoodCands A J (suc k)) (λ E. true) (nogood-selection A J (suc k))
-    (still A J k zero same (nogoodsAt A J (suc k)) (nogoodsAt A J k) (λ E. true) (nogood-selection A J k))
+    let N : List ℕ = nogoodsAt A J (suc k) in
+    selection-unique (nogoodsAt A J (suc (suc k))) (those (λ E. true) N) (nogoodCands A J (suc k)) (λ E. true) (nogood-selection A J (suc k))
+    (left A J k zero same N (nogoodsAt A J k) (λ E. true) (λ E. true) (λ H c. c) (λ F H w c. c) (nogood-selection A J k))
+    ∙ those-all (λ E. true) N (λ E m. refl)
 
 -- ---- over what is held
 module _ (h : Held) (ok : Judgeable h) (k : ℕ) where
@@ -88,54 +124,53 @@ module _ (h : Held) (ok : Judgeable h) (k : ℕ) where
       ap (λ (m : ℕ). stageBy h m .nogoods) (at-next (d .before) (d .next)) ∙ stage-nogoods A N J (suc (suc (d .before)))
       ∙ nogoods-still A J (d .before) (same-at 0 d) ∙ sym (ap (λ (m : ℕ). stageBy h m .nogoods) (d .next) ∙ stage-nogoods A N J (suc (d .before)))
 
-  label-keep : stageBy h (k + 1) .nogoods ≡ stageBy h k .nogoods → (i : ℕ) → i < N → Steady h k (i + 1) → getD (stageBy h (k + 1) .labels) i [] ≡ getD (stageBy h k .labels) i []
-  label-keep e i low d =
-      let b : ℕ = d .before in
-      let a : i + 1 ≡ suc i = add-one i in
-      let ng : nogoodsAt A J (suc (suc b)) ≡ nogoodsAt A J (suc b) = sym (ap (λ (m : ℕ). stageBy h m .nogoods) (at-next b (d .next)) ∙ stage-nogoods A N J (suc (suc b))) ∙ e ∙ ap (λ (m : ℕ). stageBy h m .nogoods) (d .next) ∙ stage-nogoods A N J (suc b) in
-      ap (λ (m : ℕ). getD (stageBy h m .labels) i []) (at-next b (d .next)) ∙ stage-label A N J (suc (suc b)) i low
-      ∙ label-still A J b (suc i) (λ r m q s t. same-at (i + 1) d r m (q ∙ sym a) s t) ng
-      ∙ sym (ap (λ (m : ℕ). getD (stageBy h m .labels) i []) (d .next) ∙ stage-label A N J (suc b) i low)
+  -- ---- a label without a mark
+  module _ (stale : List ℕ) (f : Fresh h k stale) (i : ℕ) (low : i < N) (z : getD stale (i + 1) 0 ≡ 0) where
+    steady : Steady h k (i + 1)
+    steady = f (i + 1) (omega (arith, wide h ok)) z
 
-  -- the nogoods as they were: what is not stale lasts
-  keeps : (stale : List ℕ) → Fresh h k stale → stageBy h (k + 1) .nogoods ≡ stageBy h k .nogoods → Lasting h k stale
-  keeps stale f e = λ i low z. label-keep e i low (f (i + 1) (omega (arith, wide h ok)) z)
+    label-next : getD (stageBy h (k + 1) .labels) i [] ≡ labelAt A J (suc (suc (steady .before))) (suc i)
+    label-next = ap (λ (m : ℕ). getD (stageBy h m .labels) i []) (at-next (steady .before) (steady .next)) ∙ stage-label A N J (suc (suc (steady .before))) i low
 
-  none-lasts : Lasting h k (replicate 129 1)
-  none-lasts = λ i low z. absurd (marked-all (i + 1) (omega (arith, wide h ok)) z)
+    label-now : getD (stageBy h k .labels) i [] ≡ labelAt A J (suc (steady .before)) (suc i)
+    label-now = ap (λ (m : ℕ). getD (stageBy h m .labels) i []) (steady .next) ∙ stage-label A N J (suc (steady .before)) i low
 
-  -- ---- what is stale once the nogoods are known
-  pub outdated-lasts : (l : Lists) → l ≡ listsOf k (stageBy h k) → Room (stageBy h k) → (many : ℕ) (later : List ℕ) → Listed (stageBy h (k + 1) .nogoods) many later
-      → (stale : List ℕ) → Fresh h k stale → (r : List ℕ) → r ≡ choose (eqb (l .count) many && sameSets (l .nogoods) later) stale (replicate 129 1) → Lasting h k r
-  outdated-lasts l is room many later n stale f r e = go (eqb (l .count) many && sameSets (l .nogoods) later) refl e
-    where
-      go : (t : Bool) → eqb (l .count) many && sameSets (l .nogoods) later ≡ t → r ≡ choose t stale (replicate 129 1) → Lasting h k r
-      go false q w = subst (Lasting h k) (sym w) none-lasts
-      go true q w =
-          let c : l .count ≡ many = eqb-true (l .count) many (and-left (eqb (l .count) many) (sameSets (l .nogoods) later) q) in
-          let s : l .nogoods ≡ later = same-elim (l .nogoods) later (and-right (eqb (l .count) many) (sameSets (l .nogoods) later) q) in
-          let g : stageBy h (k + 1) .nogoods ≡ stageBy h k .nogoods =
-          sym (listed-taken (stageBy h (k + 1) .nogoods) many later n) ∙ sym (ap₂ (λ (n : ℕ) (m : List ℕ). take n m) c s) ∙ nogoods-lie k (stageBy h k) room l is in
-          subst (Lasting h k) (sym w) (keeps stale f g)
+    nogoods-next : stageBy h (k + 1) .nogoods ≡ nogoodsAt A J (suc (suc (steady .before)))
+    nogoods-next = ap (λ (m : ℕ). stageBy h m .nogoods) (at-next (steady .before) (steady .next)) ∙ stage-nogoods A N J (suc (suc (steady .before)))
 
-  -- no mark for falsity: the nogoods stay
-  module _ (stale : List ℕ) (f : Fresh h k stale) (z : getD stale 0 0 ≡ 0) where
-    pub kept-lasts : Lasting h k stale
-    kept-lasts = keeps stale f (nogoods-keep (f 0 (omega arith) z))
+    nogoods-now : stageBy h k .nogoods ≡ nogoodsAt A J (suc (steady .before))
+    nogoods-now = ap (λ (m : ℕ). stageBy h m .nogoods) (steady .next) ∙ stage-nogoods A N J (suc (steady .before))
 
-    pub kept-listed : (l : Lists) → l ≡ listsOf k (stageBy h k) → Room (stageBy h k) → Listed (stageBy h (k + 1) .nogoods) (l .count) (l .nogoods)
-    kept-listed l is room = subst (λ (n : List ℕ). Listed n (l .count) (l .nogoods)) (sym (nogoods-keep (f 0 (omega arith) z))) (nogoods-listed k (stageBy h k) room l is)
+    -- what the nogoods of the next stage leave of it
+    pub label-struck : getD (stageBy h (k + 1) .labels) i [] ≡ sparedOf (stageBy h (k + 1) .nogoods) (getD (stageBy h k .labels) i [])
+    label-struck =
+        let a : i + 1 ≡ suc i = add-one i in
+        label-next ∙ label-left A J (steady .before) (suc i) (λ r m q s t. same-at (i + 1) steady r m (q ∙ sym a) s t) ∙ sym (ap₂ sparedOf nogoods-next label-now)
+
+    -- all of it, where they are the same
+    pub label-kept : stageBy h (k + 1) .nogoods ≡ stageBy h k .nogoods → getD (stageBy h (k + 1) .labels) i [] ≡ getD (stageBy h k .labels) i []
+    label-kept e = label-struck ∙ ap₂ sparedOf (e ∙ nogoods-now) label-now ∙ label-spared A J (steady .before) (suc i) ∙ sym label-now
+
+  -- ---- whether the nogoods changed
+  pub news-told : (l : Lists) → l ≡ listsOf k (stageBy h k) → Room (stageBy h k) → (many : ℕ) (later : List ℕ) → Listed (stageBy h (k + 1) .nogoods) many later
+      → (r : Bool) → r ≡ not (eqb (l .count) many && sameSets (l .nogoods) later) → Told h k r
+  news-told l is room many later n r e z =
+      let q : eqb (l .count) many && sameSets (l .nogoods) later ≡ true = told (eqb (l .count) many && sameSets (l .nogoods) later) (sym e ∙ z) in
+      let c : l .count ≡ many = eqb-true (l .count) many (and-left (eqb (l .count) many) (sameSets (l .nogoods) later) q) in
+      let s : l .nogoods ≡ later = same-elim (l .nogoods) later (and-right (eqb (l .count) many) (sameSets (l .nogoods) later) q) in
+      sym (listed-taken (stageBy h (k + 1) .nogoods) many later n) ∙ sym (ap₂ (λ (n : ℕ) (m : List ℕ). take n m) c s) ∙ nogoods-lie k (stageBy h k) room l is
+
+  -- no support of falsity changed: the nogoods stay
+  pub kept-listed : Steady h k 0 → (l : Lists) → l ≡ listsOf k (stageBy h k) → Room (stageBy h k) → Listed (stageBy h (k + 1) .nogoods) (l .count) (l .nogoods)
+  kept-listed d l is room = subst (λ (n : List ℕ). Listed n (l .count) (l .nogoods)) (sym (nogoods-keep d)) (nogoods-listed k (stageBy h k) room l is)
 
 -- ---- the tests of the code
-module _ (a b : ℕ) (t : Bool) (x y : List ℕ) where
-  pub out-count : (a ≡ b → ⊥) → y ≡ choose (eqb a b && t) x y
-  out-count h = ap (λ (c : Bool). choose (c && t) x y) (sym (ne-eqb a b h))
+module _ (a b : ℕ) (t : Bool) where
+  pub news-count : (a ≡ b → ⊥) → true ≡ not (eqb a b && t)
+  news-count h = ap (λ (c : Bool). not (c && t)) (sym (ne-eqb a b h))
 
-  pub out-sets : a ≡ b → (r : Bool) → r ≡ t → r ≡ true → x ≡ choose (eqb a b && t) x y
-  out-sets h r e q = ap₂ (λ (c d : Bool). choose (c && d) x y) (sym (eq-eqb a b h)) (sym (sym e ∙ q))
-
-  pub out-not : a ≡ b → (r : Bool) → r ≡ t → r ≡ false → y ≡ choose (eqb a b && t) x y
-  out-not h r e q = ap₂ (λ (c d : Bool). choose (c && d) x y) (sym (eq-eqb a b h)) (sym (sym e ∙ q))
+  pub news-sets : a ≡ b → (r : Bool) → r ≡ t → not r ≡ not (eqb a b && t)
+  news-sets h r e = ap₂ (λ (c d : Bool). not (c && d)) (sym (eq-eqb a b h)) e
 
 module _ (members sizes later counts : List ℕ) (a : Layout members sizes) (b : Layout later counts) (n : ℕ) (low : 1 ≤ n) (high : n ≤ 128) where
   pub label-differs : (getD sizes (n - 1) 0 ≡ getD counts (n - 1) 0 → ⊥) → false ≡ sameLabel members sizes later counts n
@@ -158,11 +193,7 @@ module _ (p : ℕ → Bool) (l : List ℕ) (i : ℕ) (inv : allOf p l ≡ allOf 
 
   pub all-on : i < length l → (r : Bool) → r ≡ p (getD l i 0) → not r ≡ false → allOf p l ≡ allOf p (drop (i + 1) l)
   unfolding allOf
-  all-on h r e q = inv ∙ ap (allOf p) (drop-cons l i 0 h) ∙ ap₂ (λ (b : Bool) (m : ℕ). b && allOf p (drop m l)) (sym e ∙ yes r q) (sym (add-one i))
-    where
-      yes : (b : Bool) → not b ≡ false → b ≡ true
-      yes true z = refl
-      yes false z = clash refl z
+  all-on h r e q = inv ∙ ap (allOf p) (drop-cons l i 0 h) ∙ ap₂ (λ (b : Bool) (m : ℕ). b && allOf p (drop m l)) (sym e ∙ told r q) (sym (add-one i))
 
   pub all-end : length l ≤ i → true ≡ allOf p l
   unfolding allOf

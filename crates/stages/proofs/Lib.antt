@@ -4,5 +4,6 @@ pub mod Writing
 pub mod Stages
 pub mod Nexts
 pub mod Keeps
+pub mod Spared
 pub mod Same
 pub mod Walk

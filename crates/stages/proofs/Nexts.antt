@@ -1,5 +1,5 @@
 -- From the lists of one stage to those of the next, list by list, over plain variables. Assumes nothing.
-use mathlib.Core.Bool.{Bool}
+use mathlib.Core.Bool.{Bool, false}
 use mathlib.Core.List.{List, [], _∷_}
 use mathlib.Core.Logic.{⊎-elim}
 use mathlib.Core.Path.{_∙_, _≡_, ap, ap₂, refl, subst, sym}
@@ -21,7 +21,7 @@ use Rattle.stages.proofs.Parts.{below, first-candidates, part-candidate
 use Rattle.stages.proofs.Stages.{lies, nogoods-lie}
 use Rattle.stages.specs.Judged.{refusal}
 use Rattle.stages.specs.Lists.{listsOf}
-use Rattle.stages.specs.Steps.{Listed, Reached, fitted, fittedBy, stageBy, tallied}
+use Rattle.stages.specs.Steps.{Listed, Reached, Relabelled, fitted, fittedBy, stageBy, tallied}
 use Rattle.stages.specs.declared.Judged.{Judged}
 use Rattle.stages.specs.declared.Lists.{Lists}
 use Rattle.theory.proofs.Lasting.{Upto, candidates-same}
@@ -55,6 +55,17 @@ module _ (limit : ℕ) (X : List ℕ) (r : Built) (is : r ≡ builtOf limit (tak
 -- ---- the nogoods that are built, where they are not over
 pub built-listed : (X : List ℕ) (r : Built) → r ≡ builtOf 32 (take (32 + 1) X) → r .count ≤ 32 → Listed X (r .count) (r .sets)
 built-listed X r is h = record { counted = built-length 32 X r is h; few = h; lie = built-sets 32 X r is h }
+
+-- ---- those that stay, as if they were built
+pub listed-built : (X : List ℕ) (count : ℕ) (places : List ℕ) → Listed X count places → _≡_ {A = Built} (record { count = count; sets = places }) (builtOf 32 (take (32 + 1) X))
+unfolding builtOf
+listed-built X count places n =
+    let few : length X ≤ 32 = omega (arith, n .counted, n .few) in
+    let all : take 33 X ≡ X = take-all 33 X (omega arith) in
+    ap₂ made (n .counted ∙ ap length (sym all)) (n .lie ∙ ap (padded 0 32) (sym (ap (take 32) all ∙ take-all 32 X few)))
+  where
+    made : ℕ → List ℕ → Built
+    made c l = record { count = c; sets = l }
 
 -- ---- the lists that are built
 module _ (h : Held) (l : Lists) (re : Reached h l) where
@@ -116,19 +127,35 @@ module _ (k : ℕ) (s : Stage) where
   unfolding fitted nogoodsLong
   next-over h r e = e ∙ ap (λ (b : Bool). fittedBy b (labelLong limits s) (listsOf k s)) (sym (lt-ltb 32 (length (s .nogoods)) h))
 
-  module _ (few : length (s .nogoods) ≤ 32) (i : ℕ) (so : (j : ℕ) → j < i → length (getD (s .labels) j []) ≤ 12) where
-    pub next-beyond : i < length (s .labels) → 12 < length (getD (s .labels) i []) → (r : Judged) → r ≡ refusal (Label (i + 1)) → r ≡ fitted k s
-    unfolding fitted nogoodsLong labelLong
-    next-beyond low long r e =
-        let w : lowestLong 12 1 (s .labels) ≡ suc i = lowest-at 12 1 (s .labels) i low so long ∙ omega arith in
-        e ∙ ap (λ (n : ℕ). refusal (Label n)) (add-one i) ∙ sym (ap₂ (λ (b : Bool) (n : ℕ). fittedBy b n (listsOf k s)) (le-ltb 32 (length (s .nogoods)) few) w)
+  by-label : (r : ℕ) → (r ≡ 0 → ⊥) → (l : Lists) → refusal (Label r) ≡ fittedBy false r l
+  by-label zero n l = absurd (n refl)
+  by-label (suc r) n l = refl
 
-    pub next-fits : length (s .labels) ≤ i → (l : Lists) → l ≡ listsOf k s → _≡_ {A = Judged} (record { reply = Done; lists = l }) (fitted k s)
-    unfolding fitted nogoodsLong labelLong
-    next-fits low l e =
-        let w : lowestLong 12 1 (s .labels) ≡ 0 = lowest-none 12 1 (s .labels) (λ j p. so j (omega arith)) in
-        ap (λ (x : Lists). record { reply = Done; lists = x }) e
-        ∙ sym (ap₂ (λ (b : Bool) (n : ℕ). fittedBy b n (listsOf k s)) (le-ltb 32 (length (s .nogoods)) few) w)
+  module _ (few : length (s .nogoods) ≤ 32) (n : ℕ) (is : n ≡ labelLong limits s) where
+    by-both : (l : Lists) → fittedBy false n l ≡ fittedBy (nogoodsLong limits s) (labelLong limits s) l
+    unfolding nogoodsLong
+    by-both l = ap₂ (λ (b : Bool) (m : ℕ). fittedBy b m l) (sym (le-ltb 32 (length (s .nogoods)) few)) is
+
+    pub next-beyond : (n ≡ 0 → ⊥) → (r : Judged) → r ≡ refusal (Label n) → r ≡ fitted k s
+    unfolding fitted
+    next-beyond z r e = e ∙ by-label n z (listsOf k s) ∙ by-both (listsOf k s)
+
+    pub next-fits : n ≡ 0 → (l : Lists) → l ≡ listsOf k s → _≡_ {A = Judged} (record { reply = Done; lists = l }) (fitted k s)
+    unfolding fitted
+    next-fits z l e =
+        ap (λ (x : Lists). record { reply = Done; lists = x }) e ∙ ap (λ (m : ℕ). fittedBy false m (listsOf k s)) (sym z) ∙ by-both (listsOf k s)
+
+-- ---- the labels one after the other
+module _ (h : Held) (k i : ℕ) (so : (j : ℕ) → j < i → length (getD (stageBy h k .labels) j []) ≤ 12) where
+  pub over-at : i < length (stageBy h k .labels) → 12 < length (getD (stageBy h k .labels) i []) → (members sizes : List ℕ) → Relabelled h k members sizes (i + 1)
+  unfolding labelLong
+  over-at low long members sizes =
+      let w : lowestLong 12 1 (stageBy h k .labels) ≡ 1 + i = lowest-at 12 1 (stageBy h k .labels) i low so long in
+      record { over = omega (arith, w); members-are = λ z. absurd (omega arith); sizes-are = λ z. absurd (omega arith) }
+
+  pub over-none : length (stageBy h k .labels) ≤ i → 0 ≡ labelLong limits (stageBy h k)
+  unfolding labelLong
+  over-none low = sym (lowest-none 12 1 (stageBy h k .labels) (λ j p. so j (omega arith)))
 
 -- ---- no label so far is over
 module _ (s : Stage) (i : ℕ) where

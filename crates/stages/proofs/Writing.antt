@@ -1,7 +1,7 @@
 -- One label more written into its twelve places. Assumes nothing.
 use mathlib.Core.List.{List, [], _++_, _∷_, append-nil}
 use mathlib.Core.Logic.{⊎-elim}
-use mathlib.Core.Path.{_∙_, _≡_, ap, ap₂, subst, sym}
+use mathlib.Core.Path.{_∙_, _≡_, ap, ap₂, refl, subst, sym}
 use Prim.Native.Nat.{_%_, _*_, _+_, _-_, _/_, _<_, _≤_, suc, ℕ}
 use native.Mathlib.Decide.{decLt}
 use native.Mathlib.Numerals.{add-one}
@@ -120,6 +120,14 @@ unfolding listsOf filled
 lists-made d s sizes members count nogoods z m n =
     ap₂ (λ (x y : List ℕ). filled x y count nogoods d) z m
     ∙ ap₂ (λ (c : ℕ) (g : List ℕ). filled (table 128 (size (s .labels))) (table 1536 (member (s .labels))) c g d) (n .counted) (n .lie)
+
+pub members-placed : (d : ℕ) (s : Stage) → table 1536 (member (s .labels)) ≡ listsOf d s .members
+unfolding listsOf
+members-placed d s = refl
+
+pub sizes-placed : (d : ℕ) (s : Stage) → table 128 (size (s .labels)) ≡ listsOf d s .sizes
+unfolding listsOf
+sizes-placed d s = refl
 
 pub lists-same : (d : ℕ) (s t : Stage) → s .nogoods ≡ t .nogoods → ((i : ℕ) → getD (s .labels) i [] ≡ getD (t .labels) i []) → listsOf d s ≡ listsOf d t
 unfolding listsOf filled

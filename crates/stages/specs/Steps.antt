@@ -1,8 +1,8 @@
 -- One stage after the other, as the code hands them on. Assumes nothing.
-use mathlib.Core.Bool.{Bool, _&&_, false, true}
-use mathlib.Core.List.{List, List·Memᴰ as Mem, []}
+use mathlib.Core.Bool.{Bool, _&&_, false, not, true}
+use mathlib.Core.List.{List, List·Memᴰ as Mem}
 use mathlib.Core.Path.{_≡_}
-use Prim.Native.Nat.{_+_, _<_, _≤_, suc, zero, ℕ}
+use Prim.Native.Nat.{_+_, _≤_, suc, zero, ℕ}
 use lib.Dec.{eqb}
 use lib.ListN.{getD, length}
 use Rattle.labels.specs.Layout.{lying}
@@ -15,6 +15,7 @@ use Rattle.stages.specs.declared.Judged.{Judged}
 use Rattle.stages.specs.declared.Lists.{Lists}
 use Rattle.theory.specs.Lists.{allOf, those}
 use Rattle.theory.specs.Places.{padded, table}
+use Rattle.theory.specs.Sets.{contains}
 use Rattle.theory.specs.Stages.{Justification}
 use Rattle.theory.specs.Step.{labelIn}
 use Rattle.theory.specs.Judge.{Stage, labelLong, limits, nogoodsLong, sameSets, stageAt}
@@ -44,6 +45,20 @@ pub record Reached (h : Held) (l : Lists) : Type 0 where
   pub is : l ≡ listsOf (l .depth) (stageBy h (l .depth))
   pub room : Room (stageBy h (l .depth))
   pub low : l .depth ≤ 129
+
+-- lists by their places
+abbrev pub lists : List ℕ → List ℕ → ℕ → List ℕ → ℕ → Lists
+lists members sizes count nogoods depth = record { sizes = sizes; members = members; count = count; nogoods = nogoods; depth = depth }
+
+-- members and sizes are those of stage k, beside its nogoods in their places
+abbrev pub LabelsLie : Held → ℕ → List ℕ → List ℕ → Type 0
+LabelsLie h k members sizes = (count : ℕ) × (nogoods : List ℕ) × Reached h (lists members sizes count nogoods k)
+
+-- r is the lowest number whose label is over at stage k; where none is, members and sizes are those of its labels
+pub record Relabelled (h : Held) (k : ℕ) (members sizes : List ℕ) (r : ℕ) : Type 0 where
+  pub over : r ≡ labelLong limits (stageBy h k)
+  pub members-are : r ≡ 0 → members ≡ listsOf k (stageBy h k) .members
+  pub sizes-are : r ≡ 0 → sizes ≡ listsOf k (stageBy h k) .sizes
 
 -- how many justifications of n are in the list
 abbrev pub manyOf : List Justification → ℕ → ℕ
@@ -81,6 +96,10 @@ pub record Steady (h : Held) (k n : ℕ) : Type 0 where
 abbrev pub Fresh : Held → ℕ → List ℕ → Type 0
 Fresh h k stale = (n : ℕ) → n ≤ 128 → getD stale n 0 ≡ 0 → Steady h k n
 
--- each label without a mark is the same at the next stage
-abbrev pub Lasting : Held → ℕ → List ℕ → Type 0
-Lasting h k stale = (i : ℕ) → i < h .assumptions + h .claims → getD stale (i + 1) 0 ≡ 0 → getD (stageBy h (k + 1) .labels) i [] ≡ getD (stageBy h k .labels) i []
+-- no news: the nogoods are the same at the next stage
+abbrev pub Told : Held → ℕ → Bool → Type 0
+Told h k news = news ≡ false → stageBy h (k + 1) .nogoods ≡ stageBy h k .nogoods
+
+-- those of the list that contain no set struck
+abbrev pub sparedOf : List ℕ → List ℕ → List ℕ
+sparedOf struck l = those (λ E. not (contains struck E)) l

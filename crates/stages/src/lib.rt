@@ -3,18 +3,19 @@ use labels::Built;
 use replies::Reply;
 use rules::Entry;
 use rules::Held;
-ghost use mathlib.Core.Bool.{_&&_};
+ghost use mathlib.Core.Bool.{_&&_, not};
 ghost use mathlib.Core.Path.{_≡_};
 ghost use Prim.Native.Nat.{_+_, _≤_};
 ghost use lib.Dec.{eqb};
-ghost use lib.ListN.{length, replicate};
+ghost use lib.ListN.{getD, length, take};
 ghost use lib.Seq.{paste};
 ghost use Rattle.theory.specs.Lists.{allOf, choose};
 ghost use Rattle.rules.specs.Held.{meaning, saidBy};
 ghost use Rattle.labels.specs.Layout.{Few, Layout, Ranged};
+ghost use Rattle.labels.specs.Promised.{builtOf};
 ghost use Rattle.theory.specs.Judge.{limits, course, sameSets};
 ghost use Rattle.stages.specs.Judged.{Judge, Judgeable, Start, judgedBy, refusal};
-ghost use Rattle.stages.specs.Steps.{Fresh, Lasting, Listed, Reached, Untouched, fitted, sameLabel, sameLists, stageBy, tallied};
+ghost use Rattle.stages.specs.Steps.{Fresh, LabelsLie, Reached, Relabelled, Steady, Told, Untouched, fitted, lists, sameLabel, sameLists, sparedOf, stageBy, tallied};
 
 // The labels and nogoods of a stage: label n at its own twelve places 12 (n - 1) up, its size beside it; unused places zero.
 pub struct Lists {
@@ -77,76 +78,41 @@ impl Lists {
         requires { ⌜ Reached held self × (tallies ≡ tallied held) × Fresh held (self .depth) stale ⌝ }
         ensures { λ r. ⌜ r ≡ fitted (self .depth + 1) (stageBy held (self .depth + 1)) ⌝ }
     {
-        let count = self.count;
+        let before = self.count;
         let nogoods = self.nogoods;
-        let none = [0u32; 1];
-        if stale[0] == 0 {
-            return self.relabelled(held, tallies, count, nogoods, stale);
-        }
-        let end = tallies[0] as usize;
-        let built = labels::build(
+        let depth = self.depth;
+        let built = refuted(
             held,
-            0,
-            end,
-            0,
+            tallies[0] as usize,
+            depth,
             &self.members,
             &self.sizes,
-            &nogoods[..count],
-            &none[..0],
-            32,
+            nogoods,
+            before,
+            stale[0],
         );
-        let many = built.count;
-        if 32 < many {
+        let count = built.count;
+        if 32 < count {
             return refused(Reply::Nogoods);
         }
-        let later = built.sets;
-        let all = outdated(count, nogoods, many, later, stale);
-        self.relabelled(held, tallies, many, later, all)
-    }
-
-    // The labels of the next stage, struck by its nogoods: those that are stale built and written, the others kept.
-    fn relabelled(
-        self,
-        held: Held,
-        tallies: [u16; 129],
-        count: usize,
-        struck: [u32; 32],
-        stale: [u8; 129],
-    ) -> Judged
-        requires { ⌜ Reached held self × (tallies ≡ tallied held) × Listed (stageBy held (self .depth + 1) .nogoods) count struck × Lasting held (self .depth) stale ⌝ }
-        ensures { λ r. ⌜ r ≡ fitted (self .depth + 1) (stageBy held (self .depth + 1)) ⌝ }
-    {
-        let old = self.members;
+        let struck = built.sets;
+        let news = changed(before, nogoods, count, struck);
         let mut members = self.members;
         let mut sizes = self.sizes;
-        let top = held.assumptions + held.claims;
-        let mut lo = tallies[0] as usize;
-        let mut i = 0u8;
-        while i < top {
-            let at = i as usize;
-            let hi = lo + tallies[at + 1] as usize;
-            if stale[at + 1] != 0 {
-                let from = 12 * at;
-                let end = from + self.sizes[at] as usize;
-                let label = labels::build(
-                    held,
-                    lo,
-                    hi,
-                    i + 1,
-                    &self.members,
-                    &self.sizes,
-                    &old[from..end],
-                    &struck[..count],
-                    12,
-                );
-                if 12 < label.count {
-                    return refused(Reply::Label(i + 1));
-                }
-                write(&mut members, from, label);
-                sizes[at] = label.count as u8;
-            }
-            lo = hi;
-            i += 1;
+        let over = relabel(
+            held,
+            tallies,
+            stale,
+            news,
+            depth,
+            &self.members,
+            &self.sizes,
+            &struck[..count],
+            &mut members,
+            &mut sizes,
+        );
+        if over != 0 {
+            return refused(Reply::Label(over));
         }
         Judged {
             reply: Reply::Done,
@@ -155,7 +121,7 @@ impl Lists {
                 members,
                 count,
                 nogoods: struck,
-                depth: self.depth + 1,
+                depth: depth + 1,
             },
         }
     }
@@ -177,23 +143,116 @@ impl Lists {
     }
 }
 
-// What is stale once the nogoods are known: all where they changed.
-fn outdated(
+// The nogoods of the next stage, built where they are stale: full at 33.
+fn refuted<'a>(
+    held: Held,
+    end: usize,
+    depth: u8,
+    members: &'a [u32],
+    sizes: &'a [u8],
+    old: [u32; 32],
     count: usize,
-    nogoods: [u32; 32],
-    many: usize,
-    later: [u32; 32],
+    stale: u8,
+) -> Built
+    requires { ⌜ Reached held (lists (now members) (now sizes) count old depth) × (end ≡ getD (tallied held) 0 0) × (stale ≡ 0 → Steady held depth 0) ⌝ }
+    ensures { λ r. ⌜ r ≡ builtOf 32 (take (32 + 1) (stageBy held (depth + 1) .nogoods)) ⌝ }
+{
+    if stale == 0 {
+        return Built { count, sets: old };
+    }
+    let none = [0u32; 1];
+    labels::build(
+        held,
+        0,
+        end,
+        0,
+        members,
+        sizes,
+        &old[..count],
+        &none[..0],
+        32,
+    )
+}
+
+// The labels of the next stage over the old ones: those that are stale built, of the others what the nogoods leave where they changed. The lowest number whose label is over, or 0.
+fn relabel<'a>(
+    held: Held,
+    tallies: [u16; 129],
     stale: [u8; 129],
-) -> [u8; 129]
-    ensures { λ r. ⌜ r ≡ choose (eqb count many && sameSets nogoods later) stale (replicate 129 1) ⌝ }
+    news: bool,
+    depth: u8,
+    members: &'a [u32],
+    sizes: &'a [u8],
+    struck: &'a [u32],
+    later: &mut [u32],
+    counts: &mut [u8],
+) -> u8
+    requires { ⌜ LabelsLie held depth (now members) (now sizes) × (tallies ≡ tallied held) × (now struck ≡ stageBy held (depth + 1) .nogoods) × Fresh held depth stale × Told held depth news × (now later ≡ now members) × (now counts ≡ now sizes) ⌝ }
+    ensures { λ r. ⌜ Relabelled held (depth + 1) (now (later .exit)) (now (counts .exit)) r ⌝ }
+{
+    let top = held.assumptions + held.claims;
+    let mut lo = tallies[0] as usize;
+    let mut i = 0u8;
+    while i < top {
+        let at = i as usize;
+        let hi = lo + tallies[at + 1] as usize;
+        let from = 12 * at;
+        let end = from + sizes[at] as usize;
+        if stale[at + 1] != 0 {
+            let label = labels::build(
+                held,
+                lo,
+                hi,
+                i + 1,
+                members,
+                sizes,
+                &members[from..end],
+                struck,
+                12,
+            );
+            if 12 < label.count {
+                return i + 1;
+            }
+            write(later, from, label);
+            counts[at] = label.count as u8;
+        } else if news {
+            let label = strike(&members[from..end], struck);
+            write(later, from, label);
+            counts[at] = label.count as u8;
+        }
+        lo = hi;
+        i += 1;
+    }
+    0
+}
+
+// Whether the nogoods changed.
+fn changed(count: usize, nogoods: [u32; 32], many: usize, later: [u32; 32]) -> bool
+    ensures { λ r. ⌜ r ≡ not (eqb count many && sameSets nogoods later) ⌝ }
 {
     if count != many {
-        return [1u8; 129];
+        return true;
     }
-    if same_sets(&nogoods, &later) {
-        return stale;
+    !same_sets(&nogoods, &later)
+}
+
+// Those of a list that contain no set struck.
+fn strike(list: &[u32], struck: &[u32]) -> Built
+    requires { ⌜ length (now list) ≤ 32 ⌝ }
+    ensures { λ r. ⌜ r ≡ builtOf 32 (sparedOf (now (struck .entry)) (now (list .entry))) ⌝ }
+{
+    let mut sets = [0u32; 32];
+    let mut count = 0;
+    let mut i = 0;
+    while i < list.len() {
+        let e = list[i];
+        if labels::first_within(struck, e) == struck.len() {
+            sets[count] = e;
+            count += 1;
+        }
+        i += 1;
     }
-    [1u8; 129]
+    Built { count, sets }
 }
 
 // A label written in its twelve places.
