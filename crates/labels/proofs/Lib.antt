@@ -1,6 +1,10 @@
 pub mod First
 pub mod Offers
+pub mod Pools
+pub mod Selects
 pub mod Visits
+pub mod Offering
+pub mod Turns
 pub mod Candidates
 pub mod Ranges
 pub mod Builds

@@ -1,16 +1,18 @@
--- Each entry held has few supports, and each of them a label. Assumes nothing.
-use mathlib.Core.List.{List, List·Memᴰ as Mem, List·Memᴰ·head as here, List·Memᴰ·tail as there, [], _∷_}
-use mathlib.Core.Path.{refl}
-use Prim.Native.Nat.{_+_, _<_, suc, zero, ℕ}
+-- The entries held, and each part of them, have few supports, and each of them a label. Assumes nothing.
+use mathlib.Core.Bool.{true}
+use mathlib.Core.List.{List, List·Memᴰ as Mem, [], _∷_, List·Memᴰ·head as here, List·Memᴰ·tail as there}
+use mathlib.Core.Path.{_∙_, _≡_, ap, refl, subst, sym}
+use Prim.Native.Nat.{_+_, _-_, _<_, _≤_, suc, zero, ℕ}
 use native.Mathlib.Nat.{le-of-suc-le-suc, not-suc-le-zero}
 use native.Mathlib.Omega.{arith}
-use lib.ListN.{getD, length}
-use Rattle.labels.specs.Layout.{Few, Joinable, Ranged}
+use lib.ListN.{drop, getD, length, length-drop, length-take, take}
+use lib.Seq.{getD-drop, getD-take}
+use Rattle.labels.specs.Layout.{Few, Joinable, Ranged, between}
 use Rattle.rules.proofs.Entries.{Fits, fits-elim}
 use Rattle.rules.proofs.Laws.{climbs-between}
 use Rattle.rules.proofs.Scan.{right-elim}
 use Rattle.rules.proofs.Steps.{all-first}
-use Rattle.rules.specs.Held.{fitting, meaning}
+use Rattle.rules.specs.Held.{fitting, heldRight, meaning}
 use Rattle.rules.specs.declared.Entry.{Entry}
 use Rattle.rules.specs.declared.Held.{Held}
 
@@ -19,10 +21,10 @@ mem-at [] i h = absurd (not-suc-le-zero h)
 mem-at (x ∷ l) zero h = here refl
 mem-at (x ∷ l) (suc i) h = there (mem-at l i (le-of-suc-le-suc h))
 
-module _ (h : Held) (ok : Joinable h) (j : ℕ) (z : Entry) (low : j < h .count) where
+module _ (h : Held) (right : heldRight h ≡ true) (wide : h .assumptions + h .claims ≤ 128) (j : ℕ) (z : Entry) (low : j < h .count) where
   fits : Fits (h .assumptions + h .claims) (getD (h .entries) j z)
   fits =
-      let r = right-elim h (ok .right) in
+      let r = right-elim h right in
       fits-elim (h .assumptions + h .claims) (getD (h .entries) j z) (all-first (fitting (h .assumptions + h .claims)) (h .entries) (h .count) j z (omega (arith, r .few, r .long)) (r .fits) low)
 
   pub held-few : Few (getD (h .entries) j z)
@@ -33,5 +35,45 @@ module _ (h : Held) (ok : Joinable h) (j : ℕ) (z : Entry) (low : j < h .count)
     range = λ i p.
         let l : List ℕ = meaning (getD (h .entries) j z) .supports in
         let w = climbs-between (h .assumptions + h .claims) 0 l (fits .rising) (getD l i 0) (mem-at l i p) in
-        (w .0, omega (arith, w .1, ok .wide));
+        (w .0, omega (arith, w .1, wide));
   }
+
+  pub held-low : getD (h .entries) j z .consequent ≤ 128
+  held-low = omega (arith, fits .low, wide)
+
+-- the entry at place j is one that fits
+joinable-at : (m : List Entry) → ((j : ℕ) (z : Entry) → j < length m → Few (getD m j z) × Ranged (meaning (getD m j z) .supports)) → Joinable m
+joinable-at m f = record { few = λ j z p. f j z p .0; ranged = λ j z p. f j z p .1 }
+
+as-entry : (e f : Entry) → e ≡ f → Few f → Ranged (meaning f .supports) → Few e × Ranged (meaning e .supports)
+as-entry e f q a b = (subst Few (sym q) a, subst (λ (x : Entry). Ranged (meaning x .supports)) (sym q) b)
+
+pub held-joinable : (h : Held) → heldRight h ≡ true → h .assumptions + h .claims ≤ 128 → Joinable (take (h .count) (h .entries))
+held-joinable h right wide = joinable-at (take (h .count) (h .entries)) (λ j z p.
+    let low : j < h .count = omega (arith, length-take (h .count) (h .entries)) in
+    as-entry (getD (take (h .count) (h .entries)) j z) (getD (h .entries) j z) (getD-take (h .count) (h .entries) j z low) (held-few h right wide j z low) (held-ranged h right wide j z low))
+
+-- a part of the first n
+pub joinable-part : (l : List Entry) (n lo hi : ℕ) → hi ≤ n → Joinable (take n l) → Joinable (between l lo hi)
+joinable-part l n lo hi h ok = joinable-at (between l lo hi) (λ j z p.
+    let q : j < hi - lo = omega (arith, length-take (hi - lo) (drop lo l)) in
+    let r : lo + j < n = omega arith in
+    let k : lo + j < length (take n l) = omega (arith, length-take (hi - lo) (drop lo l), length-drop lo l, length-take n l) in
+    as-entry (getD (between l lo hi) j z) (getD (take n l) (lo + j) z) (getD-take (hi - lo) (drop lo l) j z q ∙ getD-drop lo l j z ∙ sym (getD-take n l (lo + j) z r)) (ok .few (lo + j) z k) (ok .ranged (lo + j) z k))
+
+-- each place of a part
+module _ (l : List Entry) (lo hi j : ℕ) (z : Entry) (ok : Joinable (between l lo hi)) (low : lo ≤ j) (high : j < hi) (room : hi ≤ length l) where
+  abbrev k : ℕ
+  k = j - lo
+
+  same : getD l j z ≡ getD (between l lo hi) k z
+  same = let e : lo + k ≡ j = omega arith in ap (λ (i : ℕ). getD l i z) (sym e) ∙ sym (getD-take (hi - lo) (drop lo l) k z (omega arith) ∙ getD-drop lo l k z)
+
+  inside : k < length (between l lo hi)
+  inside = omega (arith, length-take (hi - lo) (drop lo l), length-drop lo l)
+
+  pub part-few : Few (getD l j z)
+  part-few = as-entry (getD l j z) (getD (between l lo hi) k z) same (ok .few k z inside) (ok .ranged k z inside) .0
+
+  pub part-ranged : Ranged (meaning (getD l j z) .supports)
+  part-ranged = as-entry (getD l j z) (getD (between l lo hi) k z) same (ok .few k z inside) (ok .ranged k z inside) .1

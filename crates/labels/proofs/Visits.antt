@@ -1,6 +1,6 @@
 -- Visiting the joins of the supports left, with the cuts, over plain variables. Assumes nothing.
 use mathlib.Core.Bool.{Bool, false, not, true}
-use mathlib.Core.List.{List, List·Memᴰ as Mem, List·Memᴰ·head as here, List·Memᴰ·tail as there, [], _∷_}
+use mathlib.Core.List.{List, List·Memᴰ as Mem, [], _∷_, List·Memᴰ·head as here, List·Memᴰ·tail as there}
 use mathlib.Core.Logic.{⊎-elim}
 use mathlib.Core.Option.{Option, none, some}
 use mathlib.Core.Path.{_∙_, _≡_, ap, ap₂, refl, subst, sym}
@@ -26,7 +26,7 @@ use Rattle.theory.specs.Step.{best, free, joins, sooner}
 -- ---- what is cut
 
 -- a set that contains one struck or found: none that contains it is free
-free-more : (struck found : List ℕ) (G H : ℕ) → within G H ≡ true → free struck found H ≡ true → free struck found G ≡ true
+pub free-more : (struck found : List ℕ) (G H : ℕ) → within G H ≡ true → free struck found H ≡ true → free struck found G ≡ true
 unfolding free
 free-more struck found G H w f =
     let up : (l : List ℕ) → not (contains l H) ≡ true → contains l G ≡ false = λ l e. not-so (contains l G) (λ c. let i = contains-elim l G c in clash e (ap not (contains-intro H (i .1) (within-trans (i .0) G H (i .2) w)))) in
@@ -35,7 +35,7 @@ free-more struck found G H w f =
     rw (x, y)
 
 -- what contains a set that does not stand before y does not stand before y either
-late-more : (G H y : ℕ) → within G H ≡ true → before G y ≡ false → before H y ≡ false
+pub late-more : (G H y : ℕ) → within G H ≡ true → before G y ≡ false → before H y ≡ false
 late-more G H y w l =
     ⊎-elim (λ (q : G ≡ H). subst (λ (x : ℕ). before x y ≡ false) q l) (λ b. not-so (before H y) (λ c. clash (before-trans G H y b c) l)) (within-before G H w)
 
@@ -110,7 +110,7 @@ module _ (members sizes : List ℕ) (lay : Layout members sizes) where
 abbrev pub left : List ℕ → List ℕ
 left supports = take (length supports - 1) (drop 1 supports)
 
-left-is : (supports : List ℕ) → left supports ≡ drop 1 supports
+pub left-is : (supports : List ℕ) → left supports ≡ drop 1 supports
 left-is supports = take-all (length supports - 1) (drop 1 supports) (omega (arith, length-drop 1 supports))
 
 pub left-fewer : (supports : List ℕ) → 1 ≤ length supports → length (left supports) < length supports

@@ -1,12 +1,10 @@
 -- The labels as they lie: label n at its own twelve places 12 (n - 1) up, its size beside it. Assumes nothing.
-use mathlib.Core.Bool.{true}
 use mathlib.Core.List.{List, []}
 use mathlib.Core.Path.{_≡_}
-use Prim.Native.Nat.{_*_, _+_, _<_, _≤_, suc, zero, ℕ}
+use Prim.Native.Nat.{_*_, _-_, _<_, _≤_, suc, zero, ℕ}
 use lib.ListN.{drop, getD, length, take}
-use Rattle.rules.specs.Held.{heldRight}
+use Rattle.rules.specs.Held.{meaning}
 use Rattle.rules.specs.declared.Entry.{Entry}
-use Rattle.rules.specs.declared.Held.{Held}
 
 -- the label of n as it lies
 unfoldable pub lying : List ℕ → List ℕ → ℕ → List ℕ
@@ -27,7 +25,11 @@ pub record Ranged (supports : List ℕ) : Type 0 where
 abbrev pub Few : Entry → Type 0
 Few e = e .count ≤ 4
 
--- held justifications of the right shape, and a label for every number
-pub record Joinable (h : Held) : Type 0 where
-  pub right : heldRight h ≡ true
-  pub wide : h .assumptions + h .claims ≤ 128
+-- those from place lo to place hi
+abbrev pub between : List Entry → ℕ → ℕ → List Entry
+between entries lo hi = take (hi - lo) (drop lo entries)
+
+-- every justification has at most four supports, and each of them a label
+pub record Joinable (entries : List Entry) : Type 0 where
+  pub few : (j : ℕ) (z : Entry) → j < length entries → Few (getD entries j z)
+  pub ranged : (j : ℕ) (z : Entry) → j < length entries → Ranged (meaning (getD entries j z) .supports)

@@ -1,3 +1,4 @@
 pub mod Picked
+pub mod Pool
 pub mod Layout
 pub mod Promised

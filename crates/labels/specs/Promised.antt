@@ -1,12 +1,12 @@
 -- What the functions on labels promise. Assumes nothing.
-use mathlib.Core.List.{List, [], _∷_}
+use mathlib.Core.List.{List, [], _∷_, map}
 use mathlib.Core.Path.{_≡_}
 use Prim.Native.Nat.{_+_, suc, ℕ}
 use lib.ListN.{length, take}
 use Rattle.labels.specs.Layout.{lying}
 use Rattle.labels.specs.declared.Built.{Built}
-use Rattle.rules.specs.Held.{saidBy}
-use Rattle.rules.specs.declared.Held.{Held}
+use Rattle.rules.specs.Held.{meaning}
+use Rattle.rules.specs.declared.Entry.{Entry}
 use Rattle.theory.specs.Lists.{choose}
 use Rattle.theory.specs.Places.{padded}
 use Rattle.theory.specs.Sets.{within}
@@ -25,6 +25,6 @@ FirstWithin l E r = r ≡ firstWithin l E
 unfoldable pub builtOf : ℕ → List ℕ → Built
 builtOf limit l = record { count = length l; sets = padded 0 32 (take limit l) }
 
--- r is the list of n at the next stage, from the labels as they lie, its old list and the sets struck; of members above the limit one is counted
-abbrev pub Build : Held → ℕ → List ℕ → List ℕ → List ℕ → List ℕ → ℕ → Built → Type 0
-Build h n members sizes old struck limit r = r ≡ builtOf limit (picks (limit + 1) struck [] (candidates (lying members sizes) old (saidBy h) n))
+-- r is the list of n at the next stage, from the labels as they lie, the old list and the sets struck; members after the first above the limit are not looked for
+abbrev pub Build : List Entry → ℕ → List ℕ → List ℕ → List ℕ → List ℕ → ℕ → Built → Type 0
+Build entries n members sizes old struck limit r = r ≡ builtOf limit (picks (limit + 1) struck [] (candidates (lying members sizes) old (map meaning entries) n))

@@ -63,7 +63,7 @@ pub record OneAnswer : Type 0 where
   pub insert-one : (h : Held) (e : Entry) → One (Inserted h e)
   -- labels, stages, shape
   pub first-within-one : (l : List ℕ) (E : ℕ) → One (FirstWithin l E)
-  pub build-one : (h : Held) (n : ℕ) (members sizes old struck : List ℕ) (limit : ℕ) → One (Build h n members sizes old struck limit)
+  pub build-one : (entries : List Entry) (n : ℕ) (members sizes old struck : List ℕ) (limit : ℕ) → One (Build entries n members sizes old struck limit)
   pub start-one : (A : ℕ) → One (Start A)
   pub judge-one : (h : Held) → One (Judge h)
   pub lists-one : (l : Lists) (A N : ℕ) → One (ListsRight l A N)

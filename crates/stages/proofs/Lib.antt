@@ -1,6 +1,9 @@
 pub mod Tables
+pub mod Parts
 pub mod Writing
 pub mod Stages
 pub mod Nexts
+pub mod Keeps
+pub mod Spared
 pub mod Same
 pub mod Walk

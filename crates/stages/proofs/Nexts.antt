@@ -1,5 +1,5 @@
 -- From the lists of one stage to those of the next, list by list, over plain variables. Assumes nothing.
-use mathlib.Core.Bool.{Bool}
+use mathlib.Core.Bool.{Bool, false}
 use mathlib.Core.List.{List, [], _∷_}
 use mathlib.Core.Logic.{⊎-elim}
 use mathlib.Core.Path.{_∙_, _≡_, ap, ap₂, refl, subst, sym}
@@ -7,30 +7,28 @@ use Prim.Native.Nat.{_+_, _<_, _≤_, suc, zero, ℕ}
 use native.Mathlib.Nat.{eq-or-lt-of-le, le-of-suc-le-suc, not-suc-le-zero}
 use native.Mathlib.Numerals.{add-one}
 use native.Mathlib.Omega.{arith}
-use lib.ListN.{getD, length, length-take, replicate, take}
+use lib.ListN.{getD, length, length-take, take}
 use lib.Seq.{take-all}
 use borrow.Author.Tests.{le-ltb, lt-ltb}
-use Rattle.labels.specs.Layout.{lying}
-use Rattle.labels.specs.Promised.{builtOf}
+use Rattle.labels.specs.Layout.{between, lying}
+use Rattle.labels.specs.Promised.{Build, builtOf}
 use Rattle.labels.specs.declared.Built.{Built}
 use Rattle.replies.specs.declared.Reply.the-variants.{Done, Label, Nogoods}
-use Rattle.rules.proofs.Entries.{length-padded, unpadded}
 use Rattle.rules.proofs.Laws.{right-range}
 use Rattle.rules.specs.Held.{saidBy}
 use Rattle.rules.specs.declared.Held.{Held}
+use Rattle.stages.proofs.Parts.{below, first-candidates, part-candidates, tally-end, wide}
 use Rattle.stages.proofs.Stages.{lies, nogoods-lie}
-use Rattle.stages.proofs.Tables.{replicate-table}
-use Rattle.stages.proofs.Writing.{labels-more}
 use Rattle.stages.specs.Judged.{refusal}
 use Rattle.stages.specs.Lists.{listsOf}
-use Rattle.stages.specs.Steps.{Reached, firstLabels, fitted, fittedBy, stageBy, withLabel}
+use Rattle.stages.specs.Steps.{Listed, Reached, Relabelled, fitted, fittedBy, stageBy, tallied}
 use Rattle.stages.specs.declared.Judged.{Judged}
 use Rattle.stages.specs.declared.Lists.{Lists}
 use Rattle.theory.proofs.Lasting.{Upto, candidates-same}
 use Rattle.theory.proofs.Picks.{next-label, next-nogoods}
 use Rattle.theory.specs.Judge.{Stage, labelLong, limits, lowestLong, nogoodsLong, stageAt}
 use Rattle.theory.specs.Lists.{choose}
-use Rattle.theory.specs.Places.{padded, table}
+use Rattle.theory.specs.Places.{padded}
 use Rattle.theory.specs.Step.{candidates, labelIn, picks}
 
 -- ---- what a built list says of the whole
@@ -54,24 +52,20 @@ module _ (limit : ℕ) (X : List ℕ) (r : Built) (is : r ≡ builtOf limit (tak
       let s : length X ≤ limit = built-short h in
       ap (λ (b : Built). b .sets) is ∙ ap (λ (l : List ℕ). padded 0 32 (take limit l)) (take-all (limit + 1) X (omega arith)) ∙ ap (padded 0 32) (take-all limit X s)
 
--- ---- the nogoods of the next stage in their places, and no labels yet
-module _ (d : ℕ) (s : Stage) (l : Lists) (is : l ≡ listsOf d (firstLabels 0 s)) (few : l .count ≤ 32) where
-  nogoods-count : l .count ≡ length (s .nogoods)
-  unfolding listsOf
-  nogoods-count = ap (λ (x : Lists). x .count) is
+-- ---- the nogoods that are built, where they are not over
+pub built-listed : (X : List ℕ) (r : Built) → r ≡ builtOf 32 (take (32 + 1) X) → r .count ≤ 32 → Listed X (r .count) (r .sets)
+built-listed X r is h = record { counted = built-length 32 X r is h; few = h; lie = built-sets 32 X r is h }
 
-  nogoods-padded : l .nogoods ≡ padded 0 32 (s .nogoods)
-  unfolding listsOf
-  nogoods-padded = ap (λ (x : Lists). x .nogoods) is
-
-  pub struck-few : length (s .nogoods) ≤ 32
-  struck-few = omega (arith, nogoods-count)
-
-  pub struck-long : length (l .nogoods) ≡ 32
-  struck-long = ap length nogoods-padded ∙ length-padded 0 32 (s .nogoods)
-
-  pub struck-is : take (l .count) (l .nogoods) ≡ s .nogoods
-  struck-is = ap₂ (λ (n : ℕ) (x : List ℕ). take n x) nogoods-count nogoods-padded ∙ unpadded 0 32 (s .nogoods) struck-few
+-- ---- those that stay, as if they were built
+pub listed-built : (X : List ℕ) (count : ℕ) (places : List ℕ) → Listed X count places → _≡_ {A = Built} (record { count = count; sets = places }) (builtOf 32 (take (32 + 1) X))
+unfolding builtOf
+listed-built X count places n =
+    let few : length X ≤ 32 = omega (arith, n .counted, n .few) in
+    let all : take 33 X ≡ X = take-all 33 X (omega arith) in
+    ap₂ made (n .counted ∙ ap length (sym all)) (n .lie ∙ ap (padded 0 32) (sym (ap (take 32) all ∙ take-all 32 X few)))
+  where
+    made : ℕ → List ℕ → Built
+    made c l = record { count = c; sets = l }
 
 -- ---- the lists that are built
 module _ (h : Held) (l : Lists) (re : Reached h l) where
@@ -85,29 +79,32 @@ module _ (h : Held) (l : Lists) (re : Reached h l) where
   new-stage = stageBy h (l .depth + 1)
 
   upto : Upto N (saidBy h)
-  upto j m s n = right-range h (re .joinable .right) j m .between s n .1
+  upto j m s n = right-range h (re .judgeable .right) j m .between s n .1
 
   cands : (old old′ : List ℕ) (n : ℕ) → old ≡ old′ → candidates (lying (l .members) (l .sizes)) old (saidBy h) n ≡ candidates (labelIn (old-stage .labels)) old′ (saidBy h) n
   cands old old′ n e =
       candidates-same N (saidBy h) upto (lying (l .members) (l .sizes)) (labelIn (old-stage .labels)) old old′ n
-      (λ s q. lies (l .depth) old-stage (re .room) l (re .is) s (omega (arith, re .joinable .wide))) e
+      (λ s q. lies (l .depth) old-stage (re .room) l (re .is) s (omega (arith, wide h (re .judgeable)))) e
 
   at-next : {X : Type 0} (f : Stage → X) → f (stageAt (h .assumptions) N (saidBy h) (suc (l .depth))) ≡ f new-stage
   at-next f = ap (λ (k : ℕ). f (stageBy h k)) (sym (add-one (l .depth)))
 
-  pub nogoods-built : (r : Built) → r ≡ builtOf 32 (picks (32 + 1) [] [] (candidates (lying (l .members) (l .sizes)) (take (l .count) (l .nogoods)) (saidBy h) 0)) → r ≡ builtOf 32 (take (32 + 1) (new-stage .nogoods))
-  nogoods-built r e =
-      e ∙ ap (builtOf 32) (ap (picks 33 [] []) (cands (take (l .count) (l .nogoods)) (old-stage .nogoods) 0 (nogoods-lie (l .depth) old-stage (re .room) l (re .is)))
-      ∙ next-nogoods (h .assumptions) N (saidBy h) upto (l .depth) 33 ∙ at-next (λ s. take 33 (s .nogoods)))
+  module _ (tallies : List ℕ) (te : tallies ≡ tallied h) where
+    pub nogoods-built : (r : Built) → Build (between (h .entries) 0 (getD tallies 0 0)) 0 (l .members) (l .sizes) (take (l .count) (l .nogoods)) [] 32 r → r ≡ builtOf 32 (take (32 + 1) (new-stage .nogoods))
+    nogoods-built r e =
+        e ∙ ap (builtOf 32) (ap (picks 33 [] []) (first-candidates h (re .judgeable) tallies te (lying (l .members) (l .sizes)) (take (l .count) (l .nogoods)) ∙ cands (take (l .count) (l .nogoods)) (old-stage .nogoods) 0 (nogoods-lie (l .depth) old-stage (re .room) l (re .is)))
+        ∙ next-nogoods (h .assumptions) N (saidBy h) upto (l .depth) 33 ∙ at-next (λ s. take 33 (s .nogoods)))
 
-  pub label-built : (struck : List ℕ) → struck ≡ new-stage .nogoods → (i : ℕ) → i < N → (old : List ℕ) → old ≡ lying (l .members) (l .sizes) (i + 1)
-      → (r : Built) → r ≡ builtOf 12 (picks (12 + 1) struck [] (candidates (lying (l .members) (l .sizes)) old (saidBy h) (i + 1))) → r ≡ builtOf 12 (take (12 + 1) (getD (new-stage .labels) i []))
-  unfolding labelIn
-  label-built struck se i low old oe r e =
-      let a : i + 1 ≡ suc i = add-one i in
-      let o : old ≡ labelIn (old-stage .labels) (i + 1) = oe ∙ lies (l .depth) old-stage (re .room) l (re .is) (i + 1) (omega (arith, re .joinable .wide)) in
-      e ∙ ap (builtOf 12) (ap₂ (λ (b c : List ℕ). picks 13 b [] c) (se ∙ sym (at-next (λ s. s .nogoods))) (cands old (labelIn (old-stage .labels) (i + 1)) (i + 1) o)
-      ∙ next-label (h .assumptions) N (saidBy h) upto (l .depth) 13 (i + 1) (omega arith) ∙ at-next (λ s. take 13 (labelIn (s .labels) (i + 1))) ∙ ap (λ (n : ℕ). take 13 (labelIn (new-stage .labels) n)) a)
+    pub label-built : (struck : List ℕ) → struck ≡ new-stage .nogoods → (i lo : ℕ) → i < N → lo ≡ below (saidBy h) (i + 1) → (old : List ℕ) → old ≡ lying (l .members) (l .sizes) (i + 1)
+        → (r : Built) → Build (between (h .entries) lo (lo + getD tallies (i + 1) 0)) (i + 1) (l .members) (l .sizes) old struck 12 r → r ≡ builtOf 12 (take (12 + 1) (getD (new-stage .labels) i []))
+    unfolding labelIn
+    label-built struck se i lo low le old oe r e =
+        let a : i + 1 ≡ suc i = add-one i in
+        let top : i + 1 ≤ 128 = omega (arith, wide h (re .judgeable)) in
+        let o : old ≡ labelIn (old-stage .labels) (i + 1) = oe ∙ lies (l .depth) old-stage (re .room) l (re .is) (i + 1) top in
+        let p = part-candidates h (re .judgeable) (i + 1) lo (lo + getD tallies (i + 1) 0) le (tally-end h (re .judgeable) tallies te (i + 1) lo top le) (lying (l .members) (l .sizes)) old in
+        e ∙ ap (builtOf 12) (ap₂ (λ (b c : List ℕ). picks 13 b [] c) (se ∙ sym (at-next (λ s. s .nogoods))) (p ∙ cands old (labelIn (old-stage .labels) (i + 1)) (i + 1) o)
+        ∙ next-label (h .assumptions) N (saidBy h) upto (l .depth) 13 (i + 1) (omega arith) ∙ at-next (λ s. take 13 (labelIn (s .labels) (i + 1))) ∙ ap (λ (n : ℕ). take 13 (labelIn (new-stage .labels) n)) a)
 
 -- ---- what the next stage says
 
@@ -130,38 +127,39 @@ module _ (k : ℕ) (s : Stage) where
   unfolding fitted nogoodsLong
   next-over h r e = e ∙ ap (λ (b : Bool). fittedBy b (labelLong limits s) (listsOf k s)) (sym (lt-ltb 32 (length (s .nogoods)) h))
 
-  module _ (few : length (s .nogoods) ≤ 32) (i : ℕ) (so : (j : ℕ) → j < i → length (getD (s .labels) j []) ≤ 12) where
-    pub next-beyond : i < length (s .labels) → 12 < length (getD (s .labels) i []) → (r : Judged) → r ≡ refusal (Label (i + 1)) → r ≡ fitted k s
-    unfolding fitted nogoodsLong labelLong
-    next-beyond low long r e =
-        let w : lowestLong 12 1 (s .labels) ≡ suc i = lowest-at 12 1 (s .labels) i low so long ∙ omega arith in
-        e ∙ ap (λ (n : ℕ). refusal (Label n)) (add-one i) ∙ sym (ap₂ (λ (b : Bool) (n : ℕ). fittedBy b n (listsOf k s)) (le-ltb 32 (length (s .nogoods)) few) w)
+  by-label : (r : ℕ) → (r ≡ 0 → ⊥) → (l : Lists) → refusal (Label r) ≡ fittedBy false r l
+  by-label zero n l = absurd (n refl)
+  by-label (suc r) n l = refl
 
-    pub next-fits : length (s .labels) ≤ i → (l : Lists) → l ≡ listsOf k (firstLabels i s) → _≡_ {A = Judged} (record { reply = Done; lists = l }) (fitted k s)
-    unfolding fitted nogoodsLong labelLong
-    next-fits low l e =
-        let w : lowestLong 12 1 (s .labels) ≡ 0 = lowest-none 12 1 (s .labels) (λ j p. so j (omega arith)) in
-        ap (λ (x : Lists). record { reply = Done; lists = x }) (e ∙ ap (λ (ls : List (List ℕ)). listsOf k (record { nogoods = s .nogoods; labels = ls })) (take-all i (s .labels) low))
-        ∙ sym (ap₂ (λ (b : Bool) (n : ℕ). fittedBy b n (listsOf k s)) (le-ltb 32 (length (s .nogoods)) few) w)
+  module _ (few : length (s .nogoods) ≤ 32) (n : ℕ) (is : n ≡ labelLong limits s) where
+    by-both : (l : Lists) → fittedBy false n l ≡ fittedBy (nogoodsLong limits s) (labelLong limits s) l
+    unfolding nogoodsLong
+    by-both l = ap₂ (λ (b : Bool) (m : ℕ). fittedBy b m l) (sym (le-ltb 32 (length (s .nogoods)) few)) is
+
+    pub next-beyond : (n ≡ 0 → ⊥) → (r : Judged) → r ≡ refusal (Label n) → r ≡ fitted k s
+    unfolding fitted
+    next-beyond z r e = e ∙ by-label n z (listsOf k s) ∙ by-both (listsOf k s)
+
+    pub next-fits : n ≡ 0 → (l : Lists) → l ≡ listsOf k s → _≡_ {A = Judged} (record { reply = Done; lists = l }) (fitted k s)
+    unfolding fitted
+    next-fits z l e =
+        ap (λ (x : Lists). record { reply = Done; lists = x }) e ∙ ap (λ (m : ℕ). fittedBy false m (listsOf k s)) (sym z) ∙ by-both (listsOf k s)
 
 -- ---- the labels one after the other
+module _ (h : Held) (k i : ℕ) (so : (j : ℕ) → j < i → length (getD (stageBy h k .labels) j []) ≤ 12) where
+  pub over-at : i < length (stageBy h k .labels) → 12 < length (getD (stageBy h k .labels) i []) → (members sizes : List ℕ) → Relabelled h k members sizes (i + 1)
+  unfolding labelLong
+  over-at low long members sizes =
+      let w : lowestLong 12 1 (stageBy h k .labels) ≡ 1 + i = lowest-at 12 1 (stageBy h k .labels) i low so long in
+      record { over = omega (arith, w); members-are = λ z. absurd (omega arith); sizes-are = λ z. absurd (omega arith) }
 
-pub labels-none : (d : ℕ) (s : Stage) (b : Built) → b ≡ builtOf 32 (take (32 + 1) (s .nogoods)) → b .count ≤ 32
-    → _≡_ {A = Lists} (record { sizes = replicate 128 0; members = replicate 1536 0; count = b .count; nogoods = b .sets; depth = d }) (listsOf d (firstLabels 0 s))
-unfolding listsOf
-labels-none d s b e few =
-    ap₂ (λ (z m : List ℕ). filled z m (b .count) (b .sets)) (replicate-table 128 0) (replicate-table 1536 0)
-    ∙ ap₂ (filled (table 128 (λ i. 0)) (table 1536 (λ i. 0))) (built-length 32 (s .nogoods) b e few) (built-sets 32 (s .nogoods) b e few)
-  where
-    filled : List ℕ → List ℕ → ℕ → List ℕ → Lists
-    filled z m c g = record { sizes = z; members = m; count = c; nogoods = g; depth = d }
+  pub over-none : length (stageBy h k .labels) ≤ i → 0 ≡ labelLong limits (stageBy h k)
+  unfolding labelLong
+  over-none low = sym (lowest-none 12 1 (stageBy h k .labels) (λ j p. so j (omega arith)))
 
-module _ (s : Stage) (i : ℕ) (r : Built) (is : r ≡ builtOf 12 (take (12 + 1) (getD (s .labels) i []))) (few : r .count ≤ 12) where
-  pub label-on : (d : ℕ) → i < 128 → (l : Lists) → l ≡ listsOf d (firstLabels i s) → (m : Lists) → m ≡ withLabel l i r → m ≡ listsOf d (firstLabels (i + 1) s)
-  label-on d low l le m me =
-      me ∙ ap (λ (x : Lists). withLabel x i r) le ∙ labels-more s i d low r (built-length 12 (getD (s .labels) i []) r is few) (built-sets 12 (getD (s .labels) i []) r is few)
-
-  pub short-on : ((j : ℕ) → j < i → length (getD (s .labels) j []) ≤ 12) → (j : ℕ) → j < i + 1 → length (getD (s .labels) j []) ≤ 12
-  short-on so j h =
-      ⊎-elim (λ (q : j ≡ i). subst (λ (x : ℕ). length (getD (s .labels) x []) ≤ 12) (sym q) (built-short 12 (getD (s .labels) i []) r is few)) (λ p. so j p)
+-- ---- no label so far is over
+module _ (s : Stage) (i : ℕ) where
+  pub short-on : length (getD (s .labels) i []) ≤ 12 → ((j : ℕ) → j < i → length (getD (s .labels) j []) ≤ 12) → (j : ℕ) → j < i + 1 → length (getD (s .labels) j []) ≤ 12
+  short-on short so j h =
+      ⊎-elim (λ (q : j ≡ i). subst (λ (x : ℕ). length (getD (s .labels) x []) ≤ 12) (sym q) short) (λ p. so j p)
       (eq-or-lt-of-le (le-of-suc-le-suc (subst (λ (x : ℕ). j < x) (add-one i) h)))

@@ -16,7 +16,7 @@ use Rattle.stages.proofs.Tables.{replicate-table}
 use Rattle.stages.proofs.Writing.{lists-same, member, size, write-one, write-size}
 use Rattle.stages.specs.Judged.{refusal}
 use Rattle.stages.specs.Lists.{firstStage, listsOf, noLists}
-use Rattle.stages.specs.Steps.{Room}
+use Rattle.stages.specs.Steps.{Listed, Room}
 use Rattle.stages.specs.declared.Judged.{Judged}
 use Rattle.stages.specs.declared.Lists.{Lists}
 use Rattle.theory.proofs.Judgement.{long-none, stage-label, stage-label-none, stage-nogoods}
@@ -37,21 +37,25 @@ unfolding labelLong
 room-short s r i = long-none 12 0 (s .labels) (r .short) i
 
 module _ (d : ℕ) (s : Stage) (room : Room s) (l : Lists) (is : l ≡ listsOf d s) where
-  sizes-at : (i : ℕ) → i < 128 → getD (l .sizes) i 0 ≡ length (getD (s .labels) i [])
+  pub sizes-are : l .sizes ≡ table 128 (size (s .labels))
   unfolding listsOf
-  sizes-at i h = ap (λ (x : Lists). getD (x .sizes) i 0) is ∙ getD-table 128 (size (s .labels)) i 0 h
+  sizes-are = ap (λ (x : Lists). x .sizes) is
+
+  pub members-are : l .members ≡ table 1536 (member (s .labels))
+  unfolding listsOf
+  members-are = ap (λ (x : Lists). x .members) is
+
+  sizes-at : (i : ℕ) → i < 128 → getD (l .sizes) i 0 ≡ length (getD (s .labels) i [])
+  sizes-at i h = ap (λ (x : List ℕ). getD x i 0) sizes-are ∙ getD-table 128 (size (s .labels)) i 0 h
 
   members-at : (i : ℕ) → i < 1536 → getD (l .members) i 0 ≡ getD (getD (s .labels) (i / 12) []) (i % 12) 0
-  unfolding listsOf
-  members-at i h = ap (λ (x : Lists). getD (x .members) i 0) is ∙ getD-table 1536 (member (s .labels)) i 0 h
+  members-at i h = ap (λ (x : List ℕ). getD x i 0) members-are ∙ getD-table 1536 (member (s .labels)) i 0 h
 
   sizes-long : length (l .sizes) ≡ 128
-  unfolding listsOf
-  sizes-long = ap (λ (x : Lists). length (x .sizes)) is ∙ length-table 128 (size (s .labels))
+  sizes-long = ap length sizes-are ∙ length-table 128 (size (s .labels))
 
   members-long : length (l .members) ≡ 1536
-  unfolding listsOf
-  members-long = ap (λ (x : Lists). length (x .members)) is ∙ length-table 1536 (member (s .labels))
+  members-long = ap length members-are ∙ length-table 1536 (member (s .labels))
 
   pub layout : Layout (l .members) (l .sizes)
   layout = record {
@@ -92,9 +96,23 @@ module _ (d : ℕ) (s : Stage) (room : Room s) (l : Lists) (is : l ≡ listsOf d
   unfolding listsOf
   nogoods-long = ap (λ (x : Lists). length (x .nogoods)) is ∙ length-padded 0 32 (s .nogoods)
 
+  pub nogoods-listed : Listed (s .nogoods) (l .count) (l .nogoods)
+  unfolding listsOf
+  nogoods-listed = record { counted = ap (λ (x : Lists). x .count) is; few = nogoods-few; lie = ap (λ (x : Lists). x .nogoods) is }
+
   pub nogoods-lie : take (l .count) (l .nogoods) ≡ s .nogoods
   unfolding listsOf
   nogoods-lie = ap (λ (x : Lists). take (x .count) (x .nogoods)) is ∙ unpadded 0 32 (s .nogoods) (room-few s room)
+
+-- the nogoods as they are listed
+pub listed-long : (X : List ℕ) (count : ℕ) (places : List ℕ) → Listed X count places → length places ≡ 32
+listed-long X count places n = ap length (n .lie) ∙ length-padded 0 32 X
+
+pub listed-few : (X : List ℕ) (count : ℕ) (places : List ℕ) → Listed X count places → length X ≤ 32
+listed-few X count places n = omega (arith, n .counted, n .few)
+
+pub listed-taken : (X : List ℕ) (count : ℕ) (places : List ℕ) → Listed X count places → take count places ≡ X
+listed-taken X count places n = ap₂ (λ (c : ℕ) (l : List ℕ). take c l) (n .counted) (n .lie) ∙ unpadded 0 32 X (omega (arith, n .counted, n .few))
 
 -- the part of the members that label i + 1 takes
 pub part-lies : (members sizes : List ℕ) (i : ℕ) → take (12 * i + getD sizes i 0 - 12 * i) (drop (12 * i) members) ≡ lying members sizes (i + 1)

@@ -13,6 +13,7 @@ use Rattle.replies.specs.declared.Reply.the-variants.{Done, Unsettled}
 use Rattle.rules.specs.Held.{saidBy}
 use Rattle.rules.specs.declared.Held.{Held}
 use Rattle.stages.proofs.Nexts.{lowest-none}
+use Rattle.stages.proofs.Parts.{wide}
 use Rattle.stages.proofs.Same.{same-agree}
 use Rattle.stages.proofs.Stages.{start-is}
 use Rattle.stages.specs.Judged.{Judgeable, judgedBy, refusal}
@@ -139,7 +140,7 @@ module _ (h : Held) (ok : Judgeable h) where
 
     pub judge-reached : Reached h l
     judge-reached = record {
-      joinable = record { right = ok .right; wide = omega (arith, ok .assumptions, ok .claims) };
+      judgeable = ok;
       is = is ∙ sym (start-is A (h .claims) (saidBy h)) ∙ ap (λ (k : ℕ). listsOf k (stageBy h k)) (sym depth-zero);
       room = subst (λ (k : ℕ). Room (stageBy h k)) (sym depth-zero) room-zero;
       low = omega (arith, depth-zero);
@@ -157,16 +158,16 @@ module _ (h : Held) (l : Lists) (re : Reached h l) (v : Verdict) (so : v ≡ fro
   long k = stage-length (h .assumptions) N (saidBy h) k
 
   pub judge-refused : l .depth < 129 → (n ≡ 0 → ⊥) → r ≡ judgedBy v
-  judge-refused = turn-refused (stageBy h) N (re .joinable .wide) long (l .depth) l (re .is) (re .room) v so r made n number
+  judge-refused = turn-refused (stageBy h) N (wide h (re .judgeable)) long (l .depth) l (re .is) (re .room) v so r made n number
 
   pub last-refused : l .depth ≡ 129 → (n ≡ 0 → ⊥) → (x : Judged) → x ≡ refusal Unsettled → x ≡ judgedBy v
-  last-refused = end-refused (stageBy h) N (re .joinable .wide) long (l .depth) l (re .is) (re .room) v so r made n number
+  last-refused = end-refused (stageBy h) N (wide h (re .judgeable)) long (l .depth) l (re .is) (re .room) v so r made n number
 
   module _ (z : n ≡ 0) where
     lists-is : r .lists ≡ listsOf (l .depth + 1) (stageBy h (l .depth + 1))
     lists-is = step-lists (l .depth + 1) (stageBy h (l .depth + 1)) r made n number z
 
-    depth-is : r .lists .depth ≡ l .depth + 1
+    pub depth-is : r .lists .depth ≡ l .depth + 1
     unfolding listsOf
     depth-is = ap (λ (x : Lists). x .depth) lists-is
 
@@ -175,7 +176,7 @@ module _ (h : Held) (l : Lists) (re : Reached h l) (v : Verdict) (so : v ≡ fro
 
     pub judge-next : l .depth < 129 → Reached h (r .lists)
     judge-next low = record {
-      joinable = re .joinable;
+      judgeable = re .judgeable;
       is = lists-is ∙ ap (λ (k : ℕ). listsOf k (stageBy h k)) (sym depth-is);
       room = subst (λ (k : ℕ). Room (stageBy h k)) (sym depth-is) (step-room (l .depth + 1) (stageBy h (l .depth + 1)) r made n number z);
       low = omega (arith, depth-is);
@@ -183,13 +184,13 @@ module _ (h : Held) (l : Lists) (re : Reached h l) (v : Verdict) (so : v ≡ fro
 
     module _ (b : Bool) (same : b ≡ sameLists l (r .lists)) where
       pub judge-settled : b ≡ true → _≡_ {A = Judged} (record { reply = Done; lists = l }) (judgedBy v)
-      judge-settled e = turn-settled (stageBy h) N (re .joinable .wide) long (l .depth) l (re .is) (re .room) v so r made n number z b same (omega (arith, re .low)) e
+      judge-settled e = turn-settled (stageBy h) N (wide h (re .judgeable)) long (l .depth) l (re .is) (re .room) v so r made n number z b same (omega (arith, re .low)) e
 
       pub judge-on : b ≡ false → v ≡ fromStage h (r .lists .depth)
-      judge-on e = turn-on (stageBy h) N (re .joinable .wide) long (l .depth) l (re .is) (re .room) v so r made n number z b same (omega (arith, re .low)) e ∙ ap (fromStage h) (sym depth-is)
+      judge-on e = turn-on (stageBy h) N (wide h (re .judgeable)) long (l .depth) l (re .is) (re .room) v so r made n number z b same (omega (arith, re .low)) e ∙ ap (fromStage h) (sym depth-is)
 
       pub last-differs : l .depth ≡ 129 → b ≡ false → (x : Judged) → x ≡ refusal Unsettled → x ≡ judgedBy v
-      last-differs q e = end-differs (stageBy h) N (re .joinable .wide) long (l .depth) l (re .is) (re .room) v so r made n number q z b same e
+      last-differs q e = end-differs (stageBy h) N (wide h (re .judgeable)) long (l .depth) l (re .is) (re .room) v so r made n number q z b same e
 
 -- the walk ends at stage 129
 pub last-from : (h : Held) (l : Lists) → l .depth ≡ 129 → course limits (stageBy h) 1 129 ≡ fromStage h (l .depth)

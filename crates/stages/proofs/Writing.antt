@@ -1,31 +1,28 @@
 -- One label more written into its twelve places. Assumes nothing.
-use mathlib.Core.List.{List, [], _++_, _∷_}
-use mathlib.Core.Path.{_∙_, _≡_, ap, ap₂, sym}
+use mathlib.Core.List.{List, [], _++_, _∷_, append-nil}
+use mathlib.Core.Logic.{⊎-elim}
+use mathlib.Core.Path.{_∙_, _≡_, ap, ap₂, refl, subst, sym}
 use Prim.Native.Nat.{_%_, _*_, _+_, _-_, _/_, _<_, _≤_, suc, ℕ}
 use native.Mathlib.Decide.{decLt}
 use native.Mathlib.Numerals.{add-one}
 use native.Mathlib.Omega.{arith}
-use lib.ListN.{List·getD-append, List·getD-eq-default, drop, getD, length, length-take, set, take}
-use lib.Seq.{getD-append-add, getD-drop, getD-take, length-paste, length-paste-head, length-take-le, paste, paste-suc}
-use Rattle.labels.specs.declared.Built.{Built}
+use lib.Dec.{eqb}
+use lib.ListN.{List·getD-append, drop, drop-of-length-le, getD, length, set, take}
+use lib.Seq.{getD-append-add, getD-drop, getD-take, length-paste, length-paste-head, length-take-le, paste, paste-suc, take-all}
+use borrow.Author.Tests.{eqb-false, eqb-true}
 use Rattle.stages.proofs.Tables.{set-table, table-same}
 use Rattle.stages.specs.Lists.{listsOf}
-use Rattle.stages.specs.Steps.{firstLabels, withLabel}
+use Rattle.stages.specs.Steps.{Listed}
 use Rattle.stages.specs.declared.Lists.{Lists}
+use Rattle.theory.proofs.Lists.{either}
 use Rattle.theory.proofs.Places.{getD-table, is-table, length-table}
 use Rattle.theory.specs.Judge.{Stage}
 use Rattle.theory.specs.Places.{padded, table}
 
 -- ---- twelve places written one after the other
-
-abbrev pub withMembers : Lists → List ℕ → Lists
-withMembers l m = record { sizes = l .sizes; members = m; count = l .count; nogoods = l .nogoods; depth = l .depth }
-
-pub write-turn : (l₀ l : Lists) (from k : ℕ) (s : List ℕ) → length (l₀ .members) ≡ 1536 → 12 ≤ length s → from + 12 ≤ 1536 → k < 12
-    → l ≡ withMembers l₀ (paste (l₀ .members) from s k) → withMembers l (set (l .members) (from + k) (getD s k 0)) ≡ withMembers l₀ (paste (l₀ .members) from s (k + 1))
-write-turn l₀ l from k s a b f h e =
-    ap (λ (x : Lists). withMembers x (set (x .members) (from + k) (getD s k 0))) e
-    ∙ ap (withMembers l₀) (paste-suc (l₀ .members) from s k 0 (omega arith) (omega arith) ∙ ap (paste (l₀ .members) from s) (sym (add-one k)))
+pub write-turn : (m₀ m : List ℕ) (from k : ℕ) (s : List ℕ) → from + 12 ≤ length m₀ → 12 ≤ length s → k < 12 → m ≡ paste m₀ from s k → set m (from + k) (getD s k 0) ≡ paste m₀ from s (k + 1)
+write-turn m₀ m from k s a b h e =
+    ap (λ (x : List ℕ). set x (from + k) (getD s k 0)) e ∙ paste-suc m₀ from s k 0 (omega arith) (omega arith) ∙ ap (paste m₀ from s) (sym (add-one k))
 
 -- ---- what stands where after a paste of n
 module _ (d s : List ℕ) (at n : ℕ) (fits : at + n ≤ length d) (long : n ≤ length s) where
@@ -57,11 +54,18 @@ size ls i = length (getD ls i [])
 abbrev pub member : List (List ℕ) → ℕ → ℕ
 member ls i = getD (getD ls (i / 12) []) (i % 12) 0
 
+module _ (ls ms : List (List ℕ)) (same : (i : ℕ) → getD ls i [] ≡ getD ms i []) where
+  sizes-same : table 128 (size ls) ≡ table 128 (size ms)
+  sizes-same = table-same 128 (size ls) (size ms) 0 (λ i h. ap length (same i))
+
+  members-same : table 1536 (member ls) ≡ table 1536 (member ms)
+  members-same = table-same 1536 (member ls) (member ms) 0 (λ i h. ap (λ (l : List ℕ). getD l (i % 12) 0) (same (i / 12)))
+
 module _ (ls ms : List (List ℕ)) (n : ℕ) (low : n < 128) (X : List ℕ) (here : getD ms n [] ≡ X) (others : (i : ℕ) → (i ≡ n → ⊥) → getD ls i [] ≡ getD ms i []) where
   pub write-size : set (table 128 (size ls)) n (length X) ≡ table 128 (size ms)
   write-size = set-table 128 (size ls) (size ms) n (length X) 0 low (ap length here) (λ i ne. ap length (others i ne))
 
-  pub write-members : paste (table 1536 (member ls)) (12 * n) (padded 0 32 X) 12 ≡ table 1536 (member ms)
+  write-members : paste (table 1536 (member ls)) (12 * n) (padded 0 32 X) 12 ≡ table 1536 (member ms)
   unfolding padded
   write-members =
       let d : List ℕ = table 1536 (member ls) in
@@ -106,40 +110,79 @@ module _ (ls ms : List (List ℕ)) (n : ℕ) (low : n < 128) (X : List ℕ) (her
       past : (i : ℕ) → i / 12 ≡ n → (i ≡ 12 * n → ⊥) → i % 12 ≡ suc (i % 12 - 1)
       past i f ne = omega arith
 
--- ---- the lists of the first n labels of a stage
-
+-- ---- the lists of a stage
 filled : List ℕ → List ℕ → ℕ → List ℕ → ℕ → Lists
 filled z m c g d = record { sizes = z; members = m; count = c; nogoods = g; depth = d }
+
+pub lists-made : (d : ℕ) (s : Stage) (sizes members : List ℕ) (count : ℕ) (nogoods : List ℕ) → sizes ≡ table 128 (size (s .labels)) → members ≡ table 1536 (member (s .labels)) → Listed (s .nogoods) count nogoods
+    → _≡_ {A = Lists} (record { sizes = sizes; members = members; count = count; nogoods = nogoods; depth = d }) (listsOf d s)
+unfolding listsOf filled
+lists-made d s sizes members count nogoods z m n =
+    ap₂ (λ (x y : List ℕ). filled x y count nogoods d) z m
+    ∙ ap₂ (λ (c : ℕ) (g : List ℕ). filled (table 128 (size (s .labels))) (table 1536 (member (s .labels))) c g d) (n .counted) (n .lie)
+
+pub members-placed : (d : ℕ) (s : Stage) → table 1536 (member (s .labels)) ≡ listsOf d s .members
+unfolding listsOf
+members-placed d s = refl
+
+pub sizes-placed : (d : ℕ) (s : Stage) → table 128 (size (s .labels)) ≡ listsOf d s .sizes
+unfolding listsOf
+sizes-placed d s = refl
 
 pub lists-same : (d : ℕ) (s t : Stage) → s .nogoods ≡ t .nogoods → ((i : ℕ) → getD (s .labels) i [] ≡ getD (t .labels) i []) → listsOf d s ≡ listsOf d t
 unfolding listsOf filled
 lists-same d s t e f =
-    ap₂ (λ (z m : List ℕ). filled z m (length (s .nogoods)) (padded 0 32 (s .nogoods)) d)
-    (table-same 128 (size (s .labels)) (size (t .labels)) 0 (λ i h. ap length (f i)))
-    (table-same 1536 (member (s .labels)) (member (t .labels)) 0 (λ i h. ap (λ (l : List ℕ). getD l (i % 12) 0) (f (i / 12))))
+    ap₂ (λ (z m : List ℕ). filled z m (length (s .nogoods)) (padded 0 32 (s .nogoods)) d) (sizes-same (s .labels) (t .labels) f) (members-same (s .labels) (t .labels) f)
     ∙ ap (λ (n : List ℕ). filled (table 128 (size (t .labels))) (table 1536 (member (t .labels))) (length n) (padded 0 32 n) d) e
 
-module _ (s : Stage) (n : ℕ) where
-  first-others : (i : ℕ) → (i ≡ n → ⊥) → getD (take n (s .labels)) i [] ≡ getD (take (n + 1) (s .labels)) i []
-  first-others i ne = elim (decLt i n) [
-    | yes p ↦ getD-take n (s .labels) i [] p ∙ sym (getD-take (n + 1) (s .labels) i [] (omega arith))
-    | no p ↦ (let q : n < i = past i ne p in
-        List·getD-eq-default (take n (s .labels)) [] {n = i} (omega (arith, length-take n (s .labels)))
-        ∙ sym (List·getD-eq-default (take (n + 1) (s .labels)) [] {n = i} (omega (arith, length-take (n + 1) (s .labels)))))
+-- ---- the first labels of one stage, the rest of another
+abbrev pub mixed : List (List ℕ) → List (List ℕ) → ℕ → List (List ℕ)
+mixed old new i = take i new ++ drop i old
+
+pub mixed-all : (old new : List (List ℕ)) (i : ℕ) → length old ≤ i → length new ≤ i → mixed old new i ≡ new
+mixed-all old new i a b = ap₂ (λ (l m : List (List ℕ)). l ++ m) (take-all i new b) (drop-of-length-le old {i = i} a) ∙ append-nil new
+
+module _ (old new : List (List ℕ)) (n : ℕ) (low : n < length new) where
+  front-long : (i : ℕ) → i ≤ n + 1 → length (take i new) ≡ i
+  front-long i h = length-take-le i new (omega arith)
+
+  -- below i the new ones
+  mixed-below : (i j : ℕ) → i ≤ n + 1 → j < i → getD (mixed old new i) j [] ≡ getD new j []
+  mixed-below i j h p = List·getD-append (take i new) (drop i old) [] j (omega (arith, front-long i h)) ∙ getD-take i new j [] p
+
+  -- from i on the old ones
+  mixed-from : (i j : ℕ) → i ≤ n + 1 → i ≤ j → getD (mixed old new i) j [] ≡ getD old j []
+  mixed-from i j h p =
+      let e : i + (j - i) ≡ j = omega arith in
+      ap (λ (k : ℕ). getD (mixed old new i) k []) (sym e ∙ ap (λ (k : ℕ). k + (j - i)) (sym (front-long i h))) ∙ getD-append-add (take i new) (drop i old) (j - i) [] ∙ getD-drop i old (j - i) []
+      ∙ ap (λ (k : ℕ). getD old k []) e
+
+  mixed-here : getD (mixed old new (n + 1)) n [] ≡ getD new n []
+  mixed-here = mixed-below (n + 1) n (omega arith) (omega arith)
+
+  mixed-others : (j : ℕ) → (j ≡ n → ⊥) → getD (mixed old new n) j [] ≡ getD (mixed old new (n + 1)) j []
+  mixed-others j ne = elim (decLt j n) [
+    | yes p ↦ mixed-below n j (omega arith) p ∙ sym (mixed-below (n + 1) j (omega arith) (omega arith))
+    | no p ↦ mixed-from n j (omega arith) (omega arith) ∙ sym (mixed-from (n + 1) j (omega arith) (past j ne p))
   ]
     where
-      past : (i : ℕ) → (i ≡ n → ⊥) → (i < n → ⊥) → n < i
-      past i ne p = omega arith
+      past : (j : ℕ) → (j ≡ n → ⊥) → (j < n → ⊥) → n + 1 ≤ j
+      past j ne p = omega arith
 
-  -- one label more
-  pub labels-more : (d : ℕ) → n < 128 → (b : Built) → b .count ≡ length (getD (s .labels) n []) → b .sets ≡ padded 0 32 (getD (s .labels) n [])
-      → withLabel (listsOf d (firstLabels n s)) n b ≡ listsOf d (firstLabels (n + 1) s)
-  unfolding listsOf filled
-  labels-more d low b c e =
-      let X : List ℕ = getD (s .labels) n [] in
-      let ls : List (List ℕ) = take n (s .labels) in
-      let ms : List (List ℕ) = take (n + 1) (s .labels) in
-      let here : getD ms n [] ≡ X = getD-take (n + 1) (s .labels) n [] (omega arith) in
-      ap₂ (λ (z m : List ℕ). filled z m (length (s .nogoods)) (padded 0 32 (s .nogoods)) d)
-      (ap (set (table 128 (size ls)) n) c ∙ write-size ls ms n low X here first-others)
-      (ap (λ (l : List ℕ). paste (table 1536 (member ls)) (12 * n) l 12) e ∙ write-members ls ms n low X here first-others)
+  -- where label n is the same in both
+  mixed-still : getD new n [] ≡ getD old n [] → (j : ℕ) → getD (mixed old new n) j [] ≡ getD (mixed old new (n + 1)) j []
+  mixed-still e j = ⊎-elim (λ t. let q : j ≡ n = eqb-true j n t in subst (λ (k : ℕ). getD (mixed old new n) k [] ≡ getD (mixed old new (n + 1)) k []) (sym q) (mixed-from n n (omega arith) (omega arith) ∙ sym e ∙ sym mixed-here)) (λ t. mixed-others j (eqb-false j n t)) (either (eqb j n))
+
+  -- a label kept
+  pub sizes-kept : getD new n [] ≡ getD old n [] → (l : List ℕ) → l ≡ table 128 (size (mixed old new n)) → l ≡ table 128 (size (mixed old new (n + 1)))
+  sizes-kept e l q = q ∙ sizes-same (mixed old new n) (mixed old new (n + 1)) (mixed-still e)
+
+  pub members-kept : getD new n [] ≡ getD old n [] → (l : List ℕ) → l ≡ table 1536 (member (mixed old new n)) → l ≡ table 1536 (member (mixed old new (n + 1)))
+  members-kept e l q = q ∙ members-same (mixed old new n) (mixed old new (n + 1)) (mixed-still e)
+
+  -- a label written
+  pub sizes-written : n < 128 → (l : List ℕ) → l ≡ table 128 (size (mixed old new n)) → (c : ℕ) → c ≡ length (getD new n []) → set l n c ≡ table 128 (size (mixed old new (n + 1)))
+  sizes-written h l q c e = ap₂ (λ (x : List ℕ) (y : ℕ). set x n y) q e ∙ write-size (mixed old new n) (mixed old new (n + 1)) n h (getD new n []) mixed-here mixed-others
+
+  pub members-written : n < 128 → (l : List ℕ) → l ≡ table 1536 (member (mixed old new n)) → (s : List ℕ) → s ≡ padded 0 32 (getD new n []) → (m : List ℕ) → m ≡ paste l (12 * n) s 12 → m ≡ table 1536 (member (mixed old new (n + 1)))
+  members-written h l q s e m w = w ∙ ap₂ (λ (x y : List ℕ). paste x (12 * n) y 12) q e ∙ write-members (mixed old new n) (mixed old new (n + 1)) n h (getD new n []) mixed-here mixed-others

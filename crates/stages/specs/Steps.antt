@@ -1,19 +1,23 @@
 -- One stage after the other, as the code hands them on. Assumes nothing.
-use mathlib.Core.Bool.{Bool, _&&_, false, true}
+use mathlib.Core.Bool.{Bool, _&&_, false, not, true}
+use mathlib.Core.List.{List, List·Memᴰ as Mem}
 use mathlib.Core.Path.{_≡_}
-use Prim.Native.Nat.{_*_, _+_, _≤_, suc, zero, ℕ}
+use Prim.Native.Nat.{_+_, _≤_, suc, zero, ℕ}
 use lib.Dec.{eqb}
-use lib.ListN.{set, take}
-use lib.Seq.{paste}
-use Rattle.labels.specs.Layout.{Joinable}
-use Rattle.labels.specs.declared.Built.{Built}
+use lib.ListN.{getD, length}
+use Rattle.labels.specs.Layout.{lying}
 use Rattle.replies.specs.declared.Reply.the-variants.{Done, Label, Nogoods}
 use Rattle.rules.specs.Held.{saidBy}
 use Rattle.rules.specs.declared.Held.{Held}
-use Rattle.stages.specs.Judged.{refusal}
+use Rattle.stages.specs.Judged.{Judgeable, refusal}
 use Rattle.stages.specs.Lists.{listsOf}
 use Rattle.stages.specs.declared.Judged.{Judged}
 use Rattle.stages.specs.declared.Lists.{Lists}
+use Rattle.theory.specs.Lists.{allOf, those}
+use Rattle.theory.specs.Places.{padded, table}
+use Rattle.theory.specs.Sets.{contains}
+use Rattle.theory.specs.Stages.{Justification}
+use Rattle.theory.specs.Step.{labelIn}
 use Rattle.theory.specs.Judge.{Stage, labelLong, limits, nogoodsLong, sameSets, stageAt}
 
 -- stage k of the justifications held
@@ -37,19 +41,65 @@ pub record Room (s : Stage) : Type 0 where
 
 -- the lists are those of their stage, none is over, and the stage is 129 at most
 pub record Reached (h : Held) (l : Lists) : Type 0 where
-  pub joinable : Joinable h
+  pub judgeable : Judgeable h
   pub is : l ≡ listsOf (l .depth) (stageBy h (l .depth))
   pub room : Room (stageBy h (l .depth))
   pub low : l .depth ≤ 129
 
--- the first n labels of a stage, with its nogoods
-abbrev pub firstLabels : ℕ → Stage → Stage
-firstLabels n s = record { nogoods = s .nogoods; labels = take n (s .labels) }
+-- lists by their places
+abbrev pub lists : List ℕ → List ℕ → ℕ → List ℕ → ℕ → Lists
+lists members sizes count nogoods depth = record { sizes = sizes; members = members; count = count; nogoods = nogoods; depth = depth }
 
--- the label of the number i + 1 written
-abbrev pub withLabel : Lists → ℕ → Built → Lists
-withLabel l i b = record { sizes = set (l .sizes) i (b .count); members = paste (l .members) (12 * i) (b .sets) 12; count = l .count; nogoods = l .nogoods; depth = l .depth }
+-- members and sizes are those of stage k, beside its nogoods in their places
+abbrev pub LabelsLie : Held → ℕ → List ℕ → List ℕ → Type 0
+LabelsLie h k members sizes = (count : ℕ) × (nogoods : List ℕ) × Reached h (lists members sizes count nogoods k)
+
+-- r is the lowest number whose label is over at stage k; where none is, members and sizes are those of its labels
+pub record Relabelled (h : Held) (k : ℕ) (members sizes : List ℕ) (r : ℕ) : Type 0 where
+  pub over : r ≡ labelLong limits (stageBy h k)
+  pub members-are : r ≡ 0 → members ≡ listsOf k (stageBy h k) .members
+  pub sizes-are : r ≡ 0 → sizes ≡ listsOf k (stageBy h k) .sizes
+
+-- how many justifications of n are in the list
+abbrev pub manyOf : List Justification → ℕ → ℕ
+manyOf J n = length (those (λ j. eqb (j .consequent) n) J)
+
+-- how many justifications of each number are held
+unfoldable pub tallied : Held → List ℕ
+tallied h = table 129 (manyOf (saidBy h))
+
+-- the nogoods in their places, at most 32
+pub record Listed (nogoods : List ℕ) (count : ℕ) (places : List ℕ) : Type 0 where
+  pub counted : count ≡ length nogoods
+  pub few : count ≤ 32
+  pub lie : places ≡ padded 0 32 nogoods
 
 -- all labels and nogoods are the same
 unfoldable pub sameLists : Lists → Lists → Bool
 sameLists l m = eqb (l .count) (m .count) && (sameSets (l .sizes) (m .sizes) && (sameSets (l .members) (m .members) && sameSets (l .nogoods) (m .nogoods)))
+
+-- the label of n is the same in both, as they lie
+abbrev pub sameLabel : List ℕ → List ℕ → List ℕ → List ℕ → ℕ → Bool
+sameLabel members sizes later counts n = sameSets (lying members sizes n) (lying later counts n)
+
+-- where the mark of n is 0, every support of its justifications passes the test
+abbrev pub Untouched : (ℕ → Bool) → List Justification → List ℕ → Type 0
+Untouched same J marks = (n : ℕ) → n ≤ 128 → getD marks n 0 ≡ 0 → (r : Justification) → Mem r J → r .consequent ≡ n → allOf same (r .supports) ≡ true
+
+-- no label that the list of n is made of changed in the step to stage k
+pub record Steady (h : Held) (k n : ℕ) : Type 0 where
+  pub before : ℕ
+  pub next : k ≡ suc before
+  pub same : (r : Justification) → Mem r (saidBy h) → r .consequent ≡ n → (s : ℕ) → Mem s (r .supports) → labelIn (stageBy h (suc before) .labels) s ≡ labelIn (stageBy h before .labels) s
+
+-- each list without a mark is so
+abbrev pub Fresh : Held → ℕ → List ℕ → Type 0
+Fresh h k stale = (n : ℕ) → n ≤ 128 → getD stale n 0 ≡ 0 → Steady h k n
+
+-- no news: the nogoods are the same at the next stage
+abbrev pub Told : Held → ℕ → Bool → Type 0
+Told h k news = news ≡ false → stageBy h (k + 1) .nogoods ≡ stageBy h k .nogoods
+
+-- those of the list that contain no set struck
+abbrev pub sparedOf : List ℕ → List ℕ → List ℕ
+sparedOf struck l = those (λ E. not (contains struck E)) l

@@ -1,64 +1,78 @@
 -- `labels::build` meets its contract. Assumes nothing.
-use mathlib.Core.Path.{ap, sym}
-use Prim.Native.Nat.{_-_}
+use mathlib.Core.List.{map}
+use mathlib.Core.Path.{_∙_, refl, sym}
+use Prim.Native.Nat.{_+_, _-_}
 use native.Mathlib.Omega.{arith}
 use lib.Seq.{length-take-le}
-use borrow.Author.Needs.{needs}
-use Rattle.labels.proofs.Builds.{Begun, begun-none, build-full, build-more, build-none}
-use Rattle.labels.specs.Layout.{lying}
-use Rattle.labels.specs.Picked.{picked}
-use Rattle.rules.specs.Held.{saidBy}
-use Rattle.theory.specs.Step.{candidates}
+use Rattle.labels.proofs.Turns.{Passing, half-roomy, pass-done, pass-on, pass-roomy, passing-none}
+use Rattle.labels.specs.Layout.{between, lying}
+use Rattle.rules.specs.Held.{meaning}
+use Rattle.theory.specs.Step.{candidates, joinsFor}
 use Rattle.labels.proofs.build.Statement.{statement}
 use Rattle.labels.proofs.build.Tie as tie
 
 abbrev Inv-loop : tie.InvT-loop
-Inv-loop held n members sizes old struck limit sets₀ count₀ sets count = Begun (candidates (lying members sizes) old (saidBy held) n) struck limit sets count
+Inv-loop held lo hi n members sizes old struck limit pool₀ count₀ turn₀ pool count turn = Passing struck (candidates (lying members sizes) old (map meaning (between (held .entries) lo hi)) n) limit pool count turn
 
 abbrev μ-loop : tie.MeasureT-loop
-μ-loop held n members sizes old struck limit sets₀ count₀ sets count = 33 - count
+μ-loop held lo hi n members sizes old struck limit pool₀ count₀ turn₀ pool count turn = limit + 1 - turn
 
 loop-holds : tie.Need-loop-holds Inv-loop μ-loop
-loop-holds c = begun-none _ _ _
+loop-holds c = passing-none _ _ _
 
-array-share-prefix-sets : tie.Need-array-share-prefix-sets Inv-loop μ-loop
-array-share-prefix-sets c = omega (arith, c .before .before .before .before .before .pre .2, c .loop .inv .few, c .loop .inv .long)
+slice-aggregate-pour : tie.Need-slice-aggregate-pour Inv-loop μ-loop
+slice-aggregate-pour c = sym (c .before .before .loop .inv .long)
 
-slice-aggregate-next : tie.Need-slice-aggregate-next Inv-loop μ-loop
-slice-aggregate-next c = sym (length-take-le (c .before .loop .count) (c .before .loop .sets) (omega (arith, c .before .before .before .before .before .before .pre .2, c .before .loop .inv .few, c .before .loop .inv .long)))
+pour-requires : tie.Need-pour-requires Inv-loop μ-loop
+pour-requires c κs = pass-roomy _ _ _ _ _ _ (c .before .before .loop .inv)
 
-next-requires : tie.Need-next-requires Inv-loop μ-loop
-next-requires c κs = (c .before .before .before .before .before .before .pre .0, c .before .before .before .before .before .before .pre .1)
+slice-aggregate-pooled : tie.Need-slice-aggregate-pooled Inv-loop μ-loop
+slice-aggregate-pooled c = sym (c .before .before .pour .kept .1 .1 .0 ∙ c .before .before .before .before .before .loop .inv .long)
 
-enum-known-pick : tie.Need-enum-known-pick Inv-loop μ-loop
-enum-known-pick c = search needs
+pooled-requires : tie.Need-pooled-requires Inv-loop μ-loop
+unfolding candidates
+pooled-requires c κs =
+    let s = c .before .before .before .before .before .before .before .before .before .before in
+    (s .pre .0, s .pre .1, s .pre .2, half-roomy _ _ _ _ _ _ (c .before .before .before .before .before .loop .inv) (s .args .old .now) (joinsFor (lying (s .args .members .now) (s .args .sizes .now)) (s .args .n) (map meaning (between (s .args .held .entries) (s .args .lo) (s .args .hi)))) refl _ _ (c .before .before .pour .kept .1 .1 .0) (c .before .before .pour .ensures))
 
-enum-told : tie.Need-enum-told Inv-loop μ-loop
-enum-told c = search needs
+array-share-prefix-pool : tie.Need-array-share-prefix-pool Inv-loop μ-loop
+array-share-prefix-pool c = omega (arith, c .if1 .taken, c .before .before .pooled .kept .1 .1 .1 .1 .1 .1 .1 .0, c .before .before .before .before .before .pour .kept .1 .1 .0, c .before .before .before .before .before .before .before .before .loop .inv .long)
+
+slice-aggregate-drawn : tie.Need-slice-aggregate-drawn Inv-loop μ-loop
+slice-aggregate-drawn c = sym (length-take-le _ _ (omega (arith, c .before .if1 .taken, c .before .before .before .pooled .kept .1 .1 .1 .1 .1 .1 .1 .0, c .before .before .before .before .before .before .pour .kept .1 .1 .0, c .before .before .before .before .before .before .before .before .before .loop .inv .long)))
+
+drawn-requires : tie.Need-drawn-requires Inv-loop μ-loop
+drawn-requires c κs = c .before .before .before .before .before .before .before .before .before .before .before .before .before .before .pre .3
 
 returns : tie.Need-returns Inv-loop μ-loop
-returns c = build-none _ _ _ (c .before .before .before .before .before .before .before .before .before .pre .2) (c .before .before .before .before .loop .sets) (c .before .before .before .before .loop .count) (c .before .before .before .before .loop .inv) _ (c .before .before .next .ensures) (ap picked (c .enum-told .given .1))
+unfolding candidates
+returns c =
+    let s = c .before .before .before .before .before .before .before .before .before .before .before .before .before .before .before in
+    pass-done _ _ _ _ _ _ (c .before .before .before .before .before .before .before .before .before .before .loop .inv) (s .args .old .now) (joinsFor (lying (s .args .members .now) (s .args .sizes .now)) (s .args .n) (map meaning (between (s .args .held .entries) (s .args .lo) (s .args .hi)))) refl _ _ (c .before .before .before .before .before .before .before .pour .kept .1 .1 .0) (c .before .before .before .before .before .before .before .pour .ensures) _ _ (c .before .before .before .before .pooled .kept .1 .1 .1 .1 .1 .1 .1 .0) (c .before .before .before .before .pooled .ensures) (c .before .before .if1 .taken) _ (c .drawn .ensures)
 
-add-t16 : tie.Need-add-t16 Inv-loop μ-loop
-add-t16 c = search needs
+sub-count : tie.Need-sub-count Inv-loop μ-loop
+sub-count c = omega (arith, c .if1 .left)
 
-returns-2 : tie.Need-returns-2 Inv-loop μ-loop
-returns-2 c = build-full _ _ _ (c .before .before .before .before .before .before .before .before .before .before .before .pre .2) (c .before .before .before .before .before .before .loop .sets) (c .before .before .before .before .before .before .loop .count) (c .before .before .before .before .before .before .loop .inv) _ (c .before .before .before .before .next .ensures) _ (ap picked (c .before .before .pick .given .1)) (c .if1 .taken)
+sub-count-2 : tie.Need-sub-count-2 Inv-loop μ-loop
+sub-count-2 c = omega (arith, c .if1 .left)
 
-mul-sets : tie.Need-mul-sets Inv-loop μ-loop
-mul-sets c = omega (arith, c .before .before .before .before .before .before .before .before .before .before .before .pre .2, c .before .before .before .before .before .before .loop .inv .few, c .if1 .left)
-
-array-write-sets : tie.Need-array-write-sets Inv-loop μ-loop
-array-write-sets c = omega (arith, c .before .before .before .before .before .before .before .before .before .before .before .pre .2, c .before .before .before .before .before .before .loop .inv .few, c .if1 .left)
-
-add-count : tie.Need-add-count Inv-loop μ-loop
-add-count c = omega (arith, c .before .before .before .before .before .before .before .before .before .before .before .pre .2, c .before .before .before .before .before .before .loop .inv .few, c .if1 .left)
+add-turn : tie.Need-add-turn Inv-loop μ-loop
+add-turn c = omega (arith, c .before .before .before .before .before .before .before .loop-test .taken, c .before .before .before .before .before .before .before .before .before .before .before .before .before .pre .3)
 
 loop-less : tie.Need-loop-less Inv-loop μ-loop
-loop-less c = omega (arith, c .before .before .before .before .before .before .before .before .before .before .before .pre .2, c .before .before .before .before .before .before .loop .inv .few, c .if1 .left)
+loop-less c = omega (arith, c .before .before .before .before .before .before .before .loop-test .taken)
 
 loop-again : tie.Need-loop-again Inv-loop μ-loop
-loop-again c = build-more _ _ _ (c .before .before .before .before .before .before .before .before .before .before .before .pre .2) (c .before .before .before .before .before .before .loop .sets) (c .before .before .before .before .before .before .loop .count) (c .before .before .before .before .before .before .loop .inv) _ (c .before .before .before .before .next .ensures) _ (ap picked (c .before .before .pick .given .1)) (c .if1 .left)
+unfolding candidates
+loop-again c =
+    let s = c .before .before .before .before .before .before .before .before .before .before .before .before .before in
+    pass-on _ _ _ _ _ _ (c .before .before .before .before .before .before .before .before .loop .inv) (s .args .old .now) (joinsFor (lying (s .args .members .now) (s .args .sizes .now)) (s .args .n) (map meaning (between (s .args .held .entries) (s .args .lo) (s .args .hi)))) refl _ _ (c .before .before .before .before .before .pour .kept .1 .1 .0) (c .before .before .before .before .before .pour .ensures) _ _ (c .before .before .pooled .kept .1 .1 .1 .1 .1 .1 .1 .0) (c .before .before .pooled .ensures) (c .if1 .left) (c .before .before .before .before .before .before .before .loop-test .taken)
+
+plain-requires : tie.Need-plain-requires Inv-loop μ-loop
+plain-requires c κs = c .before .before .before .before .before .before .pre
+
+returns-2 : tie.Need-returns-2 Inv-loop μ-loop
+returns-2 c = c .plain .ensures
 
 pub build-spec : {M : Type 1} → statement M
 build-spec =
@@ -67,16 +81,18 @@ build-spec =
     Inv-loop
     μ-loop
     loop-holds
-    array-share-prefix-sets
-    slice-aggregate-next
-    next-requires
-    enum-known-pick
-    enum-told
+    slice-aggregate-pour
+    pour-requires
+    slice-aggregate-pooled
+    pooled-requires
+    array-share-prefix-pool
+    slice-aggregate-drawn
+    drawn-requires
     returns
-    add-t16
-    returns-2
-    mul-sets
-    array-write-sets
-    add-count
+    sub-count
+    sub-count-2
+    add-turn
     loop-less
-    loop-again)
+    loop-again
+    plain-requires
+    returns-2)

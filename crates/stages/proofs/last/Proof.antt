@@ -1,11 +1,11 @@
 -- `stages::last` meets its contract. Assumes nothing.
-use borrow.Author.Needs.{needs}
 use Rattle.stages.proofs.Walk.{judge-settled, last-differs, last-from, last-refused}
+use borrow.Author.Needs.{needs}
 use Rattle.stages.proofs.last.Statement.{statement}
 use Rattle.stages.proofs.last.Tie as tie
 
 next-requires : tie.Need-next-requires
-next-requires c κs = c .pre .0
+next-requires c κs = (c .pre .0, c .pre .2, c .pre .3)
 
 number-requires : tie.Need-number-requires
 number-requires c κs = search needs

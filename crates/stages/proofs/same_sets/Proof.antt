@@ -1,11 +1,11 @@
 -- `stages::same_sets` meets its contract. Assumes nothing.
-use mathlib.Core.Path.{_∙_, _≡_, refl, sym}
-use Prim.Native.Nat.{_-_, _≤_}
-use native.Mathlib.Omega.{arith}
-use lib.ListN.{drop, length}
-use borrow.Author.Needs.{needs}
 use Rattle.rules.proofs.Steps.{same-end, same-hit, same-miss}
 use Rattle.theory.specs.Judge.{sameSets}
+use mathlib.Core.Path.{_≡_, refl, sym, _∙_}
+use Prim.Native.Nat.{_-_, _≤_}
+use native.Mathlib.Omega.{arith}
+use borrow.Author.Needs.{needs}
+use lib.ListN.{length, drop}
 use Rattle.stages.proofs.same_sets.Statement.{statement}
 use Rattle.stages.proofs.same_sets.Tie as tie
 

@@ -1,9 +1,9 @@
 -- `stages::start` meets its contract. Assumes nothing.
+use Rattle.stages.proofs.Stages.{members-more, members-none, membersTo, sizes-more, sizes-none, sizesTo, start-made}
 use mathlib.Core.Path.{_≡_, refl}
-use Prim.Native.Nat.{_-_, _<_, _≤_}
+use Prim.Native.Nat.{_-_, _≤_, _<_}
 use native.Mathlib.Omega.{arith}
 use borrow.Author.Needs.{needs}
-use Rattle.stages.proofs.Stages.{members-more, members-none, membersTo, sizes-more, sizes-none, sizesTo, start-made}
 use Rattle.stages.proofs.start.Statement.{statement}
 use Rattle.stages.proofs.start.Tie as tie
 

@@ -1,7 +1,7 @@
 -- `stages::Lists::same` meets its contract. Assumes nothing.
-use mathlib.Core.Path.{_∙_, sym}
-use borrow.Author.Needs.{needs}
 use Rattle.stages.proofs.Same.{same-count, same-members, same-rest, same-sizes}
+use mathlib.Core.Path.{sym, _∙_}
+use borrow.Author.Needs.{needs}
 use Rattle.stages.proofs.Lists.same.Statement.{statement}
 use Rattle.stages.proofs.Lists.same.Tie as tie
 
