@@ -11,7 +11,7 @@ use borrow.Author.Tests.{le-ltb, lt-ltb}
 use Rattle.asking.specs.Asking.{byteOf, contextBytes, contextOf, contextReply, left, memberAt, memberOf, questionOf, standing}
 use Rattle.asking.specs.declared.Answer.{Answer}
 use Rattle.asking.specs.declared.Answer.the-variants.{Inconsistent, Refused, Supported, Unsupported}
-use Rattle.lines.specs.Lines.{caseOf, caseText, fitted, lineOf, lineText}
+use Rattle.lines.specs.Lines.{caseText, fitted, headingOf, lineOf, lineText}
 use Rattle.promises.proofs.Form.{Form, form-a, form-count, form-m}
 use Rattle.promises.proofs.Right.{form-right}
 use Rattle.promises.proofs.Telling.{form-carries, form-contradicts, form-label, form-nogoods}
@@ -147,6 +147,6 @@ module _ {A M : ℕ} {H : List Justification} {s : Store} (f : Form A M H s) whe
   unfolding caseText
   case-text = ap₂ (λ (a m : ℕ). heading a m (s .held .count) (s .lists .depth)) (form-a f) (form-m f) ∙ ap (λ (k : ℕ). heading A M k (s .lists .depth)) (form-count f)
 
-  pub form-heading : (out : List ℕ) → length first ≤ length out → handing s (caseOf s out) ≡ writes s first out
-  unfolding caseOf
+  pub form-heading : (out : List ℕ) → length first ≤ length out → handing s (headingOf s out) ≡ writes s first out
+  unfolding headingOf
   form-heading out h = rw (form-right f, case-text) (fits first out h)

@@ -7,7 +7,7 @@ use Rattle.asking.specs.declared.Asked.{Asked}
 use Rattle.asking.specs.declared.Shown.{Shown}
 use Rattle.casefile.specs.Load.{loadOf}
 use Rattle.casefile.specs.declared.Loaded.{Loaded}
-use Rattle.lines.specs.Lines.{Wrote, caseOf, lineOf}
+use Rattle.lines.specs.Lines.{Wrote, headingOf, lineOf}
 use Rattle.lines.specs.declared.Listed.{Listed}
 use Rattle.store.specs.Calls.{addOf, answer, openOf}
 use Rattle.store.specs.declared.Outcome.{Outcome}
@@ -43,5 +43,5 @@ ours = record {
   member = λ s n place. record { answer = memberOf s n place; store = s };
   loading = loadOf;
   line = λ s n out. handing s (lineOf s n out);
-  heading = λ s out. handing s (caseOf s out);
+  heading = λ s out. handing s (headingOf s out);
 }

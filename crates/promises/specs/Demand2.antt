@@ -89,9 +89,9 @@ pub record Tells (C : Calls) (A M : ℕ) (H : List Justification) (s : Store) : 
   -- each label lists the sets of this kind that have no smaller one inside them, all of them, once; so do the nogoods
   pub label : (n : ℕ) → n ≤ A + M → ListsSmallest A (λ E. carries H E n) (labelHeld (s .lists) n)
   pub nogoods : ListsSmallest A (contradicts H) (nogoodsHeld (s .lists))
-  -- member reads them, place by place
+  -- member reads them, place by place (only one list is so: the order is strict)
   pub member : (n : ℕ) → n ≤ A + M → (l : List ℕ) × ListsSmallest A (listedFor H n) l × ((place : ℕ) → C .member s n place .answer ≡ atPlace l place)
-  -- so does the text line; line one has A, M, distinct justifications held, depth
+  -- so does the text line, of that one list; line one has A, M, distinct justifications held, depth
   pub line : (n : ℕ) → n ≤ A + M → (l : List ℕ) × ListsSmallest A (listedFor H n) l × ((out : List ℕ) → length (textOf n l) ≤ length out → C .line s n out ≡ writes s (textOf n l) out)
   pub heading : (out : List ℕ) → length (heading A M (length (inOrder H)) (s .lists .depth)) ≤ length out → C .heading s out ≡ writes s (heading A M (length (inOrder H)) (s .lists .depth)) out
   -- the depth; the store's labels and nogoods are those at the depth, and every later stage agrees with them
