@@ -2,6 +2,7 @@ pub mod InOrder
 pub mod Opening
 pub mod Keeping
 pub mod Form
+pub mod Standing
 pub mod Right
 pub mod Sameness
 pub mod Telling

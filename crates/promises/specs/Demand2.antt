@@ -13,8 +13,7 @@ use Rattle.asking.specs.declared.Found.{Found}
 use Rattle.asking.specs.declared.Found.the-variants.{Is, Not}
 use Rattle.casefile.specs.Case.{Case, caseOf, whole}
 use Rattle.lines.specs.Lines.{wordOf}
-use Rattle.lines.specs.declared.Written.the-variants.{Length}
-use Rattle.promises.specs.Calls.{Calls, Line}
+use Rattle.promises.specs.Calls.{Calls, writes}
 use Rattle.promises.specs.Made.{Made, inOrder, putIn}
 use Rattle.promises.specs.Room.{AddSays, StagesSay}
 use Rattle.replies.specs.declared.Reply.{Reply}
@@ -69,10 +68,6 @@ atPlace l place = choose (leb (length l) place) (Not Place) (Is (getD l place 0)
 -- the line of n whose list is l, as the listing has it
 abbrev pub textOf : ℕ → List ℕ → List ℕ
 textOf n l = row 32 n (wordOf n l) l
-
--- the text and its length, bytes after it kept
-abbrev pub writes : Store → List ℕ → List ℕ → Line
-writes s t out = record { listed = record { answer = Length (length t); store = s }; bytes = t ++ drop (length t) out }
 
 -- the least k for which all labels and nogoods at k and k + 1 agree
 pub record IsDepth (A N : ℕ) (H : List Justification) (k : ℕ) : Type 0 where

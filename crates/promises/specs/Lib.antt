@@ -2,6 +2,7 @@ pub mod Calls
 pub mod Made
 pub mod Room
 pub mod Table
+pub mod Standing
 pub mod Demand1
 pub mod Demand2
 pub mod Demand3
