@@ -1,3 +1,4 @@
+pub mod Cited
 pub mod InOrder
 pub mod Opening
 pub mod Keeping

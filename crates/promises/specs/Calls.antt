@@ -38,7 +38,7 @@ pub record Calls : Type 0 where
   pub line : Store → ℕ → List ℕ → Line
   pub heading : Store → List ℕ → Line
 
--- ours: what the contracts of the product's calls say of every answer
+-- ours: what the contracts of the product's calls say of every answer (`Cited`)
 abbrev pub ours : Calls
 ours = record {
   opening = openOf;

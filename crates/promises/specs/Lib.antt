@@ -1,4 +1,5 @@
 pub mod Calls
+pub mod Cited
 pub mod Made
 pub mod Room
 pub mod Table
