@@ -16,6 +16,7 @@ pub mod Filing
 pub mod Table
 pub mod Refusals
 pub mod Truth
+pub mod Meaning
 pub mod Promises
 pub mod OneAnswer
 pub mod Small

@@ -7,6 +7,7 @@ pub mod Standing
 pub mod Demand1
 pub mod Demand2
 pub mod Demand3
+pub mod Meaning
 pub mod Promises
 pub mod OneAnswer
 pub mod Cases

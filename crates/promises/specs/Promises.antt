@@ -5,6 +5,7 @@ use Rattle.promises.specs.Demand1.{Demand1}
 use Rattle.promises.specs.Demand2.{Demand2}
 use Rattle.promises.specs.Demand3.{Demand3}
 use Rattle.promises.specs.Made.{Stores}
+use Rattle.promises.specs.Meaning.{Meaning}
 use Rattle.promises.specs.Standing.{AsTheyStand}
 
 -- (that every call ends and does nothing undefined is what each function's proof shows)
@@ -15,3 +16,4 @@ pub record Promises (C : Calls) : Type 0 where
   pub demand3 : Demand3 C
   pub stores : Stores C
   pub standing : AsTheyStand C
+  pub meaning : Meaning
