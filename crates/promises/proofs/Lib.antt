@@ -15,8 +15,9 @@ pub mod Rows
 pub mod Filing
 pub mod Table
 pub mod Refusals
-pub mod Truth
 pub mod Meaning
+pub mod OwnSupport
+pub mod Truth
 pub mod Promises
 pub mod OneAnswer
 pub mod Small

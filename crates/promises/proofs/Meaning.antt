@@ -47,11 +47,11 @@ unrivalled l E = (λ u. record { listed = u .mem; alone = u .alone }, λ u. reco
 -- ---- a justification that names its own consequent
 
 module _ (j : Justification) (H : List Justification) (self : Mem (j .consequent) (j .supports)) (A : ℕ) where
-  self-label : (k n : ℕ) → labelAt A (j ∷ H) k n ≡ labelAt A H k n
+  pub self-label : (k n : ℕ) → labelAt A (j ∷ H) k n ≡ labelAt A H k n
   unfolding labelAt
   self-label k n = ap (λ S. labelOf A (S k) n) (self-follows j H self)
 
-  self-nogoods : (k : ℕ) → nogoodsAt A (j ∷ H) k ≡ nogoodsAt A H k
+  pub self-nogoods : (k : ℕ) → nogoodsAt A (j ∷ H) k ≡ nogoodsAt A H k
   unfolding nogoodsAt
   self-nogoods k = ap (λ S. nogoodsOf A (S k)) (self-follows j H self)
 

@@ -15,7 +15,7 @@ use Rattle.casefile.specs.Case.{Case, caseOf, whole}
 use Rattle.lines.specs.Lines.{wordOf}
 use Rattle.promises.specs.Calls.{Calls, writes}
 use Rattle.promises.specs.Made.{Made, inOrder, putIn}
-use Rattle.promises.specs.Room.{AddSays, StagesSay}
+use Rattle.promises.specs.Room.{AddSays, Reaches, StagesSay}
 use Rattle.replies.specs.declared.Reply.{Reply}
 use Rattle.replies.specs.declared.Reply.the-variants.{Done, Place}
 use Rattle.store.specs.Calls.{answer}
@@ -106,3 +106,5 @@ pub record Demand2 (C : Calls) : Type 0 where
   pub loads : (bytes : List ℕ) (f : Case) → caseOf bytes ≡ whole f → (r : Reply) → (C .loading bytes .reply ≡ r) ↔ StagesSay (f .header .assumptions) (f .header .assumptions + f .header .claims) (putIn f) r
   -- every store made by the calls tells the truth of what was put in
   pub tells : {A M : ℕ} {H : List Justification} {s : Store} → Made C A M H s → Tells C A M H s
+  -- a justification that names its own consequent as a support is held and changes no label
+  pub self-support : {A M : ℕ} {H : List Justification} {s : Store} (c : ℕ) (l : List ℕ) → Made C A M H s → Reaches A M H c l → Mem c l → (t : Store) × (C .adding s c l ≡ answer Done t) × (t .lists ≡ s .lists)
