@@ -252,6 +252,10 @@ module _ (c : Case) (sound : Sound c) where
   case-order : ordered (heldBy c) ≡ true
   case-order = let sure = case-sure c sound in ap ordered (sym (sure .said)) ∙ right-elim (heldOf A′ M′ (heldBy c)) (sure .right) .order
 
+  -- .. is what was put in, in order
+  pub case-held : heldBy c ≡ inOrder (putIn c)
+  case-held = in-order-is (heldBy c) (putIn c) case-order case-members
+
   case-few : length (heldBy c) ≤ 256
   unfolding heldOf
   case-few = right-elim (heldOf A′ M′ (heldBy c)) (case-sure c sound .right) .few
