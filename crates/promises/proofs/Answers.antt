@@ -94,7 +94,7 @@ module _ {A M : ℕ} {H : List Justification} {s : Store} (f : Form A M H s) whe
 
   -- ---- question
 
-  question-by : (n E : ℕ) → n ≤ A + M → E < 2 ^ A → questionOf s n E ≡ answerBy H n E
+  pub question-by : (n E : ℕ) → n ≤ A + M → E < 2 ^ A → questionOf s n E ≡ answerBy H n E
   question-by n E l h = ap (λ (a : Asked). a .answer) (reads .question n E (omega (arith, tops)) (set-in E h)) ∙ standing-by n E l h
 
   pub form-question : (n E : ℕ) → n ≤ A + M → E < 2 ^ A → (a : Answer) → (questionOf s n E ≡ a) ↔ QuestionSays H n E a

@@ -24,4 +24,5 @@ pub mod Small
 pub mod Cases
 pub mod Prefixed
 pub mod Arrival
+pub mod Deducing
 pub mod Wrong

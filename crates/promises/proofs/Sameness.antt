@@ -32,7 +32,7 @@ same-members-trans f g j = (λ m. g j .0 (f j .0 m), λ m. f j .1 (g j .1 m))
 same-members-sym : {H K : List Justification} → SameMembers H K → SameMembers K H
 same-members-sym f j = (f j .1, f j .0)
 
-one-store : (C : Calls) {s t : Store} → s ≡ t → Same C s t
+pub one-store : (C : Calls) {s t : Store} → s ≡ t → Same C s t
 one-store C e = record {
   label = λ n. ap (λ (x : Store). labelHeld (x .lists) n) e;
   nogoods = ap (λ (x : Store). nogoodsHeld (x .lists)) e;

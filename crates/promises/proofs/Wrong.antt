@@ -15,6 +15,7 @@ use Rattle.asking.specs.declared.Answer.the-variants.{Inconsistent, Refused, Su
 use Rattle.asking.specs.declared.Asked.{Asked}
 use Rattle.promises.proofs.Arrival.{keeps-arrival}
 use Rattle.promises.proofs.Cases.{p-cases}
+use Rattle.promises.proofs.Deducing.{demand-1-too, demand-2-too, demand-3-too, stores-too}
 use Rattle.promises.proofs.Form.{Form, form-a, form-count, form-m, form-said, made-form}
 use Rattle.promises.proofs.Full.{room-not-nogoods}
 use Rattle.promises.proofs.Prefixed.{judges-prefixes}
@@ -303,4 +304,5 @@ refuted = record {
   forgets-nogoods = forgets-nogoods;
   calls-all-full = calls-all-full;
   reads-no-list = reads-no-list;
+  reads-no-list-untold = (demand-1-too, demand-2-too, demand-3-too, stores-too);
 }

@@ -13,9 +13,10 @@ use Rattle.casefile.specs.declared.Loaded.{Loaded}
 use Rattle.items.specs.Items.{Item}
 use Rattle.lines.specs.Lines.{kept}
 use Rattle.promises.specs.Calls.{Calls, handing, ours}
+use Rattle.promises.specs.Demand1.{Demand1}
 use Rattle.promises.specs.Demand2.{Demand2}
 use Rattle.promises.specs.Demand3.{Demand3}
-use Rattle.promises.specs.Made.{inOrder}
+use Rattle.promises.specs.Made.{Stores, inOrder}
 use Rattle.promises.specs.Standing.{AsTheyStand}
 use Rattle.promises.specs.Table.{ReplyTable}
 use Rattle.replies.specs.declared.Reply.the-variants.{Counts, Done, Ends, Nogoods, Shape}
@@ -211,7 +212,7 @@ alwaysFull = record {
   heading = ours .heading;
 }
 
--- a question that works from the justifications and reads no list: right of every made store
+-- a question that works from the justifications and reads no list: right of every made store, wrong of a forged one
 abbrev pub workedOut : List Justification → ℕ → ℕ → Answer
 workedOut H n E = choose (contradicts H E) Inconsistent (choose (carries H E n) Supported Unsupported)
 
@@ -240,3 +241,5 @@ pub record Refuted : Type 0 where
   pub forgets-nogoods : Demand2 forgetful → ⊥
   pub calls-all-full : Demand2 alwaysFull → ⊥
   pub reads-no-list : AsTheyStand deducing → ⊥
+  -- .. of which no other demand can tell
+  pub reads-no-list-untold : Demand1 deducing × Demand2 deducing × Demand3 deducing × Stores deducing
