@@ -5,7 +5,7 @@ use mathlib.Core.Path.{_∙_, _≡_, ap}
 use Prim.Native.Nat.{_<_, _≤_, ℕ}
 use lib.ListN.{drop, length}
 use borrow.Author.Tests.{le-ltb, lt-ltb}
-use Rattle.lines.specs.Lines.{CaseLined, Hands, Leaves, Lined, RefusalLined, Wrote, caseOf, caseText, fitted, lineOf, lineText, refusalText}
+use Rattle.lines.specs.Lines.{CaseLined, Hands, Leaves, Lined, RefusalLined, Wrote, caseText, fitted, headingOf, lineOf, lineText, refusalText}
 use Rattle.lines.specs.declared.Written.{Written}
 use Rattle.lines.specs.declared.Written.the-variants.{Length, Refused}
 use Rattle.replies.specs.declared.Reply.{Reply}
@@ -41,11 +41,11 @@ module _ (s : Store) (out : List ℕ) where
     line-rest e h f l = hands s (l ∙ ap (λ (x : List ℕ). fitted x out) f ∙ rw (e, le-ltb (top (s .held)) n h))
 
   pub case-shape : rightShape s ≡ false → CaseLined s out (record { answer = Refused Shape; store = s }) out
-  unfolding caseOf
+  unfolding headingOf
   case-shape e = hands s (rw e)
 
   pub case-rest : rightShape s ≡ true → {t : List ℕ} → t ≡ caseText s → {r : Written} {after : List ℕ} → Leaves (fitted t out) r after → CaseLined s out (record { answer = r; store = s }) after
-  unfolding caseOf
+  unfolding headingOf
   case-rest e f l = hands s (l ∙ ap (λ (x : List ℕ). fitted x out) f ∙ rw e)
 
 pub refusal-rest : (reply : Reply) (k : ℕ) (out : List ℕ) {t : List ℕ} → t ≡ refusalText reply k → {r : Written} {after : List ℕ} → Leaves (fitted t out) r after → RefusalLined reply k out r after

@@ -8,7 +8,7 @@ use lib.Dec.{lit<}
 use lib.ListN.{drop, getD, length, length-take}
 use borrow.Author.Tests.{le-ltb}
 use Rattle.lines.proofs.Bounds.{bounded}
-use Rattle.lines.specs.Lines.{caseOf, caseText, fitted, lineOf, lineText, longest, refusalText, wordOf}
+use Rattle.lines.specs.Lines.{caseText, fitted, headingOf, lineOf, lineText, longest, refusalText, wordOf}
 use Rattle.lines.specs.declared.Written.the-variants.{Length}
 use Rattle.replies.specs.Replies.{numberOf}
 use Rattle.replies.specs.declared.Reply.{Reply}
@@ -88,8 +88,8 @@ module _ (s : Store) (right : rightShape s ≡ true) (out : List ℕ) (room : lo
       let k : length (lineText (s .lists) n) ≤ longest = line-length s n right e l in
       rw (right, le-ltb (top (s .held)) n h) (fits (lineText (s .lists) n) out (omega arith))
 
-  pub case-fits : caseOf s out .answer ≡ Length (length (caseText s))
-  unfolding caseOf
+  pub case-fits : headingOf s out .answer ≡ Length (length (caseText s))
+  unfolding headingOf
   case-fits = rw right (fits (caseText s) out (omega (arith, case-length s right)))
 
 pub refusal-fits : (r : Reply) (k : ℕ) (out : List ℕ) → k < 2 ^ 32 → longest ≤ length out → fitted (refusalText r k) out .answer ≡ Length (length (refusalText r k))

@@ -68,8 +68,8 @@ lineOf s n out =
     (fitted (lineText (s .lists) n) out))
 
 -- the first line: refusals 2, 15
-unfoldable pub caseOf : Store → List ℕ → Wrote
-caseOf s out =
+unfoldable pub headingOf : Store → List ℕ → Wrote
+headingOf s out =
     choose (not (rightShape s)) (kept Shape out)
     (fitted (caseText s) out)
 
@@ -87,7 +87,7 @@ Lined s n out r after = Hands s (lineOf s n out) r after
 
 -- what the call of the first line promises
 abbrev pub CaseLined : Store → List ℕ → Listed → List ℕ → Type 0
-CaseLined s out r after = Hands s (caseOf s out) r after
+CaseLined s out r after = Hands s (headingOf s out) r after
 
 -- what the call of a refusal's line promises: 15 alone can be refused
 abbrev pub RefusalLined : Reply → ℕ → List ℕ → Written → List ℕ → Type 0

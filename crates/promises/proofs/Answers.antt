@@ -5,23 +5,24 @@ use mathlib.Core.Logic.{_↔_}
 use mathlib.Core.Path.{_∙_, _≡_, ap, ap₂, refl, subst, sym}
 use Prim.Native.Nat.{_+_, _<_, _^_, _≤_, suc, zero, ℕ}
 use native.Mathlib.Omega.{arith}
-use lib.Dec.{ltb}
 use lib.ListN.{drop, length}
-use borrow.Author.Tests.{le-ltb, lt-ltb}
-use Rattle.asking.specs.Asking.{byteOf, contextBytes, contextOf, contextReply, left, memberAt, memberOf, questionOf, standing}
+use Rattle.asking.specs.Asking.{byteOf, contextBytes, contextReply, left, memberAt, memberOf, questionOf, standing}
 use Rattle.asking.specs.declared.Answer.{Answer}
 use Rattle.asking.specs.declared.Answer.the-variants.{Inconsistent, Refused, Supported, Unsupported}
-use Rattle.lines.specs.Lines.{caseOf, caseText, fitted, lineOf, lineText}
+use Rattle.asking.specs.declared.Asked.{Asked}
+use Rattle.asking.specs.declared.Shown.{Shown}
+use Rattle.lines.specs.Lines.{caseText, headingOf, lineOf, lineText}
 use Rattle.promises.proofs.Form.{Form, form-a, form-count, form-m}
 use Rattle.promises.proofs.Right.{form-right}
+use Rattle.promises.proofs.Standing.{as-they-stand}
 use Rattle.promises.proofs.Telling.{form-carries, form-contradicts, form-label, form-nogoods}
-use Rattle.promises.specs.Calls.{handing}
-use Rattle.promises.specs.Demand2.{ListsSmallest, QuestionSays, atPlace, byteBy, listedFor, textOf, writes}
+use Rattle.promises.specs.Calls.{handing, ours, writes}
+use Rattle.promises.specs.Demand2.{ListsSmallest, QuestionSays, atPlace, byteBy, listedFor, textOf}
 use Rattle.promises.specs.Made.{inOrder}
-use Rattle.replies.specs.declared.Reply.{Reply}
+use Rattle.promises.specs.Standing.{Stands}
 use Rattle.replies.specs.declared.Reply.the-variants.{Done}
 use Rattle.stages.proofs.Tables.{table-same}
-use Rattle.store.specs.Calls.{answer, isDone}
+use Rattle.store.specs.Calls.{answer}
 use Rattle.store.specs.Reading.{labelHeld, listHeld, nogoodsHeld}
 use Rattle.store.specs.Shape.{top}
 use Rattle.store.specs.declared.Store.{Store}
@@ -31,7 +32,7 @@ use Rattle.theory.proofs.Lists.{same-test}
 use Rattle.theory.specs.Demands.{carries, contradicts}
 use Rattle.theory.specs.Lists.{choose}
 use Rattle.theory.specs.Places.{table}
-use Rattle.theory.specs.Sets.{contains, inRange}
+use Rattle.theory.specs.Sets.{contains}
 use Rattle.theory.specs.Stages.{Justification}
 
 -- ---- the answer over what was put in
@@ -84,41 +85,31 @@ module _ {A M : ℕ} {H : List Justification} {s : Store} (f : Form A M H s) whe
   tops : top (s .held) ≡ A + M
   tops = ap₂ (λ (a m : ℕ). a + m) (form-a f) (form-m f)
 
-  set-in : (E : ℕ) → E < 2 ^ A → inRange (s .held .assumptions) E ≡ true
-  unfolding inRange
-  set-in E h = ap (λ (a : ℕ). ltb E (2 ^ a)) (form-a f) ∙ lt-ltb E (2 ^ A) h
+  set-in : (E : ℕ) → E < 2 ^ A → E < 2 ^ (s .held .assumptions)
+  set-in E h = subst (λ (a : ℕ). E < 2 ^ a) (sym (form-a f)) h
 
-  number-in : (n : ℕ) → n ≤ A + M → ltb (top (s .held)) n ≡ false
-  number-in n h = ap (λ (k : ℕ). ltb k n) tops ∙ le-ltb (A + M) n h
+  -- the lists are read as they stand
+  abbrev reads : Stands ours s
+  reads = as-they-stand .stands s (form-right f)
 
   -- ---- question
 
-  question-by : (n E : ℕ) → n ≤ A + M → E < 2 ^ A → questionOf s n E ≡ answerBy H n E
-  unfolding questionOf
-  question-by n E l h = rw (form-right f, number-in n l, set-in E h) (standing-by n E l h)
+  pub question-by : (n E : ℕ) → n ≤ A + M → E < 2 ^ A → questionOf s n E ≡ answerBy H n E
+  question-by n E l h = ap (λ (a : Asked). a .answer) (reads .question n E (omega (arith, tops)) (set-in E h)) ∙ standing-by n E l h
 
   pub form-question : (n E : ℕ) → n ≤ A + M → E < 2 ^ A → (a : Answer) → (questionOf s n E ≡ a) ↔ QuestionSays H n E a
   form-question n E l h a = let r = answer-says H n E a in let e = question-by n E l h in (λ q. r .0 (sym e ∙ q), λ q. e ∙ r .1 q)
 
   -- ---- context
 
-  context-of : (E : ℕ) → E < 2 ^ A → contextOf s E ≡ table (A + M + 1) (byteBy H E)
-  unfolding contextOf
-  context-of E h =
-      ap (λ (k : ℕ). table (k + 1) (λ n. byteOf (standing (s .lists) n E))) tops
-      ∙ table-same (A + M + 1) (λ n. byteOf (standing (s .lists) n E)) (byteBy H E) 0 (λ n p. ap byteOf (standing-by n E (omega arith) h) ∙ byte-by H n E)
-
-  done-at : (E : ℕ) (out : List ℕ) → E < 2 ^ A → A + M + 1 ≤ length out → contextReply s E (length out) ≡ Done
-  unfolding contextReply
-  done-at E out h k = rw (form-right f, set-in E h, le-ltb (length out) (top (s .held) + 1) (omega (arith, tops)))
+  bytes-by : (E : ℕ) → E < 2 ^ A → table (A + M + 1) (λ n. byteOf (standing (s .lists) n E)) ≡ table (A + M + 1) (byteBy H E)
+  bytes-by E h = table-same (A + M + 1) (λ n. byteOf (standing (s .lists) n E)) (byteBy H E) 0 (λ n p. ap byteOf (standing-by n E (omega arith) h) ∙ byte-by H n E)
 
   pub form-context : (E : ℕ) (out : List ℕ) → E < 2 ^ A → A + M + 1 ≤ length out
       → left (answer (contextReply s E (length out)) s) (contextBytes s E out) ≡ left (answer Done s) (table (A + M + 1) (byteBy H E) ++ drop (A + M + 1) out)
-  unfolding contextBytes
   form-context E out h k =
-      ap₂ (λ (r : Reply) (l : List ℕ). left (answer r s) l) (done-at E out h k)
-      (ap (λ (r : Reply). choose (isDone r) (contextOf s E ++ drop (top (s .held) + 1) out) out) (done-at E out h k)
-      ∙ ap₂ (λ (l : List ℕ) (n : ℕ). l ++ drop (n + 1) out) (context-of E h) tops)
+      reads .context E out (set-in E h) (omega (arith, tops)) ∙ ap (λ (n : ℕ). left (answer Done s) (table (n + 1) (λ i. byteOf (standing (s .lists) i E)) ++ drop (n + 1) out)) tops
+      ∙ ap (λ (l : List ℕ). left (answer Done s) (l ++ drop (A + M + 1) out)) (bytes-by E h)
 
   -- ---- member
 
@@ -127,18 +118,14 @@ module _ {A M : ℕ} {H : List Justification} {s : Store} (f : Form A M H s) whe
   list-smallest (suc i) h = form-label f (suc i) h
 
   pub form-member : (n : ℕ) → n ≤ A + M → (l : List ℕ) × ListsSmallest A (listedFor H n) l × ((place : ℕ) → memberOf s n place ≡ atPlace l place)
-  unfolding memberOf memberAt
-  form-member n h = (listHeld (s .lists) n, list-smallest n h, λ place. rw (form-right f, number-in n h))
+  unfolding memberAt
+  form-member n h = (listHeld (s .lists) n, list-smallest n h, λ place. ap (λ (a : Shown). a .answer) (reads .member n place (omega (arith, tops))))
 
   -- ---- lines
 
-  fits : (t out : List ℕ) → length t ≤ length out → handing s (fitted t out) ≡ writes s t out
-  unfolding fitted
-  fits t out h = rw (le-ltb (length out) (length t) h)
-
   pub form-line : (n : ℕ) → n ≤ A + M → (l : List ℕ) × ListsSmallest A (listedFor H n) l × ((out : List ℕ) → length (textOf n l) ≤ length out → handing s (lineOf s n out) ≡ writes s (textOf n l) out)
-  unfolding lineOf lineText
-  form-line n h = (listHeld (s .lists) n, list-smallest n h, λ out k. rw (form-right f, number-in n h) (fits (textOf n (listHeld (s .lists) n)) out k))
+  unfolding lineText
+  form-line n h = (listHeld (s .lists) n, list-smallest n h, λ out k. reads .line n out (omega (arith, tops)) k)
 
   abbrev first : List ℕ
   first = heading A M (length (inOrder H)) (s .lists .depth)
@@ -147,6 +134,5 @@ module _ {A M : ℕ} {H : List Justification} {s : Store} (f : Form A M H s) whe
   unfolding caseText
   case-text = ap₂ (λ (a m : ℕ). heading a m (s .held .count) (s .lists .depth)) (form-a f) (form-m f) ∙ ap (λ (k : ℕ). heading A M k (s .lists .depth)) (form-count f)
 
-  pub form-heading : (out : List ℕ) → length first ≤ length out → handing s (caseOf s out) ≡ writes s first out
-  unfolding caseOf
-  form-heading out h = rw (form-right f, case-text) (fits first out h)
+  pub form-heading : (out : List ℕ) → length first ≤ length out → handing s (headingOf s out) ≡ writes s first out
+  form-heading out h = reads .heading out (omega (arith, ap length case-text)) ∙ ap (λ (t : List ℕ). writes s t out) case-text

@@ -1,11 +1,11 @@
 -- Every case of the table holds of our calls: the answers by the demands, the lists by computing the judgement of what was put in. Assumes nothing.
 use mathlib.Core.List.{List, List·Memᴰ·eq-of-singleton, List·Memᴰ as Mem, [], _∷_, List·Memᴰ·head as here, map, List·Memᴰ·tail as there}
 use mathlib.Core.Path.{_∙_, _≡_, ap, ap₂, refl, sym}
-use Prim.Native.Nat.{_+_, _≤_, suc, ℕ}
+use Prim.Native.Nat.{_+_, suc, ℕ}
 use native.Mathlib.Omega.{arith}
 use lib.ListN.{getD, length}
-use borrow.Author.Tests.{le-ltb}
 use Rattle.asking.specs.Asking.{memberAt, memberNumber, memberOf, memberSet}
+use Rattle.asking.specs.declared.Shown.{Shown}
 use Rattle.casefile.proofs.Cases.{listed as spells, listedCase}
 use Rattle.casefile.specs.Load.{loadOf}
 use Rattle.numbers.specs.Numbers.{numberAt, numberFrom, secondFrom}
@@ -13,6 +13,7 @@ use Rattle.numbers.specs.declared.Number.the-variants.{Bad, Value}
 use Rattle.promises.proofs.Form.{Form, form-a, form-m, form-settled, made-form}
 use Rattle.promises.proofs.Right.{form-right, form-stage}
 use Rattle.promises.proofs.Small.{add-done, few-room, made-add, made-open, one-done, one-made}
+use Rattle.promises.proofs.Standing.{as-they-stand}
 use Rattle.promises.proofs.Telling.{held-label-at, held-nogoods-at}
 use Rattle.promises.proofs.Truth.{demand-2}
 use Rattle.promises.specs.Calls.{ours}
@@ -25,8 +26,7 @@ use Rattle.rules.specs.Held.{put}
 use Rattle.rules.specs.Items.{faultOf, justificationOf, sameJustification, setOf}
 use Rattle.stages.specs.Lists.{listsOf}
 use Rattle.stages.specs.declared.Lists.{Lists}
-use Rattle.store.specs.Reading.{labelHeld, listHeld}
-use Rattle.store.specs.Shape.{top}
+use Rattle.store.specs.Reading.{labelHeld}
 use Rattle.store.specs.declared.Store.{Store}
 use Rattle.theory.proofs.Judgement.{stage-length, stage-nogoods}
 use Rattle.theory.proofs.Listing.{below-elim}
@@ -80,11 +80,6 @@ module _ {A M : ℕ} {H : List Justification} {s : Store} (f : Form A M H s) (d 
 made-are : {A M : ℕ} {H : List Justification} {s : Store} → Made ours A M H s → {d : ℕ} {g : Stage} → judge limits A (A + M) (inOrder H) ≡ settled d g → ListsAre s d (g .nogoods) (g .labels)
 made-are m {d} {g} e = form-are (made-form m) d g e
 
--- member reads the list as it stands
-member-reads : {A M : ℕ} {H : List Justification} {s : Store} → Form A M H s → (n : ℕ) → n ≤ A + M → (place : ℕ) → memberOf s n place ≡ atPlace (listHeld (s .lists) n) place
-unfolding memberOf memberAt
-member-reads {s = s} f n h place = rw (form-right f, le-ltb (top (s .held)) n (omega (arith, form-a f, form-m f)))
-
 -- ---- nothing held
 
 nothing-verdict : judge limits 0 0 (inOrder []) ≡ at 0 [] []
@@ -116,7 +111,10 @@ five : labelHeld (listed ours .lists) 5 ≡ 6 ∷ []
 five = fifth (listed ours .lists) (1 ∷ []) (2 ∷ []) (4 ∷ []) (1 ∷ 6 ∷ []) (6 ∷ []) (listed-are .labels)
 
 member-five : (place : ℕ) → memberOf (listed ours) 5 place ≡ atPlace (6 ∷ []) place
-member-five place = member-reads (made-form made-listed) 5 (omega arith) place ∙ ap (λ (l : List ℕ). atPlace l place) five
+unfolding memberAt
+member-five place =
+    let f : Form 3 2 worked (listed ours) = made-form made-listed in
+    ap (λ (a : Shown). a .answer) (as-they-stand .stands (listed ours) (form-right f) .member 5 place (omega (arith, form-a f, form-m f))) ∙ ap (λ (l : List ℕ). atPlace l place) five
 
 -- ---- claims 2 and 3 support each other
 

@@ -124,7 +124,7 @@ tried s right A M n J c l =
     (choose (leb 256 n) (answer Full s)
     (storeOf s A M (put (justificationOf (A + M) c l) J)))))
 
-add-tried : (s : Store) (c : ℕ) (l : List ℕ) → addOf s c l ≡ tried s (rightShape s) (s .held .assumptions) (s .held .claims) (s .held .count) (saidBy (s .held)) c l
+pub add-tried : (s : Store) (c : ℕ) (l : List ℕ) → addOf s c l ≡ tried s (rightShape s) (s .held .assumptions) (s .held .claims) (s .held .count) (saidBy (s .held)) c l
 unfolding addOf joinedBy
 add-tried s c l = refl
 
@@ -148,31 +148,44 @@ fault-not r h e = let z : _≡_ {A = Bool} true false = sym (ap (λ (n : ℕ). e
     false-true : _≡_ {A = Bool} true false → ⊥
     false-true z = let q : _≡_ {A = ℕ} 0 1 = cc in omega arith
 
+-- where the answer is 0, the store of the justifications held with this one, judged anew
+pub record Joined (A M n : ℕ) (J : List Justification) (c : ℕ) (l : List ℕ) (t : Store) : Type 0 where
+  pub sound : faultOf (A + M) c l ≡ Done
+  pub new : someOf (sameJustification (justificationOf (A + M) c l)) J ≡ false
+  pub room : leb 256 n ≡ false
+  pub store : storeOf noStore A M (put (justificationOf (A + M) c l) J) ≡ answer Done t
+
+pub tried-done : (s t : Store) (right : Bool) (A M n : ℕ) (J : List Justification) (c : ℕ) (l : List ℕ) → tried s right A M n J c l ≡ answer Done t → Joined A M n J c l t
+unfolding storeOf
+tried-done s t right A M n J c l e =
+    let i : Justification = justificationOf (A + M) c l in
+    let x : Reply = faultOf (A + M) c l in
+    let p₁ = pass (not right) (answer Shape s) _ t (λ (z : _≡_ {A = ℕ} 2 0). omega arith) e in
+    let p₂ = pass-fault (isDone x) x refl (p₁ .1) in
+    let p₃ = pass (someOf (sameJustification i) J) (answer Already s) _ t (λ (z : _≡_ {A = ℕ} 1 0). omega arith) (p₂ .1) in
+    let p₄ = pass (leb 256 n) (answer Full s) _ t (λ (z : _≡_ {A = ℕ} 7 0). omega arith) (p₃ .1) in
+    record { sound = p₂ .0; new = p₃ .0; room = p₄ .0; store = done-by s noStore t (heldOf A M (put i J)) (judge limits A (A + M) (put i J)) (p₄ .1) }
+  where
+    pass-fault : (b : Bool) (x : Reply) {rest : Outcome} → isDone x ≡ b → choose (not b) (answer x s) rest ≡ answer Done t → (x ≡ Done) × (rest ≡ answer Done t)
+    pass-fault true x h q = (is-done x (eqb-true (numberOf x) 0 h), q)
+    pass-fault false x h q = absurd (fault-not x h (ap (λ (a : Outcome). numberOf (a .reply)) q))
+
 module _ {A M : ℕ} {H : List Justification} {s t : Store} (f : Form A M H s) (c : ℕ) (l : List ℕ) (e : addOf s c l ≡ answer Done t) where
   abbrev i : Justification
   i = justificationOf (A + M) c l
 
   pub form-next : Form A M (i ∷ H) t
-  unfolding storeOf
   form-next =
       let J : List Justification = inOrder H in
-      let x : Reply = faultOf (A + M) c l in
-      let p₁ = pass (not (rightShape s)) (answer Shape s) _ t (λ (z : _≡_ {A = ℕ} 2 0). omega arith) (sym (form-add f c l) ∙ e) in
-      let p₂ = pass-fault (isDone x) x refl (p₁ .1) in
-      let p₃ = pass (someOf (sameJustification i) J) (answer Already s) _ t (λ (z : _≡_ {A = ℕ} 1 0). omega arith) (p₂ .1) in
-      let p₄ = pass (leb 256 (length J)) (answer Full s) _ t (λ (z : _≡_ {A = ℕ} 7 0). omega arith) (p₃ .1) in
-      let o : inOrder (i ∷ H) ≡ put i J = in-order-new i H (p₃ .0) in
+      let p = tried-done s t (rightShape s) A M (length J) J c l (sym (form-add f c l) ∙ e) in
+      let o : inOrder (i ∷ H) ≡ put i J = in-order-new i H (p .new) in
       record {
         few = f .few;
         claims = f .claims;
-        room = omega (arith, ap length o, put-length i J, leb-false 256 (length J) (p₄ .0));
-        ranged = λ j m. ⊎-elim (λ (q : j ≡ i). subst (Ranged (A + M)) (sym q) (faultless-ranged (A + M) c l (p₂ .0))) (λ k. f .ranged j k) (List·Memᴰ·cases-cons m);
-        store = ap (storeOf noStore A M) o ∙ done-by s noStore t (heldOf A M (put i J)) (judge limits A (A + M) (put i J)) (p₄ .1);
+        room = omega (arith, ap length o, put-length i J, leb-false 256 (length J) (p .room));
+        ranged = λ j m. ⊎-elim (λ (q : j ≡ i). subst (Ranged (A + M)) (sym q) (faultless-ranged (A + M) c l (p .sound))) (λ k. f .ranged j k) (List·Memᴰ·cases-cons m);
+        store = ap (storeOf noStore A M) o ∙ p .store;
       }
-    where
-      pass-fault : (b : Bool) (x : Reply) {rest : Outcome} → isDone x ≡ b → choose (not b) (answer x s) rest ≡ answer Done t → (x ≡ Done) × (rest ≡ answer Done t)
-      pass-fault true x h q = (is-done x (eqb-true (numberOf x) 0 h), q)
-      pass-fault false x h q = absurd (fault-not x h (ap (λ (a : Outcome). numberOf (a .reply)) q))
 
 -- ---- the theorem
 
@@ -238,6 +251,10 @@ module _ (c : Case) (sound : Sound c) where
 
   case-order : ordered (heldBy c) ≡ true
   case-order = let sure = case-sure c sound in ap ordered (sym (sure .said)) ∙ right-elim (heldOf A′ M′ (heldBy c)) (sure .right) .order
+
+  -- .. is what was put in, in order
+  pub case-held : heldBy c ≡ inOrder (putIn c)
+  case-held = in-order-is (heldBy c) (putIn c) case-order case-members
 
   case-few : length (heldBy c) ≤ 256
   unfolding heldOf

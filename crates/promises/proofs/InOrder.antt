@@ -2,7 +2,7 @@
 use mathlib.Core.Bool.{Bool, false, true}
 use mathlib.Core.List.{List, List·Memᴰ as Mem, [], _∷_, List·Memᴰ·head as here, List·Memᴰ·tail as there}
 use mathlib.Core.Logic.{_⊎_, inr, ⊎-elim}
-use mathlib.Core.Path.{_≡_, refl, subst, sym}
+use mathlib.Core.Path.{_∙_, _≡_, ap, refl, subst, sym}
 use Rattle.promises.specs.Made.{SameMembers, inOrder}
 use Rattle.rules.proofs.Order.{ordered-unique, put-ordered, same-mem}
 use Rattle.rules.proofs.Putting.{put-cases, put-new, put-old}
@@ -62,6 +62,12 @@ in-order-new i H e = rw e
 pub in-order-is : (J H : List Justification) → ordered J ≡ true → SameMembers J H → J ≡ inOrder H
 in-order-is J H o f =
     ordered-unique J (inOrder H) o (in-order-ordered H) (λ j m. in-order-to (f j .0 m)) (λ j m. f j .1 (in-order-from H m))
+
+-- .. to those in order already
+pub in-order-put : (i : Justification) (J : List Justification) → ordered J ≡ true → someOf (sameJustification i) J ≡ false → inOrder (i ∷ J) ≡ put i J
+in-order-put i J o e =
+    let k : J ≡ inOrder J = in-order-is J J o (λ j. (λ m. m, λ m. m)) in
+    in-order-new i J (ap (λ (K : List Justification). someOf (sameJustification i) K) (sym k) ∙ e) ∙ ap (put i) (sym k)
 
 pub in-order-same : (H K : List Justification) → SameMembers H K → inOrder H ≡ inOrder K
 in-order-same H K f = in-order-is (inOrder H) K (in-order-ordered H) (λ j. (λ m. f j .0 (in-order-from H m), λ m. in-order-to (f j .1 m)))

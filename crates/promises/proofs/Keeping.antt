@@ -9,7 +9,7 @@ use lib.Dec.{leb, ltb}
 use lib.ListN.{drop, length}
 use borrow.Author.Tests.{eqb-true}
 use Rattle.asking.specs.Asking.{contextBytes, contextOf, contextReply}
-use Rattle.lines.specs.Lines.{Wrote, caseOf, caseText, fitted, kept, lineOf, lineText, writtenLength}
+use Rattle.lines.specs.Lines.{Wrote, caseText, fitted, headingOf, kept, lineOf, lineText, writtenLength}
 use Rattle.replies.specs.Replies.{numberOf}
 use Rattle.replies.specs.declared.Reply.{Reply}
 use Rattle.replies.specs.declared.Reply.the-variants.{Already, Done, Full, Number, Shape, Short}
@@ -84,6 +84,6 @@ module _ (s : Store) where
   unfolding lineOf
   line-keeps n out = kept-choose out (not (rightShape s)) Shape _ (kept-choose out (ltb (top (s .held)) n) Number _ (kept-fitted (lineText (s .lists) n) out))
 
-  pub heading-keeps : (out : List ℕ) → KeptBytes out (caseOf s out)
-  unfolding caseOf
+  pub heading-keeps : (out : List ℕ) → KeptBytes out (headingOf s out)
+  unfolding headingOf
   heading-keeps out = kept-choose out (not (rightShape s)) Shape _ (kept-fitted (caseText s) out)

@@ -1,7 +1,9 @@
+pub mod Cited
 pub mod InOrder
 pub mod Opening
 pub mod Keeping
 pub mod Form
+pub mod Standing
 pub mod Right
 pub mod Sameness
 pub mod Telling
@@ -13,6 +15,8 @@ pub mod Rows
 pub mod Filing
 pub mod Table
 pub mod Refusals
+pub mod Meaning
+pub mod OwnSupport
 pub mod Truth
 pub mod Promises
 pub mod OneAnswer
@@ -20,4 +24,5 @@ pub mod Small
 pub mod Cases
 pub mod Prefixed
 pub mod Arrival
+pub mod Deducing
 pub mod Wrong

@@ -1,8 +1,11 @@
 -- The product keeps its promises. Assumes nothing.
+use Rattle.promises.proofs.Cited.{cited}
 use Rattle.promises.proofs.Form.{made-holds}
+use Rattle.promises.proofs.Meaning.{meaning}
 use Rattle.promises.proofs.Refusals.{demand-1}
 use Rattle.promises.proofs.Right.{made-right}
 use Rattle.promises.proofs.Sameness.{demand-3}
+use Rattle.promises.proofs.Standing.{as-they-stand}
 use Rattle.promises.proofs.Truth.{demand-2}
 use Rattle.promises.specs.Calls.{ours}
 use Rattle.promises.specs.Made.{Stores}
@@ -12,4 +15,4 @@ pub stores : Stores ours
 stores = record { holds = made-holds; right = made-right }
 
 pub promises : Promises ours
-promises = record { demand1 = demand-1; demand2 = demand-2; demand3 = demand-3; stores = stores }
+promises = record { cited = cited; demand1 = demand-1; demand2 = demand-2; demand3 = demand-3; stores = stores; standing = as-they-stand; meaning = meaning }

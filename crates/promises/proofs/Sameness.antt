@@ -2,15 +2,18 @@
 use mathlib.Core.Bool.{true}
 use mathlib.Core.List.{List, List·Memᴰ·append-cases, List·Memᴰ·cases-cons, List·Memᴰ as Mem, Memᴰ·append-left, Memᴰ·append-right, _++_, _∷_, List·Memᴰ·head as here, List·Memᴰ·tail as there}
 use mathlib.Core.Logic.{⊎-elim}
-use mathlib.Core.Path.{_∙_, _≡_, ap, sym}
+use mathlib.Core.Path.{_∙_, _≡_, ap, ap₂, refl, sym}
 use Prim.Native.Nat.{_+_, ℕ}
 use lib.ListN.{length}
-use Rattle.promises.proofs.Form.{Form, done-store, form-add, form-exactly, made-form, tried}
+use Rattle.casefile.specs.Case.{Case, caseOf, heldBy, whole}
+use Rattle.casefile.specs.Load.{loadOf}
+use Rattle.casefile.specs.declared.Loaded.{Loaded}
+use Rattle.promises.proofs.Form.{Form, case-held, case-loaded, case-sound, done-store, form-add, form-exactly, made-form, tried}
 use Rattle.promises.proofs.InOrder.{in-order-same, in-order-to}
 use Rattle.promises.proofs.Right.{form-right}
 use Rattle.promises.specs.Calls.{Calls, ours}
-use Rattle.promises.specs.Demand3.{Demand3, Same}
-use Rattle.promises.specs.Made.{Made, SameMembers, added, inOrder}
+use Rattle.promises.specs.Demand3.{Demand3, Reordered, Same, further, swapped, unmoved}
+use Rattle.promises.specs.Made.{Made, SameMembers, added, inOrder, loaded, putIn}
 use Rattle.replies.specs.declared.Reply.the-variants.{Already, Done}
 use Rattle.rules.proofs.Order.{mem-same}
 use Rattle.rules.specs.Held.{saidBy}
@@ -18,6 +21,7 @@ use Rattle.rules.specs.Items.{faultOf, justificationOf, sameJustification}
 use Rattle.store.specs.Calls.{addOf, answer, noStore, storeOf}
 use Rattle.store.specs.Reading.{labelHeld, nogoodsHeld}
 use Rattle.store.specs.Shape.{rightShape}
+use Rattle.store.specs.declared.Outcome.{Outcome}
 use Rattle.store.specs.declared.Store.{Store}
 use Rattle.theory.specs.Lists.{someOf}
 use Rattle.theory.specs.Stages.{Justification}
@@ -28,7 +32,7 @@ same-members-trans f g j = (λ m. g j .0 (f j .0 m), λ m. f j .1 (g j .1 m))
 same-members-sym : {H K : List Justification} → SameMembers H K → SameMembers K H
 same-members-sym f j = (f j .1, f j .0)
 
-one-store : (C : Calls) {s t : Store} → s ≡ t → Same C s t
+pub one-store : (C : Calls) {s t : Store} → s ≡ t → Same C s t
 one-store C e = record {
   label = λ n. ap (λ (x : Store). labelHeld (x .lists) n) e;
   nogoods = ap (λ (x : Store). nogoodsHeld (x .lists)) e;
@@ -64,22 +68,49 @@ module _ {A M : ℕ} where
           → tried s (rightShape s) A M (length (inOrder H)) (inOrder H) c l ≡ answer Already s
       already p q r = rw (p, q, r)
 
-both : (H K : List Justification) (j : Justification) → Mem j (H ++ K) → Mem j (K ++ H)
-both H K j m = ⊎-elim (λ a. Memᴰ·append-right K a) (λ b. Memᴰ·append-left H b) (List·Memᴰ·append-cases H m)
+-- ---- any order
 
 crossed : (i k : Justification) (H : List Justification) (j : Justification) → Mem j (k ∷ i ∷ H) → Mem j (i ∷ k ∷ H)
 crossed i k H j m =
     ⊎-elim (λ a. there (here a)) (λ b. ⊎-elim (λ a. here a) (λ n. there (there n)) (List·Memᴰ·cases-cons b)) (List·Memᴰ·cases-cons m)
 
+crossed-at : (H : List Justification) (i k : Justification) (K : List Justification) (j : Justification) → Mem j (H ++ i ∷ k ∷ K) → Mem j (H ++ k ∷ i ∷ K)
+crossed-at H i k K j m = ⊎-elim (λ a. Memᴰ·append-left (k ∷ i ∷ K) a) (λ b. Memᴰ·append-right H (crossed k i K j b)) (List·Memᴰ·append-cases H m)
+
+reordered-members : {H K : List Justification} → Reordered H K → SameMembers H K
+reordered-members unmoved = λ j. (λ m. m, λ m. m)
+reordered-members (swapped H i k K) = λ j. (crossed-at H i k K j, crossed-at H k i K j)
+reordered-members (further p q) = same-members-trans (reordered-members p) (reordered-members q)
+
+-- ---- files
+
+two-loaded : (bytes others : List ℕ) (f g : Case) → caseOf bytes ≡ whole f → caseOf others ≡ whole g
+    → f .header .assumptions ≡ g .header .assumptions → f .header .claims ≡ g .header .claims → SameMembers (putIn f) (putIn g)
+    → answer (loadOf bytes .reply) (loadOf bytes .store) ≡ answer (loadOf others .reply) (loadOf others .store)
+two-loaded bytes others f g p q a m e =
+    ap judged (case-loaded bytes f p)
+    ∙ ap₂ (λ (x y : ℕ). storeOf noStore x y (heldBy f)) a m ∙ ap (storeOf noStore (g .header .assumptions) (g .header .claims)) one-set
+    ∙ sym (ap judged (case-loaded others g q))
+  where
+    judged : Loaded → Outcome
+    judged x = answer (x .reply) (x .store)
+
+    one-set : heldBy f ≡ heldBy g
+    one-set = case-held f (case-sound bytes f p) ∙ in-order-same (putIn f) (putIn g) e ∙ sym (case-held g (case-sound others g q))
+
 pub demand-3 : Demand3 ours
 demand-3 = record {
   put-in = λ p q m. one-store ours (same-store p q m);
   held = λ p q m. one-store ours (same-held p q m);
-  any-order = λ H K p q. one-store ours (same-store p q (λ j. (both H K j, both K H j)));
+  any-order = λ p q o. one-store ours (same-store p q (reordered-members o));
   two-orders = λ {A = A} {M = M} {H = H} c d l m p a b e f.
       let i : Justification = justificationOf (A + M) c l in
       let k : Justification = justificationOf (A + M) d m in
       one-store ours (same-store (added d m (added c l p a) b) (added c l (added d m p e) f) (λ j. (crossed i k H j, crossed k i H j)));
   repeated = λ c l p d m. add-already c l (made-form p) d m;
+  from-file = λ bytes f e r m h. one-store ours (same-store (loaded bytes f e refl refl r refl) m h);
+  two-files = λ bytes others f g p q a m e.
+      let o = two-loaded bytes others f g p q a m e in
+      (ap (λ (x : Outcome). x .reply) o, λ r. one-store ours (ap (λ (x : Outcome). x .store) o));
   in-between = λ p q. one-store ours (same-store p q (λ j. (λ m. m, λ m. m)));
 }

@@ -12,7 +12,7 @@ use Rattle.asking.specs.Asking.{answerNumber, contextReply, memberAt, memberNum
 use Rattle.asking.specs.declared.Answer.the-variants.{Inconsistent, Refused, Supported, Unsupported}
 use Rattle.asking.specs.declared.Found.the-variants.{Is, Not}
 use Rattle.casefile.specs.Load.{loadOf}
-use Rattle.lines.specs.Lines.{Wrote, caseOf, caseText, fitted, kept, lineOf, lineText, writtenNumber}
+use Rattle.lines.specs.Lines.{Wrote, caseText, fitted, headingOf, kept, lineOf, lineText, writtenNumber}
 use Rattle.lines.specs.declared.Written.the-variants.{Length}
 use Rattle.promises.proofs.Filing.{load-names, load-one, load-told, reportOf}
 use Rattle.promises.proofs.Full.{VerdictSays, judge-says}
@@ -191,8 +191,8 @@ module _ (s : Store) where
       by-choice _ wrote (not (rightShape s)) (kept Shape out) (choose (ltb (top (s .held)) n) (kept Number out) w) (not-test (rightShape s)) refl
       (λ p. by-choice _ wrote (ltb (top (s .held)) n) (kept Number out) w (less-test (top (s .held)) n) refl (λ q. fitted-told (lineText (s .lists) n) out))
 
-  heading-told : (out : List ℕ) → HeadingRows s out (wrote (caseOf s out))
-  unfolding caseOf
+  heading-told : (out : List ℕ) → HeadingRows s out (wrote (headingOf s out))
+  unfolding headingOf
   heading-told out = by-choice _ wrote (not (rightShape s)) (kept Shape out) (fitted (caseText s) out) (not-test (rightShape s)) refl (λ p. fitted-told (caseText s) out)
 
 -- ---- all of it
@@ -205,7 +205,7 @@ reply-table = record {
   context = λ s E out. exactly (ContextRows s E out) (numberOf (contextReply s E (length out))) (given-one _ _ _ (given-one _ _ _ (given-one _ _ _ no-row-one))) (context-told s E out);
   member = λ s n place. exactly (MemberRows s n place) (memberNumber (memberOf s n place)) (given-one _ _ _ (given-one _ _ _ (given-one _ _ _ no-row-one))) (member-told s n place);
   line = λ s n out. exactly (LineRows s n out) (wrote (lineOf s n out)) (given-one _ _ _ (given-one _ _ _ (given-one _ _ _ no-row-one))) (line-told s n out);
-  heading = λ s out. exactly (HeadingRows s out) (wrote (caseOf s out)) (given-one _ _ _ (given-one _ _ _ no-row-one)) (heading-told s out);
+  heading = λ s out. exactly (HeadingRows s out) (wrote (headingOf s out)) (given-one _ _ _ (given-one _ _ _ no-row-one)) (heading-told s out);
   loading = λ bytes. exactly (LoadRows bytes) (reportOf (loadOf bytes)) (load-one bytes) (load-told bytes);
   adding-names = add-names;
   loading-names = load-names;

@@ -3,39 +3,46 @@ use mathlib.Core.Bool.{Bool, false, true}
 use mathlib.Core.List.{List, List·Memᴰ·eq-of-singleton, List·Memᴰ as Mem, [], _∷_, List·Memᴰ·head as here}
 use mathlib.Core.Logic.{inr, ⊎-elim}
 use mathlib.Core.Path.{_∙_, _≡_, ap, ap₂, refl, subst, sym}
-use Prim.Native.Nat.{_+_, _<_, zero-le, ℕ}
+use Prim.Native.Nat.{_+_, _<_, _^_, _≤_, zero-le, ℕ}
 use native.Mathlib.Nat.{eq-or-lt-of-le}
 use native.Mathlib.Omega.{arith}
 use lib.Count.{ones}
 use lib.Dec.{eqb}
 use lib.ListN.{length}
-use Rattle.asking.specs.Asking.{byteOf, questionOf}
+use Rattle.asking.specs.Asking.{answerNumber, byteOf, questionOf, standing}
 use Rattle.asking.specs.declared.Answer.{Answer}
 use Rattle.asking.specs.declared.Answer.the-variants.{Inconsistent, Refused, Supported, Unsupported}
+use Rattle.asking.specs.declared.Asked.{Asked}
 use Rattle.promises.proofs.Arrival.{keeps-arrival}
 use Rattle.promises.proofs.Cases.{p-cases}
+use Rattle.promises.proofs.Deducing.{demand-1-too, demand-2-too, demand-3-too, stores-too}
 use Rattle.promises.proofs.Form.{Form, form-a, form-count, form-m, form-said, made-form}
+use Rattle.promises.proofs.Full.{room-not-nogoods}
 use Rattle.promises.proofs.Prefixed.{judges-prefixes}
-use Rattle.promises.proofs.Small.{done-with, few-room, opens-at}
+use Rattle.promises.proofs.Right.{made-right}
+use Rattle.promises.proofs.Small.{done-with, few-room, made-open, one-made, opens-at}
+use Rattle.promises.proofs.Standing.{as-they-stand}
 use Rattle.promises.proofs.Truth.{demand-2}
 use Rattle.promises.specs.Calls.{ours}
 use Rattle.promises.specs.Demand2.{Demand2, Smallest}
 use Rattle.promises.specs.Made.{Made, added, inOrder, opened}
 use Rattle.promises.specs.Room.{Reaches}
+use Rattle.promises.specs.Standing.{AsTheyStand}
 use Rattle.promises.specs.Table.{OverCounts, ReplyTable, given}
-use Rattle.promises.specs.Wrong.{Refuted, deep, deeper, denying, forgetful, forgetting, idle, lenient, listsKept, once, refusing, sparing, unstruck, unstruckLists}
+use Rattle.promises.specs.Wrong.{Refuted, alwaysFull, deducing, deep, deeper, denying, forgetful, forgetting, idle, lenient, listsKept, once, refusing, sparing, unstruck, unstruckLists, workedOut}
 use Rattle.replies.specs.Replies.{numberOf}
-use Rattle.replies.specs.declared.Reply.the-variants.{Done}
+use Rattle.replies.specs.declared.Reply.the-variants.{Done, Nogoods}
 use Rattle.rules.specs.Held.{heldOf, put, saidBy}
 use Rattle.rules.specs.Items.{faultOf, justificationOf, setOf}
+use Rattle.shape.specs.Shape.{listsRight}
 use Rattle.stages.specs.Lists.{listsOf}
 use Rattle.stages.specs.declared.Lists.{Lists}
 use Rattle.store.specs.Calls.{addOf, answer, openOf, startStore}
 use Rattle.store.specs.Reading.{labelHeld, nogoodsHeld}
-use Rattle.store.specs.Shape.{top}
+use Rattle.store.specs.Shape.{heldFits, rightShape, top}
 use Rattle.store.specs.declared.Outcome.{Outcome}
 use Rattle.store.specs.declared.Store.{Store}
-use Rattle.theory.proofs.Lists.{clash}
+use Rattle.theory.proofs.Lists.{and-intro, and-left, and-right, clash}
 use Rattle.theory.proofs.Sets.{within-le}
 use Rattle.theory.specs.Cases.{from}
 use Rattle.theory.specs.Demands.{carries, contradicts}
@@ -222,6 +229,67 @@ forgets-nogoods d =
     let w : Made forgetful 1 0 (against ∷ []) s = added 0 (1 ∷ []) (opened open-with) against-with in
     never-inconsistent (s .lists) 1 1 (questionOf s 1 1) (d .tells w .question 1 1 (omega arith) (omega arith) Inconsistent .1 (against-says .0))
 
+-- ---- calls every table full: claim 2 from assumption 1 fits
+
+calls-all-full : Demand2 alwaysFull → ⊥
+calls-all-full d =
+    let m : Made alwaysFull 1 1 [] (startStore 1 1) = opened (opens-at 1 1 (omega arith) (omega arith)) in
+    room-not-nogoods (few-room 1 2 (first 1 ∷ []) (omega arith)) (d .tells m .adding 2 (1 ∷ []) Nogoods .0 refl .1)
+
+-- ---- reads no list: the justifications of one made store with the lists of another. Nothing is held, yet the label of 2 has {1}
+
+abbrev bare : Store
+bare = openOf 1 1 .store
+
+abbrev listed : Store
+listed = addOf bare 2 (1 ∷ []) .store
+
+abbrev forged : Store
+forged = record { held = bare .held; lists = listed .lists }
+
+first-sound : faultOf 2 2 (1 ∷ []) ≡ Done
+unfolding faultOf someOf
+first-sound = refl
+
+made-bare : Made ours 1 1 [] bare
+made-bare = made-open 1 1 (omega arith) (omega arith)
+
+made-listed : Made ours 1 1 (first 1 ∷ []) listed
+made-listed = one-made 1 1 2 (1 ∷ []) (omega arith) (omega arith) first-sound
+
+same-counts : (listed .held .assumptions ≡ bare .held .assumptions) × (top (listed .held) ≡ top (bare .held))
+same-counts =
+    let f = made-form made-bare in
+    let g = made-form made-listed in
+    (form-a g ∙ sym (form-a f), omega (arith, form-a f, form-m f, form-a g, form-m g))
+
+forged-right : rightShape forged ≡ true
+unfolding rightShape
+forged-right =
+    and-intro (and-left (heldFits (bare .held)) _ (made-right made-bare))
+    (sym (ap₂ (listsRight (listed .lists)) (same-counts .0) (same-counts .1)) ∙ and-right (heldFits (listed .held)) _ (made-right made-listed))
+
+supported-as-listed : standing (listed .lists) 2 1 ≡ Supported
+supported-as-listed =
+    let f = made-form made-listed in
+    sym (ap (λ (a : Asked). a .answer) (as-they-stand .stands listed (made-right made-listed) .question 2 1 (omega (arith, form-a f, form-m f)) (subst (λ (A : ℕ). 1 < 2 ^ A) (sym (form-a f)) (omega arith))))
+    ∙ demand-2 .tells made-listed .question 2 1 (omega arith) (omega arith) Supported .1 first-carries
+
+reads-no-list : AsTheyStand deducing → ⊥
+unfolding inOrder
+reads-no-list d =
+    let f = made-form made-bare in
+    let n : 2 ≤ top (forged .held) = omega (arith, form-a f, form-m f) in
+    let h : 1 < 2 ^ (forged .held .assumptions) = subst (λ (A : ℕ). 1 < 2 ^ A) (sym (form-a f)) (omega arith) in
+    let asked : ours .question forged 2 1 .answer ≡ Supported = ap (λ (a : Asked). a .answer) (as-they-stand .stands forged forged-right .question 2 1 n h) ∙ supported-as-listed in
+    let said : deducing .question forged 2 1 .answer ≡ Supported = ap (λ (a : Asked). a .answer) (d .stands forged forged-right .question 2 1 n h) ∙ supported-as-listed in
+    let worked : deducing .question forged 2 1 .answer ≡ Unsupported =
+    ap₂ (λ (a : Answer) (H : List Justification). choose (eqb (answerNumber a) 0) (workedOut H 2 1) a) asked (form-said f) ∙ unsupported-by-none in
+    not-both (deducing .question forged 2 1 .answer) said worked
+  where
+    unsupported-by-none : workedOut [] 2 1 ≡ Unsupported
+    unsupported-by-none = let c = none-carries .0 in let k = none-carries .1 in rw (c, k)
+
 pub refuted : Refuted
 refuted = record {
   refuses = refuses;
@@ -234,4 +302,7 @@ refuted = record {
   strikes-nothing = strikes-nothing;
   judges-prefixes = judges-prefixes;
   forgets-nogoods = forgets-nogoods;
+  calls-all-full = calls-all-full;
+  reads-no-list = reads-no-list;
+  reads-no-list-untold = (demand-1-too, demand-2-too, demand-3-too, stores-too);
 }

@@ -1,14 +1,15 @@
 -- The calls as one value, so that a demand can be said of any program. Assumes nothing.
-use mathlib.Core.List.{List}
+use mathlib.Core.List.{List, _++_}
 use Prim.Native.Nat.{ℕ}
-use lib.ListN.{length}
+use lib.ListN.{drop, length}
 use Rattle.asking.specs.Asking.{Left, contextBytes, contextReply, left, memberOf, questionOf}
 use Rattle.asking.specs.declared.Asked.{Asked}
 use Rattle.asking.specs.declared.Shown.{Shown}
 use Rattle.casefile.specs.Load.{loadOf}
 use Rattle.casefile.specs.declared.Loaded.{Loaded}
-use Rattle.lines.specs.Lines.{Wrote, caseOf, lineOf}
+use Rattle.lines.specs.Lines.{Wrote, headingOf, lineOf}
 use Rattle.lines.specs.declared.Listed.{Listed}
+use Rattle.lines.specs.declared.Written.the-variants.{Length}
 use Rattle.store.specs.Calls.{addOf, answer, openOf}
 use Rattle.store.specs.declared.Outcome.{Outcome}
 use Rattle.store.specs.declared.Store.{Store}
@@ -20,6 +21,10 @@ pub record Line : Type 0 where
 
 abbrev pub handing : Store → Wrote → Line
 handing s w = record { listed = record { answer = w .answer; store = s }; bytes = w .bytes }
+
+-- the text t and its length, bytes after it kept
+abbrev pub writes : Store → List ℕ → List ℕ → Line
+writes s t out = record { listed = record { answer = Length (length t); store = s }; bytes = t ++ drop (length t) out }
 
 -- each call takes the store by value and hands one back; those that write also say what they leave in the lent bytes
 pub record Calls : Type 0 where
@@ -33,7 +38,7 @@ pub record Calls : Type 0 where
   pub line : Store → ℕ → List ℕ → Line
   pub heading : Store → List ℕ → Line
 
--- ours: what the contracts of the product's calls say of every answer
+-- ours: what the contracts of the product's calls say of every answer (`Cited`)
 abbrev pub ours : Calls
 ours = record {
   opening = openOf;
@@ -43,5 +48,5 @@ ours = record {
   member = λ s n place. record { answer = memberOf s n place; store = s };
   loading = loadOf;
   line = λ s n out. handing s (lineOf s n out);
-  heading = λ s out. handing s (caseOf s out);
+  heading = λ s out. handing s (headingOf s out);
 }

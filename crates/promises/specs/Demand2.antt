@@ -13,10 +13,9 @@ use Rattle.asking.specs.declared.Found.{Found}
 use Rattle.asking.specs.declared.Found.the-variants.{Is, Not}
 use Rattle.casefile.specs.Case.{Case, caseOf, whole}
 use Rattle.lines.specs.Lines.{wordOf}
-use Rattle.lines.specs.declared.Written.the-variants.{Length}
-use Rattle.promises.specs.Calls.{Calls, Line}
+use Rattle.promises.specs.Calls.{Calls, writes}
 use Rattle.promises.specs.Made.{Made, inOrder, putIn}
-use Rattle.promises.specs.Room.{AddSays, StagesSay}
+use Rattle.promises.specs.Room.{AddSays, Reaches, StagesSay}
 use Rattle.replies.specs.declared.Reply.{Reply}
 use Rattle.replies.specs.declared.Reply.the-variants.{Done, Place}
 use Rattle.store.specs.Calls.{answer}
@@ -70,10 +69,6 @@ atPlace l place = choose (leb (length l) place) (Not Place) (Is (getD l place 0)
 abbrev pub textOf : ℕ → List ℕ → List ℕ
 textOf n l = row 32 n (wordOf n l) l
 
--- the text and its length, bytes after it kept
-abbrev pub writes : Store → List ℕ → List ℕ → Line
-writes s t out = record { listed = record { answer = Length (length t); store = s }; bytes = t ++ drop (length t) out }
-
 -- the least k for which all labels and nogoods at k and k + 1 agree
 pub record IsDepth (A N : ℕ) (H : List Justification) (k : ℕ) : Type 0 where
   pub agrees : stageAt A N H k ≡ stageAt A N H (suc k)
@@ -89,9 +84,9 @@ pub record Tells (C : Calls) (A M : ℕ) (H : List Justification) (s : Store) : 
   -- each label lists the sets of this kind that have no smaller one inside them, all of them, once; so do the nogoods
   pub label : (n : ℕ) → n ≤ A + M → ListsSmallest A (λ E. carries H E n) (labelHeld (s .lists) n)
   pub nogoods : ListsSmallest A (contradicts H) (nogoodsHeld (s .lists))
-  -- member reads them, place by place
+  -- member reads them, place by place (only one list is so: the order is strict)
   pub member : (n : ℕ) → n ≤ A + M → (l : List ℕ) × ListsSmallest A (listedFor H n) l × ((place : ℕ) → C .member s n place .answer ≡ atPlace l place)
-  -- so does the text line; line one has A, M, distinct justifications held, depth
+  -- so does the text line, of that one list; line one has A, M, distinct justifications held, depth
   pub line : (n : ℕ) → n ≤ A + M → (l : List ℕ) × ListsSmallest A (listedFor H n) l × ((out : List ℕ) → length (textOf n l) ≤ length out → C .line s n out ≡ writes s (textOf n l) out)
   pub heading : (out : List ℕ) → length (heading A M (length (inOrder H)) (s .lists .depth)) ≤ length out → C .heading s out ≡ writes s (heading A M (length (inOrder H)) (s .lists .depth)) out
   -- the depth; the store's labels and nogoods are those at the depth, and every later stage agrees with them
@@ -111,3 +106,5 @@ pub record Demand2 (C : Calls) : Type 0 where
   pub loads : (bytes : List ℕ) (f : Case) → caseOf bytes ≡ whole f → (r : Reply) → (C .loading bytes .reply ≡ r) ↔ StagesSay (f .header .assumptions) (f .header .assumptions + f .header .claims) (putIn f) r
   -- every store made by the calls tells the truth of what was put in
   pub tells : {A M : ℕ} {H : List Justification} {s : Store} → Made C A M H s → Tells C A M H s
+  -- a justification that names its own consequent as a support is held and changes no label
+  pub self-support : {A M : ℕ} {H : List Justification} {s : Store} (c : ℕ) (l : List ℕ) → Made C A M H s → Reaches A M H c l → Mem c l → (t : Store) × (C .adding s c l ≡ answer Done t) × (t .lists ≡ s .lists)

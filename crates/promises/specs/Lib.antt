@@ -1,10 +1,13 @@
 pub mod Calls
+pub mod Cited
 pub mod Made
 pub mod Room
 pub mod Table
+pub mod Standing
 pub mod Demand1
 pub mod Demand2
 pub mod Demand3
+pub mod Meaning
 pub mod Promises
 pub mod OneAnswer
 pub mod Cases

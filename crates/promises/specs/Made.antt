@@ -22,7 +22,7 @@ use Rattle.theory.specs.Stages.{Justification}
 abbrev pub putIn : Case → List Justification
 putIn f = map (λ i. justificationOf (f .header .assumptions + f .header .claims) (i .consequent) (i .supports)) (f .items)
 
--- s came about by calls of C, with A assumptions and M claims; H is what the calls answered 0 put in, the last first
+-- s came about by calls of C, with A assumptions and M claims; H is what the calls answered 0 put in: what was added, the last first, then a loaded file's records as they stand in it
 pub data Made (C : Calls) (A M : ℕ) : List Justification → Store → Type 0 where
   -- by opening
   opened : {s : Store} → C .opening A M ≡ answer Done s → Made C A M [] s

@@ -1,9 +1,9 @@
--- Wrong programs, each as a value of the calls and refuted by a demand: the five empty ones of document 01, then four that go wrong in one call. Nothing else cites this file. Assumes nothing.
+-- Wrong programs, each as a value of the calls and refuted by a demand: the five empty ones of document 01, then six that go wrong in one call. Nothing else cites this file. Assumes nothing.
 use mathlib.Core.Bool.{not}
 use mathlib.Core.List.{List, [], _++_, _∷_, map}
 use Prim.Native.Nat.{_+_, suc, ℕ}
 use lib.Dec.{eqb}
-use Rattle.asking.specs.Asking.{left}
+use Rattle.asking.specs.Asking.{answerNumber, left}
 use Rattle.asking.specs.declared.Answer.{Answer}
 use Rattle.asking.specs.declared.Answer.the-variants.{Inconsistent, Refused, Supported, Unsupported}
 use Rattle.asking.specs.declared.Found.the-variants.{Not}
@@ -13,11 +13,13 @@ use Rattle.casefile.specs.declared.Loaded.{Loaded}
 use Rattle.items.specs.Items.{Item}
 use Rattle.lines.specs.Lines.{kept}
 use Rattle.promises.specs.Calls.{Calls, handing, ours}
+use Rattle.promises.specs.Demand1.{Demand1}
 use Rattle.promises.specs.Demand2.{Demand2}
 use Rattle.promises.specs.Demand3.{Demand3}
-use Rattle.promises.specs.Made.{inOrder}
+use Rattle.promises.specs.Made.{Stores, inOrder}
+use Rattle.promises.specs.Standing.{AsTheyStand}
 use Rattle.promises.specs.Table.{ReplyTable}
-use Rattle.replies.specs.declared.Reply.the-variants.{Counts, Done, Ends, Shape}
+use Rattle.replies.specs.declared.Reply.the-variants.{Counts, Done, Ends, Nogoods, Shape}
 use Rattle.rules.specs.Held.{heldOf, saidBy}
 use Rattle.rules.specs.Items.{justificationOf}
 use Rattle.stages.specs.Lists.{listsOf}
@@ -27,6 +29,7 @@ use Rattle.store.specs.Reading.{labelHeld, nogoodsHeld}
 use Rattle.store.specs.Shape.{top}
 use Rattle.store.specs.declared.Outcome.{Outcome}
 use Rattle.store.specs.declared.Store.{Store}
+use Rattle.theory.specs.Demands.{carries, contradicts}
 use Rattle.theory.specs.Judge.{Stage}
 use Rattle.theory.specs.Lists.{choose, numbersTo, those}
 use Rattle.theory.specs.Sets.{contains, listing}
@@ -196,6 +199,35 @@ forgetful = record {
   heading = ours .heading;
 }
 
+-- opens and loads, but answers every adding that the nogoods are full
+abbrev pub alwaysFull : Calls
+alwaysFull = record {
+  opening = ours .opening;
+  adding = λ s c l. answer Nogoods s;
+  question = ours .question;
+  context = ours .context;
+  member = ours .member;
+  loading = ours .loading;
+  line = ours .line;
+  heading = ours .heading;
+}
+
+-- a question that works from the justifications and reads no list: right of every made store, wrong of a forged one
+abbrev pub workedOut : List Justification → ℕ → ℕ → Answer
+workedOut H n E = choose (contradicts H E) Inconsistent (choose (carries H E n) Supported Unsupported)
+
+abbrev pub deducing : Calls
+deducing = record {
+  opening = ours .opening;
+  adding = ours .adding;
+  question = λ s n E. record { answer = choose (eqb (answerNumber (ours .question s n E .answer)) 0) (workedOut (saidBy (s .held)) n E) (ours .question s n E .answer); store = s };
+  context = ours .context;
+  member = ours .member;
+  loading = ours .loading;
+  line = ours .line;
+  heading = ours .heading;
+}
+
 pub record Refuted : Type 0 where
   pub refuses : Demand2 refusing → ⊥
   pub refuses-table : ReplyTable refusing → ⊥
@@ -207,3 +239,7 @@ pub record Refuted : Type 0 where
   pub strikes-nothing : Demand2 lenient → ⊥
   pub judges-prefixes : Demand2 prefixed → ⊥
   pub forgets-nogoods : Demand2 forgetful → ⊥
+  pub calls-all-full : Demand2 alwaysFull → ⊥
+  pub reads-no-list : AsTheyStand deducing → ⊥
+  -- .. of which no other demand can tell
+  pub reads-no-list-untold : Demand1 deducing × Demand2 deducing × Demand3 deducing × Stores deducing

@@ -54,13 +54,13 @@ module _ (J : List Justification) (E : ℕ) where
   )
 
   -- so E carries n exactly when it has a model and all its models have n
-  pub carries-models : (n : ℕ) → (carries J E n ≡ true) ↔ ((((S : ℕ → Bool) → Model J S → Holds S E → ⊥) → ⊥) × ((S : ℕ → Bool) → Model J S → Holds S E → S n ≡ true))
+  pub carries-models : (n : ℕ) → (carries J E n ≡ true) ↔ (((S : ℕ → Bool) × Model J S × Holds S E) × ((S : ℕ → Bool) → Model J S → Holds S E → S n ≡ true))
   unfolding all-follows
   carries-models n = (
     λ h.
         let r = carries-means J E n .0 h in
-        (λ f. f all-follows (least-model (r .0)) least-holds, λ S m e. model-has S m e (r .1 .0) n (r .1 .1)),
+        ((all-follows, least-model (r .0), least-holds), λ S m e. model-has S m e (r .1 .0) n (r .1 .1)),
     λ p.
-        let c : contradicts J E ≡ false = not-so (contradicts J E) (λ h. p .0 (no-model .1 (contradicts-means J E .0 h))) in
+        let c : contradicts J E ≡ false = not-so (contradicts J E) (λ h. no-model .1 (contradicts-means J E .0 h) (p .0 .0) (p .0 .1) (p .0 .2)) in
         carries-means J E n .1 (c, (length J, p .1 all-follows (least-model c) least-holds)),
   )
