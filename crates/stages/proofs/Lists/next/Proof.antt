@@ -46,7 +46,7 @@ slice-aggregate-relabel : tie.Need-slice-aggregate-relabel
 slice-aggregate-relabel c =
     let a = c .before .before .before .before .before .before .before .before .before .before .before .before .before .before .before .before .before .before .args in
     let n = built-listed (stageBy (a .held) (a .t1 .depth + 1) .nogoods) _ (c .before .before .before .before .before .before .before .before .before .before .before .refuted .ensures) (c .before .before .before .before .before .before .before .before .before .before .if1 .left) in
-    sym (length-take-le _ _ (omega (arith, listed-long _ _ _ n, n .few)))
+    sym (length-take-le (c .before .before .before .before .before .before .before .before .before .before .before .refuted .result .count) (c .before .before .before .before .before .before .before .before .before .before .before .refuted .result .sets) (omega (arith, listed-long _ _ _ n, n .few)))
 
 slice-aggregate-relabel-2 : tie.Need-slice-aggregate-relabel-2
 slice-aggregate-relabel-2 c = search needs
