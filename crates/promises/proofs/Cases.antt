@@ -219,6 +219,7 @@ p-cases = record {
   listed-member = ap memberSet (member-five 0);
   listed-last = ap memberNumber (member-five 1);
   one-way-done = one-done 1 2 2 (3 ∷ []) (omega arith) (omega arith) (sounds .0);
+  one-way-made = made-one-way;
   each-other-done = add-done made-one-way 3 (2 ∷ []) reaches-other (omega arith);
   each-other-made = made-each-other;
   each-other-lists = made-are made-each-other each-other-verdict;

@@ -75,6 +75,7 @@ pub record PCases (C : Calls) : Type 0 where
   pub listed-last : memberNumber (C .member (listed C) 5 1 .answer) ≡ 16
   -- A=1, claims 2 and 3 supporting each other: both unsupported, depth 0
   pub one-way-done : C .adding (C .opening 1 2 .store) 2 (3 ∷ []) .reply ≡ Done
+  pub one-way-made : Made C 1 2 (from 2 (3 ∷ []) ∷ []) (oneWay C)
   pub each-other-done : C .adding (oneWay C) 3 (2 ∷ []) .reply ≡ Done
   pub each-other-made : Made C 1 2 (from 3 (2 ∷ []) ∷ from 2 (3 ∷ []) ∷ []) (eachOther C)
   pub each-other-lists : ListsAre (eachOther C) 0 [] ((1 ∷ []) ∷ [] ∷ [] ∷ [])
