@@ -8,3 +8,4 @@ pub mod Turns
 pub mod Candidates
 pub mod Ranges
 pub mod Builds
+pub mod Readings

@@ -1,4 +1,4 @@
--- The pool: the smallest clean sets seen so far, in listing order, as far as there is room. Assumes nothing.
+-- The pool: the smallest clean sets seen so far, in listing order, of those that did not go out for want of room. Assumes nothing.
 use mathlib.Core.Bool.{Bool, _&&_, _||_, not}
 use mathlib.Core.List.{List, [], _∷_}
 use mathlib.Core.Path.{_≡_}

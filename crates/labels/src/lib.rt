@@ -390,7 +390,7 @@ fn drawn(pool: &[Set], limit: usize) -> Built
     }
 }
 
-// The list of n at the next stage, from the labels as they lie, the old list of n and the sets struck. Where a set went out for want of room, another walk over the candidates begins with what the pool holds.
+// The list of n at the next stage, from the labels as they lie, the old list of n and the sets struck. Where a set went out for want of room, another walk over the candidates begins with what the pool holds; where the pool is full to the end, its members are sought one by one.
 pub fn build<'a>(
     held: Held,
     lo: usize,
@@ -413,6 +413,9 @@ pub fn build<'a>(
         let all = pooled(held, lo, hi, n, members, sizes, struck, &mut pool, seen);
         if all <= 96 {
             return drawn(&pool[..all], limit);
+        }
+        if 192 < all {
+            return plain(held, lo, hi, n, members, sizes, old, struck, limit);
         }
         count = all - 96 - 1;
         turn += 1;

@@ -50,29 +50,35 @@ returns c =
     let s = c .before .before .before .before .before .before .before .before .before .before .before .before .before .before .before in
     pass-done _ _ _ _ _ _ (c .before .before .before .before .before .before .before .before .before .before .loop .inv) (s .args .old .now) (joinsFor (lying (s .args .members .now) (s .args .sizes .now)) (s .args .n) (map meaning (between (s .args .held .entries) (s .args .lo) (s .args .hi)))) refl _ _ (c .before .before .before .before .before .before .before .pour .kept .1 .1 .0) (c .before .before .before .before .before .before .before .pour .ensures) _ _ (c .before .before .before .before .pooled .kept .1 .1 .1 .1 .1 .1 .1 .0) (c .before .before .before .before .pooled .ensures) (c .before .before .if1 .taken) _ (c .drawn .ensures)
 
+plain-requires : tie.Need-plain-requires Inv-loop μ-loop
+plain-requires c κs = c .before .before .before .before .before .before .before .before .before .before .before .before .before .before .pre
+
+returns-2 : tie.Need-returns-2 Inv-loop μ-loop
+returns-2 c = c .plain .ensures
+
 sub-count : tie.Need-sub-count Inv-loop μ-loop
-sub-count c = omega (arith, c .if1 .left)
+sub-count c = omega (arith, c .before .if1 .left)
 
 sub-count-2 : tie.Need-sub-count-2 Inv-loop μ-loop
-sub-count-2 c = omega (arith, c .if1 .left)
+sub-count-2 c = omega (arith, c .before .if1 .left)
 
 add-turn : tie.Need-add-turn Inv-loop μ-loop
-add-turn c = omega (arith, c .before .before .before .before .before .before .before .loop-test .taken, c .before .before .before .before .before .before .before .before .before .before .before .before .before .pre .3)
+add-turn c = omega (arith, c .before .before .before .before .before .before .before .before .loop-test .taken, c .before .before .before .before .before .before .before .before .before .before .before .before .before .before .pre .3)
 
 loop-less : tie.Need-loop-less Inv-loop μ-loop
-loop-less c = omega (arith, c .before .before .before .before .before .before .before .loop-test .taken)
+loop-less c = omega (arith, c .before .before .before .before .before .before .before .before .loop-test .taken)
 
 loop-again : tie.Need-loop-again Inv-loop μ-loop
 unfolding candidates
 loop-again c =
-    let s = c .before .before .before .before .before .before .before .before .before .before .before .before .before in
-    pass-on _ _ _ _ _ _ (c .before .before .before .before .before .before .before .before .loop .inv) (s .args .old .now) (joinsFor (lying (s .args .members .now) (s .args .sizes .now)) (s .args .n) (map meaning (between (s .args .held .entries) (s .args .lo) (s .args .hi)))) refl _ _ (c .before .before .before .before .before .pour .kept .1 .1 .0) (c .before .before .before .before .before .pour .ensures) _ _ (c .before .before .pooled .kept .1 .1 .1 .1 .1 .1 .1 .0) (c .before .before .pooled .ensures) (c .if1 .left) (c .before .before .before .before .before .before .before .loop-test .taken)
+    let s = c .before .before .before .before .before .before .before .before .before .before .before .before .before .before in
+    pass-on _ _ _ _ _ _ (c .before .before .before .before .before .before .before .before .before .loop .inv) (s .args .old .now) (joinsFor (lying (s .args .members .now) (s .args .sizes .now)) (s .args .n) (map meaning (between (s .args .held .entries) (s .args .lo) (s .args .hi)))) refl _ _ (c .before .before .before .before .before .before .pour .kept .1 .1 .0) (c .before .before .before .before .before .before .pour .ensures) _ _ (c .before .before .before .pooled .kept .1 .1 .1 .1 .1 .1 .1 .0) (c .before .before .before .pooled .ensures) (c .before .if1 .left) (c .before .before .before .before .before .before .before .before .loop-test .taken)
 
-plain-requires : tie.Need-plain-requires Inv-loop μ-loop
-plain-requires c κs = c .before .before .before .before .before .before .pre
+plain-requires-2 : tie.Need-plain-requires-2 Inv-loop μ-loop
+plain-requires-2 c κs = c .before .before .before .before .before .before .pre
 
-returns-2 : tie.Need-returns-2 Inv-loop μ-loop
-returns-2 c = c .plain .ensures
+returns-3 : tie.Need-returns-3 Inv-loop μ-loop
+returns-3 c = c .plain2 .ensures
 
 pub build-spec : {M : Type 1} → statement M
 build-spec =
@@ -89,10 +95,12 @@ build-spec =
     slice-aggregate-drawn
     drawn-requires
     returns
+    plain-requires
+    returns-2
     sub-count
     sub-count-2
     add-turn
     loop-less
     loop-again
-    plain-requires
-    returns-2)
+    plain-requires-2
+    returns-3)
