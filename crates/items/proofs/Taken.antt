@@ -17,7 +17,7 @@ use Rattle.numbers.proofs.Numbers.{Onward, bad-from, chosen, onward, onward-bad
 use Rattle.numbers.specs.Numbers.{Taken, got, bad, andThen, numberAt, numberFrom}
 use Rattle.numbers.specs.declared.Number.the-variants.{Value, Bad as bad-number}
 use Rattle.replies.specs.Replies.{numberOf}
-use Rattle.replies.specs.declared.Reply.the-variants.{Done, Already, Shape, Counts as Over, Number, Falsity, Supports, Full, Label, Nogoods, Unsettled, Ends, Form, After, Long, Short, Place}
+use Rattle.replies.specs.declared.Reply.the-variants.{After, Already, Counts as Over, Done, Ends, Falsity, Form, Full, Label, Long, Nogoods, Number, Place, Shape, Short, Supports, Unheld, Unsettled}
 use Rattle.replies.specs.declared.Reply.{Reply}
 use Rattle.rules.proofs.Entries.{length-padded, unpadded}
 use Rattle.rules.specs.Held.{entryOf}
@@ -46,6 +46,7 @@ zero-done After e = absurd (omega arith)
 zero-done Long e = absurd (omega arith)
 zero-done Short e = absurd (omega arith)
 zero-done Place e = absurd (omega arith)
+zero-done Unheld e = absurd (omega arith)
 
 -- ---- what is taken is so
 

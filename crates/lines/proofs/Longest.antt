@@ -12,7 +12,7 @@ use Rattle.lines.specs.Lines.{caseText, fitted, headingOf, lineOf, lineT
 use Rattle.lines.specs.declared.Written.the-variants.{Length}
 use Rattle.replies.specs.Replies.{numberOf}
 use Rattle.replies.specs.declared.Reply.{Reply}
-use Rattle.replies.specs.declared.Reply.the-variants.{After, Already, Counts, Done, Ends, Falsity, Form, Full, Label, Long, Nogoods, Number, Place, Shape, Short, Supports, Unsettled}
+use Rattle.replies.specs.declared.Reply.the-variants.{After, Already, Counts, Done, Ends, Falsity, Form, Full, Label, Long, Nogoods, Number, Place, Shape, Short, Supports, Unheld, Unsettled}
 use Rattle.store.specs.Reading.{listHeld}
 use Rattle.store.specs.Shape.{rightShape, top}
 use Rattle.store.specs.declared.Store.{Store}
@@ -68,6 +68,7 @@ few-replies After = lit< tt
 few-replies Long = lit< tt
 few-replies Short = lit< tt
 few-replies Place = lit< tt
+few-replies Unheld = lit< tt
 
 pub refused-length : (r : Reply) (k : ℕ) → k < 2 ^ 32 → length (refusalText r k) ≤ 22
 unfolding refusalText

@@ -16,7 +16,7 @@ use Rattle.promises.specs.Made.{inOrder}
 use Rattle.promises.specs.Room.{AddSays, Reaches}
 use Rattle.replies.specs.Replies.{numberOf}
 use Rattle.replies.specs.declared.Reply.{Reply}
-use Rattle.replies.specs.declared.Reply.the-variants.{After, Already, Counts, Done, Ends, Falsity, Form as BadForm, Full, Label, Long, Nogoods, Number, Place, Shape, Short, Supports, Unsettled}
+use Rattle.replies.specs.declared.Reply.the-variants.{After, Already, Counts, Done, Ends, Falsity, Form as BadForm, Full, Label, Long, Nogoods, Number, Place, Shape, Short, Supports, Unheld, Unsettled}
 use Rattle.rules.proofs.Laws.{Ranged, faultless-ranged}
 use Rattle.rules.proofs.Order.{mem-same, same-mem}
 use Rattle.rules.specs.Held.{heldOf, put}
@@ -68,6 +68,7 @@ module _ (A M : ℕ) (H : List Justification) (c : ℕ) (l : List ℕ) where
   fault-says Long e h = absurd (no-fault Long e (λ z. omega arith) (λ a b. omega arith))
   fault-says Short e h = absurd (no-fault Short e (λ z. omega arith) (λ a b. omega arith))
   fault-says Place e h = absurd (no-fault Place e (λ z. omega arith) (λ a b. omega arith))
+  fault-says Unheld e h = absurd (no-fault Unheld e (λ z. omega arith) (λ a b. omega arith))
 
 -- ---- a made store
 
@@ -183,6 +184,7 @@ module _ {A M : ℕ} {H : List Justification} {s : Store} (f : Form A M H s) (c 
   add-back Long w = absurd w
   add-back Short w = absurd w
   add-back Place w = absurd w
+  add-back Unheld w = absurd w
 
   -- adding gives r exactly when the table says
   pub form-adding : (r : Reply) → (addOf s c l .reply ≡ r) ↔ AddSays A M H c l r

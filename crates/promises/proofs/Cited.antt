@@ -22,6 +22,7 @@ pub cited : Cited ours
 cited = record {
   opening = λ A M r. same;
   adding = λ s c l r. same;
+  withdrawing = λ s c l r. same;
   question = λ s n E r. same;
   context = λ s E out r after. same;
   member = λ s n place r. same;

@@ -21,7 +21,7 @@ use Rattle.promises.specs.Calls.{ours}
 use Rattle.promises.specs.Demand1.{Demand1}
 use Rattle.promises.specs.Demand2.{Demand2, QuestionSays, Tells}
 use Rattle.promises.specs.Demand3.{Demand3}
-use Rattle.promises.specs.Made.{Made, SameMembers, Stores, added, asked, contexted, headed, lined, loaded, opened, refused, shown}
+use Rattle.promises.specs.Made.{Made, SameMembers, Stores, added, asked, contexted, headed, kept, lined, loaded, opened, refused, shown, withdrawn}
 use Rattle.promises.specs.Table.{QuestionRows, ReplyTable}
 use Rattle.promises.specs.Wrong.{deducing, workedOut}
 use Rattle.rules.specs.Held.{saidBy}
@@ -37,6 +37,8 @@ module _ {A M : ℕ} where
   made-ours (loaded bytes f e a m r k) = loaded bytes f e a m r k
   made-ours (added c l m e) = added c l (made-ours m) e
   made-ours (refused c l r m e n) = refused c l r (made-ours m) e n
+  made-ours (withdrawn c l m e) = withdrawn c l (made-ours m) e
+  made-ours (kept c l r m e n) = kept c l r (made-ours m) e n
   made-ours (asked n E m e) = asked n E (made-ours m) e
   made-ours (contexted E out m e) = contexted E out (made-ours m) e
   made-ours (shown n place m e) = shown n place (made-ours m) e
@@ -69,6 +71,7 @@ its-table : ReplyTable deducing
 its-table = record {
   opening = reply-table .opening;
   adding = reply-table .adding;
+  withdrawing = reply-table .withdrawing;
   question = question-rows;
   context = reply-table .context;
   member = reply-table .member;
@@ -76,6 +79,7 @@ its-table = record {
   heading = reply-table .heading;
   loading = reply-table .loading;
   adding-names = reply-table .adding-names;
+  withdrawing-names = reply-table .withdrawing-names;
   loading-names = reply-table .loading-names;
 }
 
@@ -83,6 +87,7 @@ pub demand-1-too : Demand1 deducing
 demand-1-too = record {
   table = its-table;
   adding = demand-1 .adding;
+  withdrawing = demand-1 .withdrawing;
   question = λ s n E. refl;
   context = demand-1 .context;
   member = demand-1 .member;
@@ -129,6 +134,7 @@ its-telling m =
       nogoods-at = t .nogoods-at;
       later = t .later;
       adding = t .adding;
+      withdrawing = t .withdrawing;
     }
 
 pub demand-2-too : Demand2 deducing
@@ -144,6 +150,7 @@ demand-3-too = record {
   from-file = λ bytes f e r m h. one-store deducing (demand-3 .from-file bytes f e r (made-ours m) h .store);
   two-files = λ bytes others f g p q a m e. let o = demand-3 .two-files bytes others f g p q a m e in (o .0, λ r. one-store deducing (o .1 r .store));
   in-between = λ p q. one-store deducing (demand-3 .in-between (made-ours p) (made-ours q) .store);
+  undone = λ c l p e k. demand-3 .undone c l (made-ours p) e k;
 }
 
 pub stores-too : Stores deducing

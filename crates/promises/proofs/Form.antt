@@ -13,23 +13,24 @@ use Rattle.casefile.proofs.Whole.{Checked, Sound, case-checked, case-sure, held
 use Rattle.casefile.specs.Case.{Case, caseOf, heldBy, whole}
 use Rattle.casefile.specs.Load.{loadOf, loadedOf, recorded}
 use Rattle.casefile.specs.declared.Loaded.{Loaded}
-use Rattle.promises.proofs.InOrder.{in-order-from, in-order-is, in-order-members, in-order-new, in-order-ordered}
+use Rattle.promises.proofs.InOrder.{in-order-dropped, in-order-from, in-order-is, in-order-members, in-order-new, in-order-ordered}
 use Rattle.promises.proofs.Opening.{judge-none}
-use Rattle.promises.proofs.Keeping.{add-keeps}
+use Rattle.promises.proofs.Keeping.{add-keeps, withdraw-keeps}
 use Rattle.promises.specs.Calls.{ours}
-use Rattle.promises.specs.Made.{HoldsExactly, Made, SameMembers, added, asked, contexted, headed, inOrder, lined, loaded, opened, putIn, refused, shown}
+use Rattle.promises.specs.Made.{HoldsExactly, Made, SameMembers, added, asked, contexted, headed, inOrder, kept, lined, loaded, opened, putIn, refused, shown, withdrawn}
 use Rattle.replies.specs.Replies.{numberOf}
 use Rattle.replies.specs.declared.Reply.{Reply}
-use Rattle.replies.specs.declared.Reply.the-variants.{Already, Counts, Done, Full, Shape}
+use Rattle.replies.specs.declared.Reply.the-variants.{Already, Counts, Done, Full, Shape, Unheld}
+use Rattle.rules.proofs.Dropping.{dropped-few, dropped-from}
 use Rattle.rules.proofs.Laws.{Ranged, faultless-ranged, held-said, right-range}
 use Rattle.rules.proofs.Putting.{put-length}
 use Rattle.rules.proofs.Scan.{right-elim}
-use Rattle.rules.specs.Held.{heldOf, ordered, put, saidBy}
+use Rattle.rules.specs.Held.{dropped, heldOf, ordered, put, saidBy}
 use Rattle.rules.specs.Items.{faultOf, justificationOf, sameJustification}
 use Rattle.rules.specs.declared.Held.{Held}
 use Rattle.stages.specs.Lists.{listsOf}
 use Rattle.store.proofs.Judging.{is-done}
-use Rattle.store.specs.Calls.{addOf, answer, isDone, joinedBy, noStore, ofVerdict, openOf, startStore, storeOf}
+use Rattle.store.specs.Calls.{addOf, answer, isDone, joinedBy, noStore, ofVerdict, openOf, partedFrom, startStore, storeOf, withdrawOf}
 use Rattle.store.specs.Shape.{rightShape}
 use Rattle.store.specs.declared.Outcome.{Outcome}
 use Rattle.store.specs.declared.Store.{Store}
@@ -61,7 +62,7 @@ settled-only s t h (labelOver n) e = let z : _≡_ {A = ℕ} 8 0 = ap (λ (a : O
 settled-only s t h unsettled e = let z : _≡_ {A = ℕ} 10 0 = ap (λ (a : Outcome). numberOf (a .reply)) e in absurd (omega arith)
 
 -- what a refusal would hand back does not matter where the answer is 0
-done-by : (s s′ t : Store) (h : Held) (v : Verdict) → ofVerdict s h v ≡ answer Done t → ofVerdict s′ h v ≡ answer Done t
+pub done-by : (s s′ t : Store) (h : Held) (v : Verdict) → ofVerdict s h v ≡ answer Done t → ofVerdict s′ h v ≡ answer Done t
 done-by s s′ t h v e = let r = settled-only s t h v e in ap (ofVerdict s′ h) (r .verdict) ∙ ap (answer Done) (sym (r .is))
 
 -- ---- the form of a made store
@@ -148,6 +149,10 @@ fault-not r h e = let z : _≡_ {A = Bool} true false = sym (ap (λ (n : ℕ). e
     false-true : _≡_ {A = Bool} true false → ⊥
     false-true z = let q : _≡_ {A = ℕ} 0 1 = cc in omega arith
 
+pass-fault : (s t : Store) (b : Bool) (x : Reply) {rest : Outcome} → isDone x ≡ b → choose (not b) (answer x s) rest ≡ answer Done t → (x ≡ Done) × (rest ≡ answer Done t)
+pass-fault s t true x h q = (is-done x (eqb-true (numberOf x) 0 h), q)
+pass-fault s t false x h q = absurd (fault-not x h (ap (λ (a : Outcome). numberOf (a .reply)) q))
+
 -- where the answer is 0, the store of the justifications held with this one, judged anew
 pub record Joined (A M n : ℕ) (J : List Justification) (c : ℕ) (l : List ℕ) (t : Store) : Type 0 where
   pub sound : faultOf (A + M) c l ≡ Done
@@ -161,14 +166,10 @@ tried-done s t right A M n J c l e =
     let i : Justification = justificationOf (A + M) c l in
     let x : Reply = faultOf (A + M) c l in
     let p₁ = pass (not right) (answer Shape s) _ t (λ (z : _≡_ {A = ℕ} 2 0). omega arith) e in
-    let p₂ = pass-fault (isDone x) x refl (p₁ .1) in
+    let p₂ = pass-fault s t (isDone x) x refl (p₁ .1) in
     let p₃ = pass (someOf (sameJustification i) J) (answer Already s) _ t (λ (z : _≡_ {A = ℕ} 1 0). omega arith) (p₂ .1) in
     let p₄ = pass (leb 256 n) (answer Full s) _ t (λ (z : _≡_ {A = ℕ} 7 0). omega arith) (p₃ .1) in
     record { sound = p₂ .0; new = p₃ .0; room = p₄ .0; store = done-by s noStore t (heldOf A M (put i J)) (judge limits A (A + M) (put i J)) (p₄ .1) }
-  where
-    pass-fault : (b : Bool) (x : Reply) {rest : Outcome} → isDone x ≡ b → choose (not b) (answer x s) rest ≡ answer Done t → (x ≡ Done) × (rest ≡ answer Done t)
-    pass-fault true x h q = (is-done x (eqb-true (numberOf x) 0 h), q)
-    pass-fault false x h q = absurd (fault-not x h (ap (λ (a : Outcome). numberOf (a .reply)) q))
 
 module _ {A M : ℕ} {H : List Justification} {s t : Store} (f : Form A M H s) (c : ℕ) (l : List ℕ) (e : addOf s c l ≡ answer Done t) where
   abbrev i : Justification
@@ -187,10 +188,57 @@ module _ {A M : ℕ} {H : List Justification} {s t : Store} (f : Form A M H s) (
         store = ap (storeOf noStore A M) o ∙ p .store;
       }
 
+-- ---- one less
+
+abbrev pub parted : Store → Bool → ℕ → ℕ → List Justification → ℕ → List ℕ → Outcome
+parted s right A M J c l =
+    choose (not right) (answer Shape s)
+    (choose (not (isDone (faultOf (A + M) c l))) (answer (faultOf (A + M) c l) s)
+    (choose (not (someOf (sameJustification (justificationOf (A + M) c l)) J)) (answer Unheld s)
+    (storeOf s A M (dropped (justificationOf (A + M) c l) J))))
+
+pub withdraw-parted : (s : Store) (c : ℕ) (l : List ℕ) → withdrawOf s c l ≡ parted s (rightShape s) (s .held .assumptions) (s .held .claims) (saidBy (s .held)) c l
+unfolding withdrawOf partedFrom
+withdraw-parted s c l = refl
+
+pub form-withdraw : {A M : ℕ} {H : List Justification} {s : Store} → Form A M H s → (c : ℕ) (l : List ℕ) → withdrawOf s c l ≡ parted s (rightShape s) A M (inOrder H) c l
+form-withdraw {A} {M} {H} {s} f c l =
+    withdraw-parted s c l ∙ ap₂ (λ (x y : ℕ). parted s (rightShape s) x y (saidBy (s .held)) c l) (form-a f) (form-m f)
+    ∙ ap (λ (K : List Justification). parted s (rightShape s) A M K c l) (form-said f)
+
+-- where the answer is 0, the store of the justifications held without this one, judged anew
+pub record Parted (A M : ℕ) (J : List Justification) (c : ℕ) (l : List ℕ) (t : Store) : Type 0 where
+  pub sound : faultOf (A + M) c l ≡ Done
+  pub store : storeOf noStore A M (dropped (justificationOf (A + M) c l) J) ≡ answer Done t
+
+pub parted-done : (s t : Store) (right : Bool) (A M : ℕ) (J : List Justification) (c : ℕ) (l : List ℕ) → parted s right A M J c l ≡ answer Done t → Parted A M J c l t
+unfolding storeOf
+parted-done s t right A M J c l e =
+    let i : Justification = justificationOf (A + M) c l in
+    let x : Reply = faultOf (A + M) c l in
+    let p₁ = pass (not right) (answer Shape s) _ t (λ (z : _≡_ {A = ℕ} 2 0). omega arith) e in
+    let p₂ = pass-fault s t (isDone x) x refl (p₁ .1) in
+    let p₃ = pass (not (someOf (sameJustification i) J)) (answer Unheld s) _ t (λ (z : _≡_ {A = ℕ} 18 0). omega arith) (p₂ .1) in
+    record { sound = p₂ .0; store = done-by s noStore t (heldOf A M (dropped i J)) (judge limits A (A + M) (dropped i J)) (p₃ .1) }
+
+pub form-less : {A M : ℕ} {H : List Justification} {s t : Store} → Form A M H s → (c : ℕ) (l : List ℕ) → withdrawOf s c l ≡ answer Done t → Form A M (dropped (justificationOf (A + M) c l) H) t
+form-less {A} {M} {H} {s} {t} f c l e =
+    let J : List Justification = inOrder H in
+    let i : Justification = justificationOf (A + M) c l in
+    let p = parted-done s t (rightShape s) A M J c l (sym (form-withdraw f c l) ∙ e) in
+    let o : inOrder (dropped i H) ≡ dropped i J = in-order-dropped i H in
+    record {
+      few = f .few;
+      claims = f .claims;
+      room = omega (arith, ap length o, dropped-few i J, f .room);
+      ranged = λ j m. f .ranged j (dropped-from i H m);
+      store = ap (storeOf noStore A M) o ∙ p .store;
+    }
+
 -- ---- the theorem
 
 -- the store of nothing held
-none-store : (A M : ℕ) → storeOf noStore A M [] ≡ answer Done (startStore A M)
+pub none-store : (A M : ℕ) → storeOf noStore A M [] ≡ answer Done (startStore A M)
 unfolding storeOf startStore
 none-store A M = ap (ofVerdict noStore (heldOf A M [])) (judge-none A (A + M))
 
@@ -289,6 +337,10 @@ module _ {A M : ℕ} where
   made-form (added c l m e) = form-next (made-form m) c l e
   made-form (refused {H = H} {s = s} {t = t} c l r m e n) =
       let k : addOf s c l .store ≡ s = add-keeps s c l (λ q. n (sym (ap (λ (a : Outcome). a .reply) e) ∙ q)) in
+      subst (Form A M H) (sym k ∙ ap (λ (a : Outcome). a .store) e) (made-form m)
+  made-form (withdrawn c l m e) = form-less (made-form m) c l e
+  made-form (kept {H = H} {s = s} {t = t} c l r m e n) =
+      let k : withdrawOf s c l .store ≡ s = withdraw-keeps s c l (λ q. n (sym (ap (λ (a : Outcome). a .reply) e) ∙ q)) in
       subst (Form A M H) (sym k ∙ ap (λ (a : Outcome). a .store) e) (made-form m)
   made-form (asked {H = H} n E m e) = subst (Form A M H) e (made-form m)
   made-form (contexted {H = H} E out m e) = subst (Form A M H) e (made-form m)

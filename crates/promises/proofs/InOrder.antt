@@ -4,9 +4,10 @@ use mathlib.Core.List.{List, List·Memᴰ as Mem, [], _∷_, List·Memᴰ·head 
 use mathlib.Core.Logic.{_⊎_, inr, ⊎-elim}
 use mathlib.Core.Path.{_∙_, _≡_, ap, refl, subst, sym}
 use Rattle.promises.specs.Made.{SameMembers, inOrder}
+use Rattle.rules.proofs.Dropping.{dropped-members, dropped-ordered}
 use Rattle.rules.proofs.Order.{ordered-unique, put-ordered, same-mem}
 use Rattle.rules.proofs.Putting.{put-cases, put-new, put-old}
-use Rattle.rules.specs.Held.{ordered, put}
+use Rattle.rules.specs.Held.{dropped, ordered, put}
 use Rattle.rules.specs.Items.{sameJustification}
 use Rattle.theory.specs.Lists.{choose, someOf}
 use Rattle.theory.specs.Stages.{Justification}
@@ -71,3 +72,9 @@ in-order-put i J o e =
 
 pub in-order-same : (H K : List Justification) → SameMembers H K → inOrder H ≡ inOrder K
 in-order-same H K f = in-order-is (inOrder H) K (in-order-ordered H) (λ j. (λ m. f j .0 (in-order-from H m), λ m. in-order-to (f j .1 m)))
+
+-- one taken out is taken out of those in order
+pub in-order-dropped : (i : Justification) (H : List Justification) → inOrder (dropped i H) ≡ dropped i (inOrder H)
+in-order-dropped i H =
+    sym (in-order-is (dropped i (inOrder H)) (dropped i H) (dropped-ordered i (inOrder H) (in-order-ordered H))
+    (λ j. (dropped-members i (inOrder H) H (λ k m. in-order-from H m) j, dropped-members i H (inOrder H) (λ k m. in-order-to m) j)))

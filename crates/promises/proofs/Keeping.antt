@@ -12,12 +12,12 @@ use Rattle.asking.specs.Asking.{contextBytes, contextOf, contextReply}
 use Rattle.lines.specs.Lines.{Wrote, caseText, fitted, headingOf, kept, lineOf, lineText, writtenLength}
 use Rattle.replies.specs.Replies.{numberOf}
 use Rattle.replies.specs.declared.Reply.{Reply}
-use Rattle.replies.specs.declared.Reply.the-variants.{Already, Done, Full, Number, Shape, Short}
-use Rattle.rules.specs.Held.{heldOf, put, saidBy}
+use Rattle.replies.specs.declared.Reply.the-variants.{Already, Done, Full, Number, Shape, Short, Unheld}
+use Rattle.rules.specs.Held.{dropped, heldOf, put, saidBy}
 use Rattle.rules.specs.Items.{faultOf, justificationOf, sameJustification}
 use Rattle.rules.specs.declared.Held.{Held}
 use Rattle.store.proofs.Judging.{is-done}
-use Rattle.store.specs.Calls.{addOf, answer, isDone, joinedBy, ofVerdict, storeOf}
+use Rattle.store.specs.Calls.{addOf, answer, isDone, joinedBy, ofVerdict, partedFrom, storeOf, withdrawOf}
 use Rattle.store.specs.Shape.{rightShape, top}
 use Rattle.store.specs.declared.Outcome.{Outcome}
 use Rattle.store.specs.declared.Store.{Store}
@@ -56,6 +56,19 @@ module _ (s : Store) where
       let N : ℕ = top (s .held) in
       keeps-choose (not (rightShape s)) (answer Shape s) _ refl
       (keeps-choose (not (isDone (faultOf N c l))) (answer (faultOf N c l) s) _ refl (keeps-join (justificationOf N c l)))
+
+  keeps-part : (j : Justification) → Keeps (partedFrom s j)
+  unfolding partedFrom
+  keeps-part j =
+      keeps-choose (not (someOf (sameJustification j) (saidBy (s .held)))) (answer Unheld s) _ refl
+      (keeps-store (s .held .assumptions) (s .held .claims) (dropped j (saidBy (s .held))))
+
+  pub withdraw-keeps : (c : ℕ) (l : List ℕ) → (withdrawOf s c l .reply ≡ Done → ⊥) → withdrawOf s c l .store ≡ s
+  unfolding withdrawOf
+  withdraw-keeps c l =
+      let N : ℕ = top (s .held) in
+      keeps-choose (not (rightShape s)) (answer Shape s) _ refl
+      (keeps-choose (not (isDone (faultOf N c l))) (answer (faultOf N c l) s) _ refl (keeps-part (justificationOf N c l)))
 
   module _ (E : ℕ) (out : List ℕ) where
     pub bytes-keep : (contextReply s E (length out) ≡ Done → ⊥) → contextBytes s E out ≡ out

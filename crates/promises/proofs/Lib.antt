@@ -10,6 +10,7 @@ pub mod Telling
 pub mod Full
 pub mod Answers
 pub mod Adding
+pub mod Withdrawing
 pub mod Loading
 pub mod Rows
 pub mod Filing

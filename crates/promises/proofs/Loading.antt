@@ -13,7 +13,7 @@ use Rattle.promises.proofs.Full.{VerdictSays, judge-says, label-verdict
 use Rattle.promises.specs.Made.{putIn}
 use Rattle.promises.specs.Room.{StagesSay}
 use Rattle.replies.specs.declared.Reply.{Reply}
-use Rattle.replies.specs.declared.Reply.the-variants.{After, Already, Counts, Done, Ends, Falsity, Form, Full, Label, Long, Nogoods, Number, Place, Shape, Short, Supports, Unsettled}
+use Rattle.replies.specs.declared.Reply.the-variants.{After, Already, Counts, Done, Ends, Falsity, Form, Full, Label, Long, Nogoods, Number, Place, Shape, Short, Supports, Unheld, Unsettled}
 use Rattle.rules.specs.Held.{heldOf}
 use Rattle.rules.specs.declared.Held.{Held}
 use Rattle.store.specs.Calls.{noStore, ofVerdict, storeOf}
@@ -54,6 +54,7 @@ module _ (A N : ℕ) (H : List Justification) (h : Held) (v : Verdict) (w : Verd
   stages-back Long g = absurd g
   stages-back Short g = absurd g
   stages-back Place g = absurd g
+  stages-back Unheld g = absurd g
 
   stages-say : (r : Reply) → (reply ≡ r) ↔ StagesSay A N H r
   stages-say r = (λ e. subst (StagesSay A N H) e stages-told, stages-back r)

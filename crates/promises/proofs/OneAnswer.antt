@@ -14,6 +14,7 @@ pub one-answer : OneAnswer
 one-answer = record {
   open-one = λ A M. one _;
   add-one = λ s c l. one _;
+  withdraw-one = λ s c l. one _;
   judged-one = λ h. one _;
   shape-one = λ s. one _;
   question-one = λ s n E. one _;
@@ -37,6 +38,7 @@ one-answer = record {
   right-one = λ h. one _;
   holds-one = λ h e. one _;
   insert-one = λ h e. one _;
+  remove-one = λ h e. one _;
   first-within-one = λ l E. one _;
   build-one = λ entries n members sizes old struck limit. one _;
   start-one = λ A. one _;

@@ -1,6 +1,6 @@
 -- Demand 1 of our calls. Assumes nothing.
 use mathlib.Core.Path.{refl}
-use Rattle.promises.proofs.Keeping.{add-keeps, bytes-keep, heading-keeps, line-keeps}
+use Rattle.promises.proofs.Keeping.{add-keeps, bytes-keep, heading-keeps, line-keeps, withdraw-keeps}
 use Rattle.promises.proofs.Table.{reply-table}
 use Rattle.promises.specs.Calls.{ours}
 use Rattle.promises.specs.Demand1.{Demand1}
@@ -9,6 +9,7 @@ pub demand-1 : Demand1 ours
 demand-1 = record {
   table = reply-table;
   adding = add-keeps;
+  withdrawing = withdraw-keeps;
   question = λ s n E. refl;
   context = λ s E out. refl;
   member = λ s n place. refl;

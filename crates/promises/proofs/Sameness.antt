@@ -2,27 +2,29 @@
 use mathlib.Core.Bool.{true}
 use mathlib.Core.List.{List, List·Memᴰ·append-cases, List·Memᴰ·cases-cons, List·Memᴰ as Mem, Memᴰ·append-left, Memᴰ·append-right, _++_, _∷_, List·Memᴰ·head as here, List·Memᴰ·tail as there}
 use mathlib.Core.Logic.{⊎-elim}
-use mathlib.Core.Path.{_∙_, _≡_, ap, ap₂, refl, sym}
+use mathlib.Core.Path.{_∙_, _≡_, ap, ap₂, refl, subst, sym}
 use Prim.Native.Nat.{_+_, ℕ}
 use lib.ListN.{length}
 use Rattle.casefile.specs.Case.{Case, caseOf, heldBy, whole}
 use Rattle.casefile.specs.Load.{loadOf}
 use Rattle.casefile.specs.declared.Loaded.{Loaded}
-use Rattle.promises.proofs.Form.{Form, case-held, case-loaded, case-sound, done-store, form-add, form-exactly, made-form, tried}
+use Rattle.promises.proofs.Form.{Form, case-held, case-loaded, case-sound, done-store, form-add, form-exactly, made-form, tried, tried-done}
 use Rattle.promises.proofs.InOrder.{in-order-same, in-order-to}
 use Rattle.promises.proofs.Right.{form-right}
 use Rattle.promises.specs.Calls.{Calls, ours}
 use Rattle.promises.specs.Demand3.{Demand3, Reordered, Same, further, swapped, unmoved}
-use Rattle.promises.specs.Made.{Made, SameMembers, added, inOrder, loaded, putIn}
+use Rattle.promises.specs.Made.{Made, SameMembers, added, inOrder, loaded, putIn, withdrawn}
 use Rattle.replies.specs.declared.Reply.the-variants.{Already, Done}
+use Rattle.rules.proofs.Dropping.{dropped-from, dropped-gone, dropped-keeps}
 use Rattle.rules.proofs.Order.{mem-same}
-use Rattle.rules.specs.Held.{saidBy}
+use Rattle.rules.specs.Held.{dropped, saidBy}
 use Rattle.rules.specs.Items.{faultOf, justificationOf, sameJustification}
 use Rattle.store.specs.Calls.{addOf, answer, noStore, storeOf}
 use Rattle.store.specs.Reading.{labelHeld, nogoodsHeld}
 use Rattle.store.specs.Shape.{rightShape}
 use Rattle.store.specs.declared.Outcome.{Outcome}
 use Rattle.store.specs.declared.Store.{Store}
+use Rattle.theory.proofs.Lists.{clash}
 use Rattle.theory.specs.Lists.{someOf}
 use Rattle.theory.specs.Stages.{Justification}
 
@@ -38,6 +40,7 @@ one-store C e = record {
   nogoods = ap (λ (x : Store). nogoodsHeld (x .lists)) e;
   depth = ap (λ (x : Store). x .lists .depth) e;
   adding = λ c l. ap (λ (x : Store). C .adding x c l) e;
+  withdrawing = λ c l. ap (λ (x : Store). C .withdrawing x c l) e;
   question = λ n E. ap (λ (x : Store). C .question x n E) e;
   context = λ E out. ap (λ (x : Store). C .context x E out) e;
   member = λ n place. ap (λ (x : Store). C .member x n place) e;
@@ -67,6 +70,16 @@ module _ {A M : ℕ} where
       already : rightShape s ≡ true → faultOf (A + M) c l ≡ Done → someOf (sameJustification (justificationOf (A + M) c l)) (inOrder H) ≡ true
           → tried s (rightShape s) A M (length (inOrder H)) (inOrder H) c l ≡ answer Already s
       already p q r = rw (p, q, r)
+
+  -- what is put in anew and taken out again leaves what was there
+  added-less : {H : List Justification} {s t : Store} (c : ℕ) (l : List ℕ) → Form A M H s → addOf s c l ≡ answer Done t
+      → SameMembers (dropped (justificationOf (A + M) c l) (justificationOf (A + M) c l ∷ H)) H
+  added-less {H} {s} {t} c l f e j =
+      let i : Justification = justificationOf (A + M) c l in
+      let p = tried-done s t (rightShape s) A M (length (inOrder H)) (inOrder H) c l (sym (form-add f c l) ∙ e) in (
+        λ m. ⊎-elim (λ (q : j ≡ i). absurd (dropped-gone i (i ∷ H) (subst (λ (x : Justification). Mem x (dropped i (i ∷ H))) q m))) (λ n. n) (List·Memᴰ·cases-cons (dropped-from i (i ∷ H) m)),
+        λ m. dropped-keeps i (there m) (λ (q : j ≡ i). clash (mem-same i (inOrder H) (in-order-to (subst (λ (x : Justification). Mem x H) q m))) (p .new)),
+      )
 
 -- ---- any order
 
@@ -113,4 +126,5 @@ demand-3 = record {
       let o = two-loaded bytes others f g p q a m e in
       (ap (λ (x : Outcome). x .reply) o, λ r. one-store ours (ap (λ (x : Outcome). x .store) o));
   in-between = λ p q. one-store ours (same-store p q (λ j. (λ m. m, λ m. m)));
+  undone = λ c l p e k. same-store (withdrawn c l (added c l p e) k) p (added-less c l (made-form p) e);
 }

@@ -1,4 +1,4 @@
--- Of a right shape, our calls read the lists as they stand and add from the justifications alone. Assumes nothing.
+-- Of a right shape, our calls read the lists as they stand, and add and withdraw from the justifications alone. Assumes nothing.
 use mathlib.Core.Bool.{true}
 use mathlib.Core.List.{List, _++_}
 use mathlib.Core.Path.{_∙_, _≡_, ap, sym}
@@ -9,18 +9,19 @@ use Rattle.asking.specs.Asking.{contextBytes, contextOf, contextReply, left, me
 use Rattle.asking.specs.declared.Answer.{Answer}
 use Rattle.asking.specs.declared.Found.{Found}
 use Rattle.lines.specs.Lines.{caseText, fitted, headingOf, lineOf, lineText}
-use Rattle.promises.proofs.Form.{add-tried, tried-done}
-use Rattle.promises.proofs.InOrder.{in-order-put}
+use Rattle.promises.proofs.Form.{add-tried, parted-done, tried-done, withdraw-parted}
+use Rattle.promises.proofs.InOrder.{in-order-is, in-order-put}
 use Rattle.promises.specs.Calls.{handing, ours, writes}
 use Rattle.promises.specs.Made.{inOrder}
 use Rattle.promises.specs.Standing.{AsTheyStand, Stands}
-use Rattle.promises.specs.Table.{enlarged, handed}
+use Rattle.promises.specs.Table.{enlarged, handed, lessened}
 use Rattle.replies.specs.declared.Reply.{Reply}
 use Rattle.replies.specs.declared.Reply.the-variants.{Done}
+use Rattle.rules.proofs.Dropping.{dropped-ordered}
 use Rattle.rules.proofs.Scan.{right-elim}
 use Rattle.rules.specs.Held.{saidBy}
 use Rattle.store.proofs.Shapes.{shape-elim}
-use Rattle.store.specs.Calls.{addOf, answer, isDone, noStore, storeOf}
+use Rattle.store.specs.Calls.{addOf, answer, isDone, noStore, storeOf, withdrawOf}
 use Rattle.store.specs.Shape.{rightShape, top}
 use Rattle.store.specs.declared.Store.{Store}
 use Rattle.theory.specs.Lists.{choose}
@@ -77,6 +78,14 @@ module _ (s : Store) (right : rightShape s ≡ true) where
       let p = tried-done s t (rightShape s) A (s .held .claims) (s .held .count) J c l (sym (add-tried s c l) ∙ e) in
       ap (storeOf noStore A (s .held .claims)) (in-order-put (handed s c l) J (right-elim (s .held) (shape-elim s right .0 .right) .order) (p .new)) ∙ p .store
 
+  withdrawing-stands : (c : ℕ) (l : List ℕ) (t : Store) → withdrawOf s c l ≡ answer Done t → storeOf noStore A (s .held .claims) (inOrder (lessened s c l)) ≡ answer Done t
+  withdrawing-stands c l t e =
+      let J : List Justification = saidBy (s .held) in
+      let K : List Justification = lessened s c l in
+      let p = parted-done s t (rightShape s) A (s .held .claims) J c l (sym (withdraw-parted s c l) ∙ e) in
+      let o : K ≡ inOrder K = in-order-is K K (dropped-ordered (handed s c l) J (right-elim (s .held) (shape-elim s right .0 .right) .order)) (λ j. (λ m. m, λ m. m)) in
+      ap (storeOf noStore A (s .held .claims)) (sym o) ∙ p .store
+
   stands : Stands ours s
   unfolding contextOf
   stands = record {
@@ -86,6 +95,7 @@ module _ (s : Store) (right : rightShape s ≡ true) where
     line = line-stands;
     heading = heading-stands;
     adding = adding-stands;
+    withdrawing = withdrawing-stands;
   }
 
 pub as-they-stand : AsTheyStand ours

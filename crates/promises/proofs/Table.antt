@@ -21,17 +21,18 @@ use Rattle.promises.proofs.Telling.{covered}
 use Rattle.promises.specs.Calls.{ours}
 use Rattle.promises.specs.OneAnswer.{One}
 use Rattle.promises.specs.Room.{LabelFull}
-use Rattle.promises.specs.Table.{AddRows, ContextRows, HeadingRows, LineRows, LoadRows, MemberRows, OpenRows, Outside, QuestionRows, ReplyTable, StageRows, enlarged, given, handed, noRow}
+use Rattle.promises.specs.Table.{AddRows, ContextRows, HeadingRows, LineRows, LoadRows, MemberRows, OpenRows, Outside, QuestionRows, ReplyTable, StageRows, WithdrawRows, enlarged, given, handed, lessened, noRow}
 use Rattle.replies.specs.Replies.{numberOf}
 use Rattle.replies.specs.declared.Reply.{Reply}
-use Rattle.replies.specs.declared.Reply.the-variants.{Already, Counts, Done, Falsity, Full, Number, Place, Shape, Short, Supports}
+use Rattle.replies.specs.declared.Reply.the-variants.{Already, Counts, Done, Falsity, Full, Number, Place, Shape, Short, Supports, Unheld}
+use Rattle.rules.proofs.Dropping.{dropped-from}
 use Rattle.rules.proofs.Laws.{Ranged, faultless-ranged, right-range}
 use Rattle.rules.proofs.Order.{mem-same, same-mem}
 use Rattle.rules.proofs.Putting.{put-cases, put-new, put-old}
-use Rattle.rules.specs.Held.{heldOf, put, saidBy}
+use Rattle.rules.specs.Held.{dropped, heldOf, put, saidBy}
 use Rattle.rules.specs.Items.{faultOf, sameJustification}
 use Rattle.store.proofs.Shapes.{shape-elim}
-use Rattle.store.specs.Calls.{addOf, answer, isDone, joinedBy, noStore, openOf, startStore, storeOf}
+use Rattle.store.specs.Calls.{addOf, answer, isDone, joinedBy, noStore, openOf, partedFrom, startStore, storeOf, withdrawOf}
 use Rattle.store.specs.Reading.{labelHeld, listHeld, nogoodsHeld}
 use Rattle.store.specs.Shape.{rightShape, top}
 use Rattle.store.specs.declared.Outcome.{Outcome}
@@ -139,6 +140,81 @@ module _ (s : Store) (c : ℕ) (l : List ℕ) where
   add-one : One (AddRows s c l)
   add-one = given-one _ _ _ (given-one _ _ _ (given-one _ _ _ (given-one _ _ _ (given-one _ _ _ (given-one _ _ _ (stages-one A N (enlarged s c l)))))))
 
+-- ---- withdraw
+
+module _ (s : Store) (c : ℕ) (l : List ℕ) where
+  abbrev B : ℕ
+  B = s .held .assumptions
+
+  abbrev most : ℕ
+  most = top (s .held)
+
+  abbrev i : Justification
+  i = handed s c l
+
+  abbrev I : List Justification
+  I = saidBy (s .held)
+
+  abbrev K : List Justification
+  K = lessened s c l
+
+  unheld-test : Tests (not (someOf (sameJustification i) I)) (Mem i I → ⊥)
+  unheld-test = record {
+    so = λ h m. clash (mem-same i I m) (not-true (someOf (sameJustification i) I) h);
+    not-so = λ h n. n (same-mem i I (not-false (someOf (sameJustification i) I) h));
+  }
+
+  module _ (right : rightShape s ≡ true) where
+    less-range : (j : Justification) → Mem j K → Ranged most j
+    less-range j m = right-range (s .held) (shape-elim s right .0 .right) j (dropped-from i I m)
+
+    less-low : most ≤ 128
+    less-low = omega (arith, shape-elim s right .0 .few, shape-elim s right .0 .claims)
+
+    less-judged : VerdictSays B most K (judge limits B most K)
+    less-judged = judge-says B most K (λ j m. less-range j m .low) (λ j m t k. less-range j m .between t k .1) less-low (judge limits B most K) refl
+
+    abbrev left-over : Outcome
+    left-over = storeOf s B (s .held .claims) K
+
+    less-told : StageRows B most K (replied left-over)
+    unfolding storeOf
+    less-told = stages-told B most K (λ j m. less-range j m .low) less-low s (heldOf B (s .held .claims) K) (judge limits B most K) less-judged
+
+    less-names : Names (LabelFull B most K) (left-over .reply)
+    unfolding storeOf
+    less-names = stages-name B most K s (heldOf B (s .held .claims) K) (judge limits B most K) less-judged
+
+    part-told : given (Mem i I → ⊥) 18 (StageRows B most K) (replied (partedFrom s i))
+    unfolding partedFrom
+    part-told = by-choice _ replied (not (someOf (sameJustification i) I)) (answer Unheld s) left-over unheld-test refl (λ p. less-told)
+
+    part-names : Names (LabelFull B most K) (partedFrom s i .reply)
+    unfolding partedFrom
+    part-names = names-choice _ (λ (o : Outcome). o .reply) (not (someOf (sameJustification i) I)) (answer Unheld s) left-over (unnamed _ Unheld refl (λ z. omega arith)) (λ p. less-names)
+
+  abbrev faultElse : Reply → Outcome
+  faultElse x = choose (not (isDone x)) (answer x s) (partedFrom s i)
+
+  withdraw-told : WithdrawRows s c l (replied (withdrawOf s c l))
+  unfolding withdrawOf
+  withdraw-told =
+      by-choice _ replied (not (rightShape s)) (answer Shape s) (faultElse (faultOf most c l)) (not-test (rightShape s)) refl
+      (λ p. fault-told most c l (λ x. replied (faultElse x)) _ 4 5 refl refl (λ d. part-told (not-false (rightShape s) p)) 6 refl)
+
+  withdraw-names : Names (LabelFull B most K) (withdrawOf s c l .reply)
+  unfolding withdrawOf faultOf
+  withdraw-names =
+      let f : Reply → Reply = λ x. faultElse x .reply in
+      names-choice _ (λ (o : Outcome). o .reply) (not (rightShape s)) (answer Shape s) (faultElse (faultOf most c l)) (unnamed _ Shape refl (λ z. omega arith))
+      (λ p. names-choice _ f (ltb 4 (length l)) Supports _ (unnamed _ Supports refl (λ z. omega arith))
+      (λ q₁. names-choice _ f (ltb most c || someOf (ltb most) l) Number _ (unnamed _ Number refl (λ z. omega arith))
+      (λ q₂. names-choice _ f (someOf (eqb 0) l) Falsity Done (unnamed _ Falsity refl (λ z. omega arith))
+      (λ q₃. part-names (not-false (rightShape s) p)))))
+
+  withdraw-one : One (WithdrawRows s c l)
+  withdraw-one = given-one _ _ _ (given-one _ _ _ (given-one _ _ _ (given-one _ _ _ (given-one _ _ _ (stages-one B most K)))))
+
 -- ---- the calls that read
 
 module _ (s : Store) where
@@ -201,6 +277,7 @@ pub reply-table : ReplyTable ours
 reply-table = record {
   opening = λ A M. exactly (OpenRows A M) (replied (openOf A M)) (given-one _ _ _ no-row-one) (open-told A M);
   adding = λ s c l. exactly (AddRows s c l) (replied (addOf s c l)) (add-one s c l) (add-told s c l);
+  withdrawing = λ s c l. exactly (WithdrawRows s c l) (replied (withdrawOf s c l)) (withdraw-one s c l) (withdraw-told s c l);
   question = λ s n E. exactly (QuestionRows s n E) (answerNumber (questionOf s n E)) (given-one _ _ _ (given-one _ _ _ no-row-one)) (question-told s n E);
   context = λ s E out. exactly (ContextRows s E out) (numberOf (contextReply s E (length out))) (given-one _ _ _ (given-one _ _ _ (given-one _ _ _ no-row-one))) (context-told s E out);
   member = λ s n place. exactly (MemberRows s n place) (memberNumber (memberOf s n place)) (given-one _ _ _ (given-one _ _ _ (given-one _ _ _ no-row-one))) (member-told s n place);
@@ -208,5 +285,6 @@ reply-table = record {
   heading = λ s out. exactly (HeadingRows s out) (wrote (headingOf s out)) (given-one _ _ _ (given-one _ _ _ no-row-one)) (heading-told s out);
   loading = λ bytes. exactly (LoadRows bytes) (reportOf (loadOf bytes)) (load-one bytes) (load-told bytes);
   adding-names = add-names;
+  withdrawing-names = withdraw-names;
   loading-names = load-names;
 }

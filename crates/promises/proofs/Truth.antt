@@ -9,6 +9,7 @@ use Rattle.promises.proofs.Form.{Form, made-form}
 use Rattle.promises.proofs.Loading.{load-says}
 use Rattle.promises.proofs.OwnSupport.{form-self}
 use Rattle.promises.proofs.Telling.{form-depth, form-label, form-label-at, form-later, form-nogoods, form-nogoods-at}
+use Rattle.promises.proofs.Withdrawing.{form-withdrawing}
 use Rattle.promises.specs.Calls.{ours}
 use Rattle.promises.specs.Demand2.{Demand2, Tells}
 use Rattle.replies.specs.declared.Reply.the-variants.{Done}
@@ -30,6 +31,7 @@ form-tells f = record {
   nogoods-at = form-nogoods-at f;
   later = form-later f;
   adding = form-adding f;
+  withdrawing = form-withdrawing f;
 }
 
 pub opens : (A M : ℕ) → A ≤ 32 → M ≤ 96 → openOf A M .reply ≡ Done

@@ -16,28 +16,29 @@ use Rattle.asking.specs.declared.Asked.{Asked}
 use Rattle.promises.proofs.Arrival.{keeps-arrival}
 use Rattle.promises.proofs.Cases.{p-cases}
 use Rattle.promises.proofs.Deducing.{demand-1-too, demand-2-too, demand-3-too, stores-too}
-use Rattle.promises.proofs.Form.{Form, form-a, form-count, form-m, form-said, made-form}
+use Rattle.promises.proofs.Form.{Form, done-by, done-store, form-a, form-count, form-m, form-said, made-form, none-store}
 use Rattle.promises.proofs.Full.{room-not-nogoods}
 use Rattle.promises.proofs.Prefixed.{judges-prefixes}
 use Rattle.promises.proofs.Right.{made-right}
-use Rattle.promises.proofs.Small.{done-with, few-room, made-open, one-made, opens-at}
+use Rattle.promises.proofs.Small.{add-done, done-with, few-room, made-add, made-open, one-done, one-made, opens-at}
 use Rattle.promises.proofs.Standing.{as-they-stand}
 use Rattle.promises.proofs.Truth.{demand-2}
 use Rattle.promises.specs.Calls.{ours}
 use Rattle.promises.specs.Demand2.{Demand2, Smallest}
-use Rattle.promises.specs.Made.{Made, added, inOrder, opened}
+use Rattle.promises.specs.Made.{Made, Stores, added, inOrder, opened, withdrawn}
 use Rattle.promises.specs.Room.{Reaches}
 use Rattle.promises.specs.Standing.{AsTheyStand}
 use Rattle.promises.specs.Table.{OverCounts, ReplyTable, given}
-use Rattle.promises.specs.Wrong.{Refuted, alwaysFull, deducing, deep, deeper, denying, forgetful, forgetting, idle, lenient, listsKept, once, refusing, sparing, unstruck, unstruckLists, workedOut}
+use Rattle.promises.specs.Wrong.{Refuted, alwaysFull, clearing, countKept, deducing, deep, deeper, denying, emptying, forgetful, forgetting, idle, lenient, listsKept, notFreed, once, othersThan, refusing, sparing, unstruck, unstruckLists, workedOut}
 use Rattle.replies.specs.Replies.{numberOf}
 use Rattle.replies.specs.declared.Reply.the-variants.{Done, Nogoods}
-use Rattle.rules.specs.Held.{heldOf, put, saidBy}
-use Rattle.rules.specs.Items.{faultOf, justificationOf, setOf}
+use Rattle.replies.specs.declared.Reply.{Reply}
+use Rattle.rules.specs.Held.{dropped, heldOf, put, saidBy}
+use Rattle.rules.specs.Items.{faultOf, justificationOf, sameJustification, setOf}
 use Rattle.shape.specs.Shape.{listsRight}
 use Rattle.stages.specs.Lists.{listsOf}
 use Rattle.stages.specs.declared.Lists.{Lists}
-use Rattle.store.specs.Calls.{addOf, answer, openOf, startStore}
+use Rattle.store.specs.Calls.{addOf, answer, isDone, noStore, openOf, startStore, storeOf, withdrawOf}
 use Rattle.store.specs.Reading.{labelHeld, nogoodsHeld}
 use Rattle.store.specs.Shape.{heldFits, rightShape, top}
 use Rattle.store.specs.declared.Outcome.{Outcome}
@@ -46,10 +47,11 @@ use Rattle.theory.proofs.Lists.{and-intro, and-left, and-right, clash}
 use Rattle.theory.proofs.Sets.{within-le}
 use Rattle.theory.specs.Cases.{from}
 use Rattle.theory.specs.Demands.{carries, contradicts}
-use Rattle.theory.specs.Lists.{allOf, choose, numbersBelow, numbersTo, someOf, those}
+use Rattle.theory.specs.Judge.{judge, limits, sameSets}
+use Rattle.theory.specs.Lists.{alike, allOf, choose, numbersBelow, numbersTo, someOf, those}
 use Rattle.theory.specs.Places.{table}
 use Rattle.theory.specs.Sets.{among, bySize, contains, digit, listing, within}
-use Rattle.theory.specs.Stages.{Justification, follows, gives, minimal}
+use Rattle.theory.specs.Stages.{Justification, ahead, follows, gives, lesser, minimal}
 
 not-both : (a : Answer) → a ≡ Supported → a ≡ Unsupported → ⊥
 not-both a p q = let z : _≡_ {A = ℕ} 1 0 = ap byteOf (sym p ∙ q) in omega arith
@@ -275,6 +277,124 @@ supported-as-listed =
     sym (ap (λ (a : Asked). a .answer) (as-they-stand .stands listed (made-right made-listed) .question 2 1 (omega (arith, form-a f, form-m f)) (subst (λ (A : ℕ). 1 < 2 ^ A) (sym (form-a f)) (omega arith))))
     ∙ demand-2 .tells made-listed .question 2 1 (omega arith) (omega arith) Supported .1 first-carries
 
+-- ---- withdraws the rule and keeps the lists, or the count
+
+abbrev rest : List Justification
+rest = dropped (first 1) (first 1 ∷ [])
+
+rest-none : rest ≡ []
+unfolding dropped those sameJustification sameSets alike setOf someOf numbersBelow
+rest-none = refl
+
+first-carries-none : carries (first 1 ∷ []) 0 2 ≡ false
+unfolding carries contradicts follows among digit someOf gives allOf setOf those numbersBelow
+first-carries-none = refl
+
+first-smallest : Smallest 1 (λ E. carries (first 1 ∷ []) E 2) 1
+first-smallest = record {
+  range = omega arith;
+  has = first-carries;
+  no-smaller = λ F w c.
+      ⊎-elim (λ (e : F ≡ 1). e)
+      (λ (h : F < 1). let z : F ≡ 0 = omega arith in clash (subst (λ (G : ℕ). carries (first 1 ∷ []) G 2 ≡ true) z c) first-carries-none)
+      (eq-or-lt-of-le (within-le F 1 w));
+}
+
+listed-done : addOf bare 2 (1 ∷ []) ≡ answer Done listed
+listed-done = done-with (addOf bare 2 (1 ∷ [])) (one-done 1 1 2 (1 ∷ []) (omega arith) (omega arith) first-sound)
+
+bare-done : openOf 1 1 ≡ answer Done bare
+bare-done = done-with (openOf 1 1) (ap (λ (o : Outcome). o .reply) (opens-at 1 1 (omega arith) (omega arith)))
+
+withdrawn-done : withdrawOf listed 2 (1 ∷ []) .reply ≡ Done
+withdrawn-done = demand-2 .tells made-listed .withdrawing 2 (1 ∷ []) Done .1 (record { sound = first-sound; held = here refl }, few-room 1 2 rest (omega arith))
+
+withdraws-no-list : Demand2 emptying → ⊥
+withdraws-no-list d =
+    let o : Outcome = listsKept listed (withdrawOf listed 2 (1 ∷ [])) in
+    let w : Made emptying 1 1 rest (o .store) = withdrawn 2 (1 ∷ []) (added 2 (1 ∷ []) (opened bare-done) listed-done) (done-with o withdrawn-done) in
+    let m : Mem 1 (labelHeld (listed .lists) 2) = demand-2 .tells made-listed .label 2 (omega arith) .exactly 1 .1 first-smallest in
+    clash (d .tells w .label 2 (omega arith) .exactly 1 .0 m .has) (ap (λ (J : List Justification). carries J 1 2) rest-none ∙ none-carries .1)
+
+none-left : length (inOrder rest) ≡ 0
+unfolding inOrder
+none-left = ap (λ (J : List Justification). length (inOrder J)) rest-none
+
+first-left : length (inOrder (first 1 ∷ [])) ≡ 1
+unfolding inOrder someOf put
+first-left = refl
+
+frees-no-place : Stores notFreed → ⊥
+frees-no-place d =
+    let x : Outcome = withdrawOf listed 2 (1 ∷ []) in
+    let o : Outcome = countKept listed x in
+    let w : Made notFreed 1 1 rest (o .store) = withdrawn 2 (1 ∷ []) (added 2 (1 ∷ []) (opened bare-done) listed-done) (done-with o withdrawn-done) in
+    let f = made-form (withdrawn 2 (1 ∷ []) made-listed (done-with x withdrawn-done)) in
+    let e : x .store ≡ o .store = done-store (x .store) (o .store) (sym (f .store) ∙ d .holds w .store) in
+    let n : listed .held .count ≡ 0 = sym (ap (λ (s : Store). s .held .count) e) ∙ form-count f ∙ none-left in
+    omega (arith, form-count (made-form made-listed), first-left, n)
+
+-- ---- withdraws every rule of the consequent: 2 from 1 goes with 2 from nothing
+
+abbrev premise : Justification
+premise = justificationOf 2 2 []
+
+sizes : (length (premise .supports) ≡ 0) × (length (first 1 .supports) ≡ 1)
+unfolding setOf those someOf numbersBelow
+sizes = (refl, refl)
+
+premise-reaches : Reaches 1 1 (first 1 ∷ []) 2 []
+unfolding faultOf someOf
+premise-reaches = record {
+  sound = refl;
+  new = λ m. let z : _≡_ {A = ℕ} 0 1 = sym (sizes .0) ∙ ap (λ (j : Justification). length (j .supports)) (List·Memᴰ·eq-of-singleton m) ∙ sizes .1 in omega arith;
+  room = omega (arith, first-left);
+}
+
+abbrev double : Store
+double = addOf listed 2 [] .store
+
+double-done : addOf listed 2 [] ≡ answer Done double
+double-done = done-with (addOf listed 2 []) (add-done made-listed 2 [] premise-reaches (omega arith))
+
+made-double : Made ours 1 1 (premise ∷ first 1 ∷ []) double
+made-double = made-add made-listed 2 [] premise-reaches (omega arith)
+
+abbrev single : List Justification
+single = dropped premise (premise ∷ first 1 ∷ [])
+
+single-left : length (inOrder single) ≡ 1
+unfolding dropped those sameJustification sameSets alike setOf someOf numbersBelow inOrder put
+single-left = refl
+
+cleared : othersThan 2 (inOrder (premise ∷ first 1 ∷ [])) ≡ []
+unfolding dropped those sameJustification sameSets alike setOf someOf numbersBelow inOrder put ahead lesser
+cleared = refl
+
+single-done : withdrawOf double 2 [] .reply ≡ Done
+single-done = demand-2 .tells made-double .withdrawing 2 [] Done .1 (record { sound = premise-reaches .sound; held = here refl }, few-room 1 2 single (omega arith))
+
+none-stored : (s : Store) → storeOf s 1 1 [] ≡ answer Done (startStore 1 1)
+unfolding storeOf
+none-stored s = done-by noStore s (startStore 1 1) (heldOf 1 1 []) (judge limits 1 2 []) (none-store 1 1)
+
+none-held : startStore 1 1 .held .count ≡ 0
+unfolding startStore heldOf
+none-held = refl
+
+clears-a-consequent : Stores clearing → ⊥
+clears-a-consequent d =
+    let x : Outcome = withdrawOf double 2 [] in
+    let g = made-form made-double in
+    let e : clearing .withdrawing double 2 [] ≡ answer Done (startStore 1 1) =
+    ap (λ (r : Reply). choose (isDone r) (storeOf double (double .held .assumptions) (double .held .claims) (othersThan 2 (saidBy (double .held)))) x) single-done
+    ∙ ap₂ (λ (a m : ℕ). storeOf double a m (othersThan 2 (saidBy (double .held)))) (form-a g) (form-m g)
+    ∙ ap (λ (J : List Justification). storeOf double 1 1 (othersThan 2 J)) (form-said g) ∙ ap (storeOf double 1 1) cleared ∙ none-stored double in
+    let w : Made clearing 1 1 single (startStore 1 1) = withdrawn 2 [] (added 2 [] (added 2 (1 ∷ []) (opened bare-done) listed-done) double-done) e in
+    let f = made-form (withdrawn 2 [] made-double (done-with x single-done)) in
+    let u : x .store ≡ startStore 1 1 = done-store (x .store) (startStore 1 1) (sym (f .store) ∙ d .holds w .store) in
+    omega (arith, sym (form-count f) ∙ ap (λ (s : Store). s .held .count) u ∙ none-held, single-left)
+
 reads-no-list : AsTheyStand deducing → ⊥
 unfolding inOrder
 reads-no-list d =
@@ -303,6 +423,9 @@ refuted = record {
   judges-prefixes = judges-prefixes;
   forgets-nogoods = forgets-nogoods;
   calls-all-full = calls-all-full;
+  withdraws-no-list = withdraws-no-list;
+  clears-a-consequent = clears-a-consequent;
+  frees-no-place = frees-no-place;
   reads-no-list = reads-no-list;
   reads-no-list-untold = (demand-1-too, demand-2-too, demand-3-too, stores-too);
 }

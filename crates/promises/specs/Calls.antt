@@ -10,7 +10,7 @@ use Rattle.casefile.specs.declared.Loaded.{Loaded}
 use Rattle.lines.specs.Lines.{Wrote, headingOf, lineOf}
 use Rattle.lines.specs.declared.Listed.{Listed}
 use Rattle.lines.specs.declared.Written.the-variants.{Length}
-use Rattle.store.specs.Calls.{addOf, answer, openOf}
+use Rattle.store.specs.Calls.{addOf, answer, openOf, withdrawOf}
 use Rattle.store.specs.declared.Outcome.{Outcome}
 use Rattle.store.specs.declared.Store.{Store}
 
@@ -30,6 +30,7 @@ writes s t out = record { listed = record { answer = Length (length t); store = 
 pub record Calls : Type 0 where
   pub opening : ℕ → ℕ → Outcome
   pub adding : Store → ℕ → List ℕ → Outcome
+  pub withdrawing : Store → ℕ → List ℕ → Outcome
   pub question : Store → ℕ → ℕ → Asked
   pub context : Store → ℕ → List ℕ → Left
   pub member : Store → ℕ → ℕ → Shown
@@ -43,6 +44,7 @@ abbrev pub ours : Calls
 ours = record {
   opening = openOf;
   adding = addOf;
+  withdrawing = withdrawOf;
   question = λ s n E. record { answer = questionOf s n E; store = s };
   context = λ s E out. left (answer (contextReply s E (length out)) s) (contextBytes s E out);
   member = λ s n place. record { answer = memberOf s n place; store = s };

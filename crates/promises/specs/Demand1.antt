@@ -15,6 +15,8 @@ pub record Demand1 (C : Calls) : Type 0 where
   pub table : ReplyTable C
   -- a refused adding hands back the store it was given
   pub adding : (s : Store) (c : ℕ) (l : List ℕ) → (C .adding s c l .reply ≡ Done → ⊥) → C .adding s c l .store ≡ s
+  -- so does a refused withdrawing
+  pub withdrawing : (s : Store) (c : ℕ) (l : List ℕ) → (C .withdrawing s c l .reply ≡ Done → ⊥) → C .withdrawing s c l .store ≡ s
   -- a call that reads always does
   pub question : (s : Store) (n E : ℕ) → C .question s n E .store ≡ s
   pub context : (s : Store) (E : ℕ) (out : List ℕ) → C .context s E out .outcome .store ≡ s

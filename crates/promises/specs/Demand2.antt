@@ -15,7 +15,7 @@ use Rattle.casefile.specs.Case.{Case, caseOf, whole}
 use Rattle.lines.specs.Lines.{wordOf}
 use Rattle.promises.specs.Calls.{Calls, writes}
 use Rattle.promises.specs.Made.{Made, inOrder, putIn}
-use Rattle.promises.specs.Room.{AddSays, Reaches, StagesSay}
+use Rattle.promises.specs.Room.{AddSays, Reaches, StagesSay, WithdrawSays}
 use Rattle.replies.specs.declared.Reply.{Reply}
 use Rattle.replies.specs.declared.Reply.the-variants.{Done, Place}
 use Rattle.store.specs.Calls.{answer}
@@ -96,6 +96,8 @@ pub record Tells (C : Calls) (A M : ℕ) (H : List Justification) (s : Store) : 
   pub later : (k : ℕ) → s .lists .depth ≤ k → stageAt A (A + M) H (s .lists .depth) ≡ stageAt A (A + M) H k
   -- when adding gives each reply: full exactly when the call comes as far as its stages and these need more room than the limits give
   pub adding : (c : ℕ) (l : List ℕ) (r : Reply) → (C .adding s c l .reply ≡ r) ↔ AddSays A M H c l r
+  -- .. and withdrawing
+  pub withdrawing : (c : ℕ) (l : List ℕ) (r : Reply) → (C .withdrawing s c l .reply ≡ r) ↔ WithdrawSays A M H c l r
 
 -- ---- the demand
 

@@ -19,6 +19,7 @@ pub record Same (C : Calls) (s t : Store) : Type 0 where
   pub nogoods : nogoodsHeld (s .lists) ≡ nogoodsHeld (t .lists)
   pub depth : s .lists .depth ≡ t .lists .depth
   pub adding : (c : ℕ) (l : List ℕ) → C .adding s c l ≡ C .adding t c l
+  pub withdrawing : (c : ℕ) (l : List ℕ) → C .withdrawing s c l ≡ C .withdrawing t c l
   pub question : (n E : ℕ) → C .question s n E ≡ C .question t n E
   pub context : (E : ℕ) (out : List ℕ) → C .context s E out ≡ C .context t E out
   pub member : (n place : ℕ) → C .member s n place ≡ C .member t n place
@@ -55,3 +56,5 @@ pub record Demand3 (C : Calls) : Type 0 where
       → (C .loading bytes .reply ≡ C .loading others .reply) × (C .loading bytes .reply ≡ Done → Same C (C .loading bytes .store) (C .loading others .store))
   -- with refused calls, and calls that read, in between
   pub in-between : {A M : ℕ} {H : List Justification} {s t : Store} → Made C A M H s → Made C A M H t → Same C s t
+  -- adding a new one and at once withdrawing it, both answered 0, gives the earlier store back
+  pub undone : {A M : ℕ} {H : List Justification} {s t u : Store} (c : ℕ) (l : List ℕ) → Made C A M H s → C .adding s c l ≡ answer Done t → C .withdrawing t c l ≡ answer Done u → u ≡ s

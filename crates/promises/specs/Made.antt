@@ -8,7 +8,7 @@ use Rattle.casefile.specs.Case.{Case, caseOf, whole}
 use Rattle.promises.specs.Calls.{Calls}
 use Rattle.replies.specs.declared.Reply.{Reply}
 use Rattle.replies.specs.declared.Reply.the-variants.{Done}
-use Rattle.rules.specs.Held.{heldOf, ordered, put, saidBy}
+use Rattle.rules.specs.Held.{dropped, heldOf, ordered, put, saidBy}
 use Rattle.rules.specs.Items.{justificationOf, sameJustification}
 use Rattle.stages.specs.Lists.{listsOf}
 use Rattle.store.specs.Calls.{answer, noStore, storeOf}
@@ -22,7 +22,7 @@ use Rattle.theory.specs.Stages.{Justification}
 abbrev pub putIn : Case → List Justification
 putIn f = map (λ i. justificationOf (f .header .assumptions + f .header .claims) (i .consequent) (i .supports)) (f .items)
 
--- s came about by calls of C, with A assumptions and M claims; H is what the calls answered 0 put in: what was added, the last first, then a loaded file's records as they stand in it
+-- s came about by calls of C, with A assumptions and M claims; H is what the calls answered 0 put in and did not take out: what was added, the last first, then a loaded file's records as they stand in it
 pub data Made (C : Calls) (A M : ℕ) : List Justification → Store → Type 0 where
   -- by opening
   opened : {s : Store} → C .opening A M ≡ answer Done s → Made C A M [] s
@@ -32,6 +32,10 @@ pub data Made (C : Calls) (A M : ℕ) : List Justification → Store → Type 0 
   added : {H : List Justification} {s t : Store} (c : ℕ) (l : List ℕ) → Made C A M H s → C .adding s c l ≡ answer Done t → Made C A M (justificationOf (A + M) c l ∷ H) t
   -- a refused adding handed t back
   refused : {H : List Justification} {s t : Store} (c : ℕ) (l : List ℕ) (r : Reply) → Made C A M H s → C .adding s c l ≡ answer r t → (r ≡ Done → ⊥) → Made C A M H t
+  -- by withdrawing, answered 0: what was put in, without it
+  withdrawn : {H : List Justification} {s t : Store} (c : ℕ) (l : List ℕ) → Made C A M H s → C .withdrawing s c l ≡ answer Done t → Made C A M (dropped (justificationOf (A + M) c l) H) t
+  -- a refused withdrawing handed t back
+  kept : {H : List Justification} {s t : Store} (c : ℕ) (l : List ℕ) (r : Reply) → Made C A M H s → C .withdrawing s c l ≡ answer r t → (r ≡ Done → ⊥) → Made C A M H t
   -- a call that reads handed t back
   asked : {H : List Justification} {s t : Store} (n E : ℕ) → Made C A M H s → C .question s n E .store ≡ t → Made C A M H t
   contexted : {H : List Justification} {s t : Store} (E : ℕ) (out : List ℕ) → Made C A M H s → C .context s E out .outcome .store ≡ t → Made C A M H t

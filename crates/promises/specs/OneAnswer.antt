@@ -10,7 +10,7 @@ use Rattle.lines.specs.Lines.{CaseLined, Lined, RefusalLined}
 use Rattle.numbers.specs.Numbers.{AreNumbers, IsNumber}
 use Rattle.replies.specs.Replies.{Numbered}
 use Rattle.replies.specs.declared.Reply.{Reply}
-use Rattle.rules.specs.Promised.{Canonical, Faulted, HoldingNothing, Inserted, IsHeld, IsRight}
+use Rattle.rules.specs.Promised.{Canonical, Faulted, HoldingNothing, Inserted, IsHeld, IsRight, Removed}
 use Rattle.rules.specs.declared.Entry.{Entry}
 use Rattle.rules.specs.declared.Held.{Held}
 use Rattle.script.specs.Promised.{AreBytes, AreNumbers as AreNumerals, HasAbove, HasZero, IsField, IsLineEnd, IsSame, IsSetOf}
@@ -18,7 +18,7 @@ use Rattle.sets.specs.Promised.{Before, Has, Low, Only, Union, Within, Without}
 use Rattle.shape.specs.Shape.{ListsRight}
 use Rattle.stages.specs.Judged.{Judge, Start}
 use Rattle.stages.specs.declared.Lists.{Lists}
-use Rattle.store.specs.Calls.{Added, JudgedAnew, Opened}
+use Rattle.store.specs.Calls.{Added, JudgedAnew, Opened, Withdrawn}
 use Rattle.store.specs.Shape.{RightShape}
 use Rattle.store.specs.declared.Store.{Store}
 use Rattle.text.specs.Writing.{Put}
@@ -35,6 +35,7 @@ pub record OneAnswer : Type 0 where
   -- the product's calls: store, asking, lines, casefile
   pub open-one : (A M : ℕ) → One (Opened A M)
   pub add-one : (s : Store) (c : ℕ) (l : List ℕ) → One (Added s c l)
+  pub withdraw-one : (s : Store) (c : ℕ) (l : List ℕ) → One (Withdrawn s c l)
   pub judged-one : (h : Held) → One (JudgedAnew h)
   pub shape-one : (s : Store) → One (RightShape s)
   pub question-one : (s : Store) (n E : ℕ) → One (Questioned s n E)
@@ -61,6 +62,7 @@ pub record OneAnswer : Type 0 where
   pub right-one : (h : Held) → One (IsRight h)
   pub holds-one : (h : Held) (e : Entry) → One (IsHeld h e)
   pub insert-one : (h : Held) (e : Entry) → One (Inserted h e)
+  pub remove-one : (h : Held) (e : Entry) → One (Removed h e)
   -- labels, stages, shape
   pub first-within-one : (l : List ℕ) (E : ℕ) → One (FirstWithin l E)
   pub build-one : (entries : List Entry) (n : ℕ) (members sizes old struck : List ℕ) (limit : ℕ) → One (Build entries n members sizes old struck limit)

@@ -1,11 +1,12 @@
--- When a label or the nogoods are called full: over the lists of the stages, and when adding comes as far as its stages. Assumes nothing.
+-- When a label or the nogoods are called full: over the lists of the stages, and when adding and withdrawing come as far as their stages. Assumes nothing.
 use mathlib.Core.List.{List, List·Memᴰ as Mem, _∷_}
 use mathlib.Core.Path.{_≡_}
 use Prim.Native.Nat.{_+_, _<_, _≤_, ℕ}
 use lib.ListN.{length}
 use Rattle.promises.specs.Made.{inOrder}
 use Rattle.replies.specs.declared.Reply.{Reply}
-use Rattle.replies.specs.declared.Reply.the-variants.{After, Already, Counts, Done, Ends, Falsity, Form, Full, Label, Long, Nogoods, Number, Place, Shape, Short, Supports, Unsettled}
+use Rattle.replies.specs.declared.Reply.the-variants.{After, Already, Counts, Done, Ends, Falsity, Form, Full, Label, Long, Nogoods, Number, Place, Shape, Short, Supports, Unheld, Unsettled}
+use Rattle.rules.specs.Held.{dropped}
 use Rattle.rules.specs.Items.{faultOf, justificationOf}
 use Rattle.theory.specs.Stages.{Justification, labelAt, nogoodsAt}
 
@@ -56,6 +57,7 @@ StagesSay A N H After = ⊥
 StagesSay A N H Long = ⊥
 StagesSay A N H Short = ⊥
 StagesSay A N H Place = ⊥
+StagesSay A N H Unheld = ⊥
 
 -- ---- adding consequent c with supports l, where H was put in
 
@@ -85,3 +87,33 @@ AddSays A M H c l After = ⊥
 AddSays A M H c l Long = ⊥
 AddSays A M H c l Short = ⊥
 AddSays A M H c l Place = ⊥
+AddSays A M H c l Unheld = ⊥
+
+-- ---- withdrawing consequent c with supports l, where H was put in
+
+-- the call comes as far as its stages: no fault, and held
+pub record Parts (A M : ℕ) (H : List Justification) (c : ℕ) (l : List ℕ) : Type 0 where
+  pub sound : faultOf (A + M) c l ≡ Done
+  pub held : Mem (justificationOf (A + M) c l) H
+
+-- when each reply is given: the column "withdraw" of the reply table
+abbrev pub WithdrawSays : ℕ → ℕ → List Justification → ℕ → List ℕ → Reply → Type 0
+WithdrawSays A M H c l Done = Parts A M H c l × AllInRoom A (A + M) (dropped (justificationOf (A + M) c l) H)
+WithdrawSays A M H c l Unheld = (faultOf (A + M) c l ≡ Done) × (Mem (justificationOf (A + M) c l) H → ⊥)
+WithdrawSays A M H c l Number = faultOf (A + M) c l ≡ Number
+WithdrawSays A M H c l Falsity = faultOf (A + M) c l ≡ Falsity
+WithdrawSays A M H c l Supports = faultOf (A + M) c l ≡ Supports
+WithdrawSays A M H c l (Label n) = Parts A M H c l × LabelFull A (A + M) (dropped (justificationOf (A + M) c l) H) n
+WithdrawSays A M H c l Nogoods = Parts A M H c l × NogoodsFull A (A + M) (dropped (justificationOf (A + M) c l) H)
+-- from a made store the others are never given
+WithdrawSays A M H c l Already = ⊥
+WithdrawSays A M H c l Full = ⊥
+WithdrawSays A M H c l Shape = ⊥
+WithdrawSays A M H c l Counts = ⊥
+WithdrawSays A M H c l Unsettled = ⊥
+WithdrawSays A M H c l Ends = ⊥
+WithdrawSays A M H c l Form = ⊥
+WithdrawSays A M H c l After = ⊥
+WithdrawSays A M H c l Long = ⊥
+WithdrawSays A M H c l Short = ⊥
+WithdrawSays A M H c l Place = ⊥

@@ -1,4 +1,4 @@
--- Whatever store of right shape is handed in, forged or not: adding works from the justifications alone; questions read the lists as they stand. Assumes nothing.
+-- Whatever store of right shape is handed in, forged or not: adding and withdrawing work from the justifications alone; questions read the lists as they stand. Assumes nothing.
 use mathlib.Core.Bool.{true}
 use mathlib.Core.List.{List, _++_}
 use mathlib.Core.Path.{_≡_}
@@ -8,7 +8,7 @@ use Rattle.asking.specs.Asking.{byteOf, left, memberAt, standing}
 use Rattle.lines.specs.Lines.{caseText, lineText}
 use Rattle.promises.specs.Calls.{Calls, writes}
 use Rattle.promises.specs.Made.{inOrder}
-use Rattle.promises.specs.Table.{enlarged}
+use Rattle.promises.specs.Table.{enlarged, lessened}
 use Rattle.replies.specs.declared.Reply.the-variants.{Done}
 use Rattle.store.specs.Calls.{answer, noStore, storeOf}
 use Rattle.store.specs.Shape.{rightShape, top}
@@ -27,6 +27,8 @@ pub record Stands (C : Calls) (s : Store) : Type 0 where
   pub heading : (out : List ℕ) → length (caseText s) ≤ length out → C .heading s out ≡ writes s (caseText s) out
   -- adding works from the justifications alone: answered 0, the store of those held with this one, judged anew; the lists of s do not come into it
   pub adding : (c : ℕ) (l : List ℕ) (t : Store) → C .adding s c l ≡ answer Done t → storeOf noStore (s .held .assumptions) (s .held .claims) (inOrder (enlarged s c l)) ≡ answer Done t
+  -- so does withdrawing: the store of those held without this one, judged anew
+  pub withdrawing : (c : ℕ) (l : List ℕ) (t : Store) → C .withdrawing s c l ≡ answer Done t → storeOf noStore (s .held .assumptions) (s .held .claims) (inOrder (lessened s c l)) ≡ answer Done t
 
 pub record AsTheyStand (C : Calls) : Type 0 where
   pub stands : (s : Store) → rightShape s ≡ true → Stands C s

@@ -13,7 +13,7 @@ use Rattle.promises.specs.Calls.{Calls}
 use Rattle.promises.specs.Made.{putIn}
 use Rattle.promises.specs.Room.{LabelFull, NogoodsFull}
 use Rattle.replies.specs.Replies.{namedBy, numberOf}
-use Rattle.rules.specs.Held.{saidBy}
+use Rattle.rules.specs.Held.{dropped, saidBy}
 use Rattle.rules.specs.Items.{justificationOf}
 use Rattle.store.specs.Reading.{listHeld}
 use Rattle.store.specs.Shape.{rightShape, top}
@@ -62,15 +62,33 @@ handed s c l = justificationOf (top (s .held)) c l
 abbrev pub enlarged : Store → ℕ → List ℕ → List Justification
 enlarged s c l = handed s c l ∷ saidBy (s .held)
 
-abbrev pub AddRows : Store → ℕ → List ℕ → ℕ → Type 0
-AddRows s c l =
+-- a justification handed over: the shape, the faults of the item, then the next rows
+abbrev pub HandedRows : Store → ℕ → List ℕ → (ℕ → Type 0) → ℕ → Type 0
+HandedRows s c l next =
     given (rightShape s ≡ false) 2
     (given (4 < length l) 6
     (given (Above (top (s .held)) c l) 4
     (given (Mem 0 l) 5
+    next)))
+
+abbrev pub AddRows : Store → ℕ → List ℕ → ℕ → Type 0
+AddRows s c l =
+    HandedRows s c l
     (given (Mem (handed s c l) (saidBy (s .held))) 1
     (given (256 ≤ s .held .count) 7
-    (StageRows (s .held .assumptions) (top (s .held)) (enlarged s c l)))))))
+    (StageRows (s .held .assumptions) (top (s .held)) (enlarged s c l))))
+
+-- ---- withdraw
+
+-- what s holds, without it
+abbrev pub lessened : Store → ℕ → List ℕ → List Justification
+lessened s c l = dropped (handed s c l) (saidBy (s .held))
+
+abbrev pub WithdrawRows : Store → ℕ → List ℕ → ℕ → Type 0
+WithdrawRows s c l =
+    HandedRows s c l
+    (given (Mem (handed s c l) (saidBy (s .held)) → ⊥) 18
+    (StageRows (s .held .assumptions) (top (s .held)) (lessened s c l)))
 
 -- ---- question, context, member, the text line of a number, the first line
 
@@ -165,6 +183,7 @@ LoadNames (refused x r) n = ⊥
 pub record ReplyTable (C : Calls) : Type 0 where
   pub opening : (A M a : ℕ) → (numberOf (C .opening A M .reply) ≡ a) ↔ OpenRows A M a
   pub adding : (s : Store) (c : ℕ) (l : List ℕ) (a : ℕ) → (numberOf (C .adding s c l .reply) ≡ a) ↔ AddRows s c l a
+  pub withdrawing : (s : Store) (c : ℕ) (l : List ℕ) (a : ℕ) → (numberOf (C .withdrawing s c l .reply) ≡ a) ↔ WithdrawRows s c l a
   pub question : (s : Store) (n E a : ℕ) → (answerNumber (C .question s n E .answer) ≡ a) ↔ QuestionRows s n E a
   pub context : (s : Store) (E : ℕ) (out : List ℕ) (a : ℕ) → (numberOf (C .context s E out .outcome .reply) ≡ a) ↔ ContextRows s E out a
   pub member : (s : Store) (n place a : ℕ) → (memberNumber (C .member s n place .answer) ≡ a) ↔ MemberRows s n place a
@@ -174,4 +193,6 @@ pub record ReplyTable (C : Calls) : Type 0 where
   -- 8 names the lowest such claim or assumption; no other reply names one
   pub adding-names : (s : Store) (c : ℕ) (l : List ℕ) (n : ℕ) → (namedBy (C .adding s c l .reply) ≡ some n)
       ↔ ((numberOf (C .adding s c l .reply) ≡ 8) × LabelFull (s .held .assumptions) (top (s .held)) (enlarged s c l) n)
+  pub withdrawing-names : (s : Store) (c : ℕ) (l : List ℕ) (n : ℕ) → (namedBy (C .withdrawing s c l .reply) ≡ some n)
+      ↔ ((numberOf (C .withdrawing s c l .reply) ≡ 8) × LabelFull (s .held .assumptions) (top (s .held)) (lessened s c l) n)
   pub loading-names : (bytes : List ℕ) (n : ℕ) → (namedBy (C .loading bytes .reply) ≡ some n) ↔ ((numberOf (C .loading bytes .reply) ≡ 8) × LoadNames (caseOf bytes) n)

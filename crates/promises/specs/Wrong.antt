@@ -1,4 +1,4 @@
--- Wrong programs, each as a value of the calls and refuted by a demand: the five empty ones of document 01, then six that go wrong in one call. Nothing else cites this file. Assumes nothing.
+-- Wrong programs, each as a value of the calls and refuted by a demand: the five empty ones of document 01, then nine that go wrong in one call. Nothing else cites this file. Assumes nothing.
 use mathlib.Core.Bool.{not}
 use mathlib.Core.List.{List, [], _++_, _∷_, map}
 use Prim.Native.Nat.{_+_, suc, ℕ}
@@ -42,6 +42,7 @@ abbrev pub refusing : Calls
 refusing = record {
   opening = λ A M. answer Counts noStore;
   adding = λ s c l. answer Shape s;
+  withdrawing = λ s c l. answer Shape s;
   question = λ s n E. record { answer = Refused Shape; store = s };
   context = λ s E out. left (answer Shape s) out;
   member = λ s n place. record { answer = Not Shape; store = s };
@@ -55,6 +56,7 @@ abbrev pub denying : Calls
 denying = record {
   opening = ours .opening;
   adding = ours .adding;
+  withdrawing = ours .withdrawing;
   question = λ s n E. record { answer = Unsupported; store = s };
   context = ours .context;
   member = ours .member;
@@ -68,6 +70,7 @@ abbrev pub idle : Calls
 idle = record {
   opening = ours .opening;
   adding = λ s c l. answer Done s;
+  withdrawing = ours .withdrawing;
   question = ours .question;
   context = ours .context;
   member = ours .member;
@@ -84,6 +87,7 @@ abbrev pub once : Calls
 once = record {
   opening = ours .opening;
   adding = λ s c l. choose (eqb (s .held .count) 0) (ours .adding s c l) (listsKept s (ours .adding s c l));
+  withdrawing = ours .withdrawing;
   question = ours .question;
   context = ours .context;
   member = ours .member;
@@ -103,6 +107,7 @@ abbrev pub deep : Calls
 deep = record {
   opening = λ A M. deeper (ours .opening A M);
   adding = λ s c l. deeper (ours .adding s c l);
+  withdrawing = ours .withdrawing;
   question = ours .question;
   context = ours .context;
   member = ours .member;
@@ -127,6 +132,7 @@ abbrev pub arrival : Calls
 arrival = record {
   opening = ours .opening;
   adding = λ s c l. arriving s (justificationOf (top (s .held)) c l) (ours .adding (putInOrder s) c l);
+  withdrawing = ours .withdrawing;
   question = ours .question;
   context = ours .context;
   member = ours .member;
@@ -149,6 +155,7 @@ abbrev pub lenient : Calls
 lenient = record {
   opening = ours .opening;
   adding = λ s c l. sparing (ours .adding s c l);
+  withdrawing = ours .withdrawing;
   question = ours .question;
   context = ours .context;
   member = ours .member;
@@ -172,6 +179,7 @@ abbrev pub prefixed : Calls
 prefixed = record {
   opening = ours .opening;
   adding = ours .adding;
+  withdrawing = ours .withdrawing;
   question = ours .question;
   context = ours .context;
   member = ours .member;
@@ -191,6 +199,7 @@ abbrev pub forgetful : Calls
 forgetful = record {
   opening = ours .opening;
   adding = ours .adding;
+  withdrawing = ours .withdrawing;
   question = λ s n E. record { answer = forgetting (s .lists) n E (ours .question s n E .answer); store = s };
   context = ours .context;
   member = ours .member;
@@ -204,6 +213,58 @@ abbrev pub alwaysFull : Calls
 alwaysFull = record {
   opening = ours .opening;
   adding = λ s c l. answer Nogoods s;
+  withdrawing = ours .withdrawing;
+  question = ours .question;
+  context = ours .context;
+  member = ours .member;
+  loading = ours .loading;
+  line = ours .line;
+  heading = ours .heading;
+}
+
+-- withdraws the rule and keeps the lists
+abbrev pub emptying : Calls
+emptying = record {
+  opening = ours .opening;
+  adding = ours .adding;
+  withdrawing = λ s c l. listsKept s (ours .withdrawing s c l);
+  question = ours .question;
+  context = ours .context;
+  member = ours .member;
+  loading = ours .loading;
+  line = ours .line;
+  heading = ours .heading;
+}
+
+-- withdraws every rule of the consequent
+abbrev pub othersThan : ℕ → List Justification → List Justification
+othersThan c J = those (λ j. not (eqb c (j .consequent))) J
+
+abbrev pub clearing : Calls
+clearing = record {
+  opening = ours .opening;
+  adding = ours .adding;
+  withdrawing = λ s c l. choose (isDone (ours .withdrawing s c l .reply)) (storeOf s (s .held .assumptions) (s .held .claims) (othersThan c (saidBy (s .held)))) (ours .withdrawing s c l);
+  question = ours .question;
+  context = ours .context;
+  member = ours .member;
+  loading = ours .loading;
+  line = ours .line;
+  heading = ours .heading;
+}
+
+-- withdraws the rule and keeps the count: the place is not freed
+abbrev pub countKept : Store → Outcome → Outcome
+countKept s o = record {
+  reply = o .reply;
+  store = record { held = record { assumptions = o .store .held .assumptions; claims = o .store .held .claims; count = s .held .count; entries = o .store .held .entries }; lists = o .store .lists };
+}
+
+abbrev pub notFreed : Calls
+notFreed = record {
+  opening = ours .opening;
+  adding = ours .adding;
+  withdrawing = λ s c l. countKept s (ours .withdrawing s c l);
   question = ours .question;
   context = ours .context;
   member = ours .member;
@@ -220,6 +281,7 @@ abbrev pub deducing : Calls
 deducing = record {
   opening = ours .opening;
   adding = ours .adding;
+  withdrawing = ours .withdrawing;
   question = λ s n E. record { answer = choose (eqb (answerNumber (ours .question s n E .answer)) 0) (workedOut (saidBy (s .held)) n E) (ours .question s n E .answer); store = s };
   context = ours .context;
   member = ours .member;
@@ -240,6 +302,9 @@ pub record Refuted : Type 0 where
   pub judges-prefixes : Demand2 prefixed → ⊥
   pub forgets-nogoods : Demand2 forgetful → ⊥
   pub calls-all-full : Demand2 alwaysFull → ⊥
+  pub withdraws-no-list : Demand2 emptying → ⊥
+  pub clears-a-consequent : Stores clearing → ⊥
+  pub frees-no-place : Stores notFreed → ⊥
   pub reads-no-list : AsTheyStand deducing → ⊥
   -- .. of which no other demand can tell
   pub reads-no-list-untold : Demand1 deducing × Demand2 deducing × Demand3 deducing × Stores deducing

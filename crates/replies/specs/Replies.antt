@@ -3,7 +3,7 @@ use mathlib.Core.Path.{_≡_}
 use mathlib.Core.Option.{Option, none, some}
 use Prim.Native.Nat.{ℕ}
 use Rattle.replies.specs.declared.Reply.{Reply}
-use Rattle.replies.specs.declared.Reply.the-variants.{Done, Already, Shape, Counts, Number, Falsity, Supports, Full, Label, Nogoods, Unsettled, Ends, Form, After, Long, Short, Place}
+use Rattle.replies.specs.declared.Reply.the-variants.{Done, Already, Shape, Counts, Number, Falsity, Supports, Full, Label, Nogoods, Unsettled, Ends, Form, After, Long, Short, Place, Unheld}
 
 -- the number of a reply
 abbrev pub numberOf : Reply → ℕ
@@ -41,6 +41,8 @@ numberOf Long = 14
 numberOf Short = 15
 -- no member at that place
 numberOf Place = 16
+-- not held, store unchanged
+numberOf Unheld = 18
 
 -- a refusal 8 names the lowest such claim or assumption; no other reply names one
 abbrev pub namedBy : Reply → Option ℕ
@@ -61,6 +63,7 @@ namedBy After = none
 namedBy Long = none
 namedBy Short = none
 namedBy Place = none
+namedBy Unheld = none
 
 -- r is the number of the reply
 abbrev pub Numbered : Reply → ℕ → Type 0

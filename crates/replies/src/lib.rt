@@ -19,6 +19,7 @@ pub enum Reply {
     Long,
     Short,
     Place,
+    Unheld,
 }
 
 // The number of a reply.
@@ -43,5 +44,6 @@ pub fn number(reply: Reply) -> u8
         Reply::Long => 14,
         Reply::Short => 15,
         Reply::Place => 16,
+        Reply::Unheld => 18,
     }
 }

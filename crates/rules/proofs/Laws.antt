@@ -10,6 +10,7 @@ use lib.Dec.{eqb, leb, ltb}
 use lib.ListN.{drop, getD, length, length-map, length-take, take}
 use borrow.Author.Tests.{le-leb, leb-true, lt-ltb, ltb-true}
 use Rattle.replies.specs.declared.Reply.the-variants.{Done}
+use Rattle.rules.proofs.Dropping.{dropped-few, dropped-from, dropped-ordered}
 use Rattle.rules.proofs.Entries.{Small, entry-at, entry-fits, fits-elim, length-padded, meaning-entry, padded-spare, places, reread, said-many, unpadded, vacant-unused}
 use Rattle.rules.proofs.Faults.{faultless}
 use Rattle.rules.proofs.Order.{put-ordered}
@@ -17,7 +18,7 @@ use Rattle.rules.proofs.Putting.{put-cases, put-length}
 use Rattle.rules.proofs.Scan.{right-elim, right-intro}
 use Rattle.rules.proofs.Steps.{beyond}
 use Rattle.rules.proofs.Taking.{first-few}
-use Rattle.rules.specs.Held.{climbs, entryOf, fitting, heldOf, heldRight, meaning, ordered, put, saidBy, unusedEntry, vacant}
+use Rattle.rules.specs.Held.{climbs, dropped, entryOf, fitting, heldOf, heldRight, meaning, ordered, put, saidBy, unusedEntry, vacant}
 use Rattle.rules.specs.Items.{faultOf, justificationOf, sameJustification, setOf}
 use Rattle.rules.specs.Placing.{withEntries}
 use Rattle.rules.specs.declared.Entry.{Entry}
@@ -116,6 +117,12 @@ put-right h e r room fits new =
     held-right (h .assumptions) (h .claims) (put (meaning e) (saidBy h)) (omega (arith, put-length (meaning e) (saidBy h), said-many h r))
     (λ j m. ⊎-elim (λ (q : j ≡ meaning e). subst (Ranged N) (sym q) (fitting-ranged N e fits)) (λ n. right-range h r j n) (put-cases (meaning e) (saidBy h) m))
     (put-ordered (meaning e) (saidBy h) (right-elim h r .order) new)
+
+-- .. and so does one less
+pub dropped-right : (h : Held) (r : Justification) → heldRight h ≡ true → heldRight (heldOf (h .assumptions) (h .claims) (dropped r (saidBy h))) ≡ true
+dropped-right h r k =
+    held-right (h .assumptions) (h .claims) (dropped r (saidBy h)) (omega (arith, dropped-few r (saidBy h), said-many h k, right-elim h k .few))
+    (λ j m. right-range h k j (dropped-from r (saidBy h) m)) (dropped-ordered r (saidBy h) (right-elim h k .order))
 
 -- ---- the canonical form
 climbs-sorted : (N p : ℕ) (l : List ℕ) → sortedBy ltb l ≡ true → ((s : ℕ) → Mem s l → (p < s) × (s ≤ N)) → climbs N p l ≡ true

@@ -6,4 +6,6 @@ pub mod Taking
 pub mod Moving
 pub mod Putting
 pub mod Order
+pub mod Dropping
+pub mod Removing
 pub mod Laws

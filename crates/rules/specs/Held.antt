@@ -1,12 +1,13 @@
 -- Justifications in their places, and the right shape of what is held. Assumes nothing.
-use mathlib.Core.Bool.{Bool, _&&_, true}
+use mathlib.Core.Bool.{Bool, _&&_, not, true}
 use mathlib.Core.List.{List, [], _∷_, map}
 use Prim.Native.Nat.{_+_, ℕ}
 use lib.Dec.{eqb, leb, ltb}
 use lib.ListN.{drop, length, take}
+use Rattle.rules.specs.Items.{sameJustification}
 use Rattle.rules.specs.declared.Entry.{Entry}
 use Rattle.rules.specs.declared.Held.{Held}
-use Rattle.theory.specs.Lists.{allOf, choose}
+use Rattle.theory.specs.Lists.{allOf, choose, those}
 use Rattle.theory.specs.Places.{padded}
 use Rattle.theory.specs.Stages.{Justification, ahead}
 
@@ -34,6 +35,10 @@ heldOf A M J = record { assumptions = A; claims = M; count = length J; entries =
 unfoldable pub put : Justification → List Justification → List Justification
 put r [] = r ∷ []
 put r (t ∷ l) = choose (ahead t r) (t ∷ put r l) (r ∷ t ∷ l)
+
+-- those other than r, in their order
+unfoldable pub dropped : Justification → List Justification → List Justification
+dropped r J = those (λ i. not (sameJustification r i)) J
 
 -- ---- the right shape
 

@@ -1,12 +1,13 @@
 -- How the code makes a place and finds room for it. Assumes nothing.
 use mathlib.Core.List.{List, [], _++_, _∷_}
 use Prim.Native.Nat.{_-_, suc, ℕ}
-use lib.Dec.{eqb}
-use lib.ListN.{drop, take}
-use Rattle.rules.specs.Held.{entryOf}
+use lib.Dec.{eqb, ltb}
+use lib.ListN.{drop, getD, length, take}
+use Rattle.rules.specs.Held.{entryOf, vacant}
 use Rattle.rules.specs.declared.Entry.{Entry}
 use Rattle.rules.specs.declared.Held.{Held}
 use Rattle.theory.specs.Lists.{choose, numbersBelow, someOf, those}
+use Rattle.theory.specs.Places.{table}
 use Rattle.theory.specs.Stages.{Justification, ahead}
 
 -- the numbers below n that the list has, rising
@@ -25,6 +26,10 @@ placeOf r (t ∷ l) = let later : ℕ = placeOf r l in choose (ahead t r) (suc l
 -- e put in at a place of n that are used
 unfoldable pub insertAt : List Entry → ℕ → ℕ → Entry → List Entry
 insertAt l at n e = take at l ++ (e ∷ (take (n - at) (drop at l) ++ drop (suc n) l))
+
+-- the place `at` taken out: each from there on has what stood one further, the last is vacant
+unfoldable pub removeAt : List Entry → ℕ → List Entry
+removeAt l at = table (length l) (λ i. getD l (choose (ltb i at) i (suc i)) vacant)
 
 -- h with other places, n of them used
 abbrev pub withEntries : Held → ℕ → List Entry → Held

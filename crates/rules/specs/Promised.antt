@@ -4,7 +4,7 @@ use mathlib.Core.List.{List, []}
 use mathlib.Core.Path.{_≡_}
 use Prim.Native.Nat.{ℕ}
 use Rattle.replies.specs.declared.Reply.{Reply}
-use Rattle.rules.specs.Held.{entryOf, heldOf, heldRight, meaning, put, saidBy}
+use Rattle.rules.specs.Held.{dropped, entryOf, heldOf, heldRight, meaning, put, saidBy}
 use Rattle.rules.specs.Items.{faultOf, justificationOf, sameJustification}
 use Rattle.rules.specs.declared.Entry.{Entry}
 use Rattle.rules.specs.declared.Held.{Held}
@@ -33,3 +33,7 @@ IsHeld h e r = r ≡ someOf (sameJustification (meaning e)) (saidBy h)
 -- h with what e says put in its place
 abbrev pub Inserted : Held → Entry → Held → Type 0
 Inserted h e r = r ≡ heldOf (h .assumptions) (h .claims) (put (meaning e) (saidBy h))
+
+-- h without what e says
+abbrev pub Removed : Held → Entry → Held → Type 0
+Removed h e r = r ≡ heldOf (h .assumptions) (h .claims) (dropped (meaning e) (saidBy h))

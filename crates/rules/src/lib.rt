@@ -5,15 +5,15 @@ use replies::Reply;
 ghost use mathlib.Core.Bool.{true};
 ghost use mathlib.Core.List.{map};
 ghost use mathlib.Core.Path.{_≡_};
-ghost use Prim.Native.Nat.{_+_, _<_, _≤_};
+ghost use Prim.Native.Nat.{_+_, _-_, _<_, _≤_};
 ghost use lib.ListN.{drop, length, take};
-ghost use Rattle.theory.specs.Lists.{allOf};
+ghost use Rattle.theory.specs.Lists.{allOf, someOf};
 ghost use Rattle.theory.specs.Stages.{ahead};
 ghost use Rattle.replies.specs.declared.Reply.the-variants.{Done};
 ghost use Rattle.rules.specs.Held.{fitting, heldRight, meaning, ordered, saidBy, unusedEntry};
 ghost use Rattle.rules.specs.Items.{faultOf, sameJustification};
-ghost use Rattle.rules.specs.Placing.{insertAt, partly, placeOf, withEntries};
-ghost use Rattle.rules.specs.Promised.{Canonical, Faulted, HoldingNothing, Inserted, IsHeld, IsRight};
+ghost use Rattle.rules.specs.Placing.{insertAt, partly, placeOf, removeAt, withEntries};
+ghost use Rattle.rules.specs.Promised.{Canonical, Faulted, HoldingNothing, Inserted, IsHeld, IsRight, Removed};
 
 // A justification in its place: its supports rising, unused places zero.
 pub struct Entry {
@@ -222,6 +222,15 @@ impl Held {
         self.moved(at, entry)
     }
 
+    // What is held without the justification, which is held.
+    pub fn remove(self, entry: Entry) -> Held
+        requires { ⌜ (heldRight self ≡ true) × (entry .count ≤ 4) × (someOf (sameJustification (meaning entry)) (saidBy self) ≡ true) ⌝ }
+        ensures { λ r. ⌜ Removed self entry r ⌝ }
+    {
+        let at = self.place(entry);
+        self.closed(at)
+    }
+
     // Whether the places in use are in range.
     fn inrange(self, top: u16) -> bool
         requires { ⌜ self .count ≤ 256 ⌝ }
@@ -308,6 +317,28 @@ impl Held {
         }
         self.entries[at] = entry;
         self.count = count + 1;
+        self
+    }
+
+    // The justification at a place taken out; those after it move down by one, and the last place is vacant.
+    fn closed(mut self, at: usize) -> Held
+        requires { ⌜ (heldRight self ≡ true) × (at < self .count) ⌝ }
+        ensures { λ r. ⌜ r ≡ withEntries self (self .count - 1) (removeAt (self .entries) at) ⌝ }
+    {
+        let last = self.count - 1;
+        let mut i = at;
+        while i < last {
+            let next = self.entries[i + 1];
+            self.entries[i] = next;
+            i += 1;
+        }
+        let vacant = Entry {
+            consequent: 0,
+            count: 0,
+            supports: [0u8; 4],
+        };
+        self.entries[last] = vacant;
+        self.count = last;
         self
     }
 }

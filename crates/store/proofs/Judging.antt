@@ -1,4 +1,4 @@
--- From what the stages say to the answers of judging and adding. Assumes nothing.
+-- From what the stages say to the answers of judging, adding and withdrawing. Assumes nothing.
 use mathlib.Core.Bool.{false, true}
 use mathlib.Core.List.{List, []}
 use mathlib.Core.Logic.{⊎-elim}
@@ -9,11 +9,13 @@ use lib.ListN.{length}
 use borrow.Author.Tests.{eq-eqb, le-leb, le-ltb, lt-leb, lt-ltb, ne-eqb}
 use Rattle.replies.specs.Replies.{numberOf}
 use Rattle.replies.specs.declared.Reply.{Reply}
-use Rattle.replies.specs.declared.Reply.the-variants.{After, Already, Counts, Done, Ends, Falsity, Form, Full, Label, Long, Nogoods, Number, Place, Shape, Short, Supports, Unsettled}
+use Rattle.replies.specs.declared.Reply.the-variants.{After, Already, Counts, Done, Ends, Falsity, Form, Full, Label, Long, Nogoods, Number, Place, Shape, Short, Supports, Unheld, Unsettled}
+use Rattle.rules.proofs.Dropping.{dropped-few, dropped-from}
 use Rattle.rules.proofs.Entries.{said-many}
-use Rattle.rules.proofs.Laws.{fitting-ranged, held-said, put-right, right-held, right-range}
+use Rattle.rules.proofs.Laws.{dropped-right, fitting-ranged, held-said, put-right, right-held, right-range}
 use Rattle.rules.proofs.Putting.{put-cases, put-length}
-use Rattle.rules.specs.Held.{fitting, heldOf, heldRight, meaning, put, saidBy}
+use Rattle.rules.proofs.Scan.{right-elim}
+use Rattle.rules.specs.Held.{dropped, fitting, heldOf, heldRight, meaning, put, saidBy}
 use Rattle.rules.specs.Items.{faultOf, justificationOf, sameJustification}
 use Rattle.rules.specs.declared.Entry.{Entry}
 use Rattle.rules.specs.declared.Held.{Held}
@@ -23,7 +25,7 @@ use Rattle.stages.specs.Lists.{firstStage, listsOf}
 use Rattle.stages.specs.declared.Judged.{Judged}
 use Rattle.stages.specs.declared.Lists.{Lists}
 use Rattle.store.proofs.Shapes.{Fitting, fits-elim, shape-elim}
-use Rattle.store.specs.Calls.{addOf, answer, joinedBy, judgedOf, noStore, ofVerdict, openOf, startStore, storeOf}
+use Rattle.store.specs.Calls.{addOf, answer, checkedOf, joinedBy, judgedOf, noStore, ofVerdict, openOf, partedFrom, startStore, storeOf, withdrawOf}
 use Rattle.store.specs.Shape.{heldFits, rightShape, top}
 use Rattle.store.specs.declared.Outcome.{Outcome}
 use Rattle.store.specs.declared.Store.{Store}
@@ -94,23 +96,45 @@ module _ (A M : ℕ) where
   unfolding openOf
   open-done a m = rw (le-ltb 32 A a, le-ltb 96 M m)
 
--- ---- adding
+-- ---- a justification handed over
 
 module _ (s : Store) (c : ℕ) (l : List ℕ) where
   abbrev item : Reply
   item = faultOf (top (s .held)) c l
 
+  module _ (go : Justification → Outcome) where
+    checked-shape : rightShape s ≡ false → answer Shape s ≡ checkedOf s c l go
+    checked-shape t = rw t
+
+    checked-fault : rightShape s ≡ true → (numberOf item ≡ 0 → ⊥) → answer item s ≡ checkedOf s c l go
+    checked-fault t f = rw (t, ne-eqb (numberOf item) 0 f)
+
+    checked-item : rightShape s ≡ true → numberOf item ≡ 0 → go (justificationOf (top (s .held)) c l) ≡ checkedOf s c l go
+    checked-item t e = rw (t, eq-eqb (numberOf item) 0 e)
+
   pub add-shape : rightShape s ≡ false → answer Shape s ≡ addOf s c l
   unfolding addOf
-  add-shape t = rw t
+  add-shape = checked-shape (joinedBy s)
 
   pub add-fault : rightShape s ≡ true → (numberOf item ≡ 0 → ⊥) → answer item s ≡ addOf s c l
   unfolding addOf
-  add-fault t f = rw (t, ne-eqb (numberOf item) 0 f)
+  add-fault = checked-fault (joinedBy s)
 
   pub add-item : rightShape s ≡ true → numberOf item ≡ 0 → joinedBy s (justificationOf (top (s .held)) c l) ≡ addOf s c l
   unfolding addOf
-  add-item t e = rw (t, eq-eqb (numberOf item) 0 e)
+  add-item = checked-item (joinedBy s)
+
+  pub withdraw-shape : rightShape s ≡ false → answer Shape s ≡ withdrawOf s c l
+  unfolding withdrawOf
+  withdraw-shape = checked-shape (partedFrom s)
+
+  pub withdraw-fault : rightShape s ≡ true → (numberOf item ≡ 0 → ⊥) → answer item s ≡ withdrawOf s c l
+  unfolding withdrawOf
+  withdraw-fault = checked-fault (partedFrom s)
+
+  pub withdraw-item : rightShape s ≡ true → numberOf item ≡ 0 → partedFrom s (justificationOf (top (s .held)) c l) ≡ withdrawOf s c l
+  unfolding withdrawOf
+  withdraw-item = checked-item (partedFrom s)
 
 -- a reply of number 0 is done
 pub is-done : (r : Reply) → numberOf r ≡ 0 → r ≡ Done
@@ -131,6 +155,51 @@ is-done After e = absurd (omega arith)
 is-done Long e = absurd (omega arith)
 is-done Short e = absurd (omega arith)
 is-done Place e = absurd (omega arith)
+is-done Unheld e = absurd (omega arith)
+
+-- ---- another set K of justifications, judged anew for the store s
+
+module _ (s : Store) (K : List Justification) (fit : Fitting (s .held)) (right : heldRight (heldOf (s .held .assumptions) (s .held .claims) K) ≡ true)
+    (said : saidBy (heldOf (s .held .assumptions) (s .held .claims) K) ≡ K) where
+  abbrev A : ℕ
+  A = s .held .assumptions
+
+  abbrev M : ℕ
+  M = s .held .claims
+
+  next-fits : heldFits (heldOf A M K) ≡ true
+  unfolding heldFits heldOf
+  next-fits = rw (le-leb A 32 (fit .few), le-leb M 96 (fit .claims)) right
+
+  judged-next : judgedOf (heldOf A M K) ≡ storeOf noStore A M K
+  unfolding judgedOf heldOf
+  judged-next = rw (next-fits, said)
+
+  other : (h : Held) (v : Verdict) → (numberOf (ofVerdict noStore h v .reply) ≡ 0 → ⊥) → answer (ofVerdict noStore h v .reply) s ≡ ofVerdict s h v
+  other h (settled d g) q = absurd (q refl)
+  other h nogoodsOver q = refl
+  other h (labelOver m) q = refl
+  other h unsettled q = refl
+
+  same : (h : Held) (v : Verdict) → numberOf (ofVerdict noStore h v .reply) ≡ 0 → ofVerdict noStore h v ≡ ofVerdict s h v
+  same h (settled d g) q = refl
+  same h nogoodsOver q = absurd (omega arith)
+  same h (labelOver m) q = absurd (omega arith)
+  same h unsettled q = absurd (omega arith)
+
+  next-refused : (out : Outcome) → out ≡ judgedOf (heldOf A M K) → (numberOf (out .reply) ≡ 0 → ⊥) → answer (out .reply) s ≡ storeOf s A M K
+  unfolding storeOf
+  next-refused out q z =
+      let r : out ≡ storeOf noStore A M K = q ∙ judged-next in
+      ap (λ (o : Outcome). answer (o .reply) s) r ∙ other (heldOf A M K) (judge limits A (A + M) K) (subst (λ (o : Outcome). numberOf (o .reply) ≡ 0 → ⊥) r z)
+
+  next-done : (out : Outcome) → out ≡ judgedOf (heldOf A M K) → numberOf (out .reply) ≡ 0 → out ≡ storeOf s A M K
+  unfolding storeOf
+  next-done out q z =
+      let r : out ≡ storeOf noStore A M K = q ∙ judged-next in
+      r ∙ same (heldOf A M K) (judge limits A (A + M) K) (subst (λ (o : Outcome). numberOf (o .reply) ≡ 0) r z)
+
+-- ---- one more, one less
 
 module _ (s : Store) (e : Entry) where
   abbrev J : List Justification
@@ -138,6 +207,9 @@ module _ (s : Store) (e : Entry) where
 
   abbrev larger : Held
   larger = heldOf (s .held .assumptions) (s .held .claims) (put (meaning e) J)
+
+  abbrev smaller : Held
+  smaller = heldOf (s .held .assumptions) (s .held .claims) (dropped (meaning e) J)
 
   pub join-already : someOf (sameJustification (meaning e)) J ≡ true → answer Already s ≡ joinedBy s (meaning e)
   unfolding joinedBy
@@ -147,6 +219,10 @@ module _ (s : Store) (e : Entry) where
   unfolding joinedBy
   join-full t h = rw (t, le-leb 256 (s .held .count) h)
 
+  pub part-unheld : someOf (sameJustification (meaning e)) J ≡ false → answer Unheld s ≡ partedFrom s (meaning e)
+  unfolding partedFrom
+  part-unheld t = rw t
+
   module _ (t : rightShape s ≡ true) (f : fitting (top (s .held)) e ≡ true) (n : someOf (sameJustification (meaning e)) J ≡ false) (k : s .held .count < 256) where
     fit : Fitting (s .held)
     fit = shape-elim s t .0
@@ -154,48 +230,42 @@ module _ (s : Store) (e : Entry) where
     larger-right : heldRight larger ≡ true
     larger-right = put-right (s .held) e (fit .right) k f n
 
-    larger-fits : heldFits larger ≡ true
-    unfolding heldFits heldOf
-    larger-fits = rw (le-leb (s .held .assumptions) 32 (fit .few), le-leb (s .held .claims) 96 (fit .claims)) larger-right
-
     larger-said : saidBy larger ≡ put (meaning e) J
     larger-said =
         held-said (s .held .assumptions) (s .held .claims) (put (meaning e) J) (omega (arith, put-length (meaning e) J, said-many (s .held) (fit .right)))
         (λ j m. ⊎-elim (λ (q : j ≡ meaning e). subst (λ (i : Justification). length (i .supports) ≤ 4) (sym q) (fitting-ranged (top (s .held)) e f .few)) (λ i. right-range (s .held) (fit .right) j i .few) (put-cases (meaning e) J m))
 
-    judged-larger : judgedOf larger ≡ storeOf noStore (s .held .assumptions) (s .held .claims) (put (meaning e) J)
-    unfolding judgedOf heldOf
-    judged-larger = rw (larger-fits, larger-said)
-
     join-stages : storeOf s (s .held .assumptions) (s .held .claims) (put (meaning e) J) ≡ joinedBy s (meaning e)
     unfolding joinedBy
     join-stages = rw (n, lt-leb 256 (s .held .count) k)
 
-    other : (h : Held) (v : Verdict) → (numberOf (ofVerdict noStore h v .reply) ≡ 0 → ⊥) → answer (ofVerdict noStore h v .reply) s ≡ ofVerdict s h v
-    other h (settled d g) q = absurd (q refl)
-    other h nogoodsOver q = refl
-    other h (labelOver m) q = refl
-    other h unsettled q = refl
-
-    same : (h : Held) (v : Verdict) → numberOf (ofVerdict noStore h v .reply) ≡ 0 → ofVerdict noStore h v ≡ ofVerdict s h v
-    same h (settled d g) q = refl
-    same h nogoodsOver q = absurd (omega arith)
-    same h (labelOver m) q = absurd (omega arith)
-    same h unsettled q = absurd (omega arith)
-
     pub join-refused : (out : Outcome) → out ≡ judgedOf larger → (numberOf (out .reply) ≡ 0 → ⊥) → answer (out .reply) s ≡ joinedBy s (meaning e)
-    unfolding storeOf
-    join-refused out q z =
-        let r : out ≡ storeOf noStore (s .held .assumptions) (s .held .claims) (put (meaning e) J) = q ∙ judged-larger in
-        ap (λ (o : Outcome). answer (o .reply) s) r
-        ∙ other larger (judge limits (s .held .assumptions) (top (s .held)) (put (meaning e) J)) (subst (λ (o : Outcome). numberOf (o .reply) ≡ 0 → ⊥) r z)
-        ∙ join-stages
+    join-refused out q z = next-refused s (put (meaning e) J) fit larger-right larger-said out q z ∙ join-stages
 
     pub join-done : (out : Outcome) → out ≡ judgedOf larger → numberOf (out .reply) ≡ 0 → out ≡ joinedBy s (meaning e)
-    unfolding storeOf
-    join-done out q z =
-        let r : out ≡ storeOf noStore (s .held .assumptions) (s .held .claims) (put (meaning e) J) = q ∙ judged-larger in
-        r ∙ same larger (judge limits (s .held .assumptions) (top (s .held)) (put (meaning e) J)) (subst (λ (o : Outcome). numberOf (o .reply) ≡ 0) r z) ∙ join-stages
+    join-done out q z = next-done s (put (meaning e) J) fit larger-right larger-said out q z ∙ join-stages
+
+  module _ (t : rightShape s ≡ true) (n : someOf (sameJustification (meaning e)) J ≡ true) where
+    fit-less : Fitting (s .held)
+    fit-less = shape-elim s t .0
+
+    smaller-right : heldRight smaller ≡ true
+    smaller-right = dropped-right (s .held) (meaning e) (fit-less .right)
+
+    smaller-said : saidBy smaller ≡ dropped (meaning e) J
+    smaller-said =
+        held-said (s .held .assumptions) (s .held .claims) (dropped (meaning e) J) (omega (arith, dropped-few (meaning e) J, said-many (s .held) (fit-less .right), right-elim (s .held) (fit-less .right) .few))
+        (λ j m. right-range (s .held) (fit-less .right) j (dropped-from (meaning e) J m) .few)
+
+    part-stages : storeOf s (s .held .assumptions) (s .held .claims) (dropped (meaning e) J) ≡ partedFrom s (meaning e)
+    unfolding partedFrom
+    part-stages = rw n
+
+    pub part-refused : (out : Outcome) → out ≡ judgedOf smaller → (numberOf (out .reply) ≡ 0 → ⊥) → answer (out .reply) s ≡ partedFrom s (meaning e)
+    part-refused out q z = next-refused s (dropped (meaning e) J) fit-less smaller-right smaller-said out q z ∙ part-stages
+
+    pub part-done : (out : Outcome) → out ≡ judgedOf smaller → numberOf (out .reply) ≡ 0 → out ≡ partedFrom s (meaning e)
+    part-done out q z = next-done s (dropped (meaning e) J) fit-less smaller-right smaller-said out q z ∙ part-stages
 
 -- ---- the store that holds nothing
 pub start-store : (A M : ℕ) (h : Held) (l : Lists) → h ≡ heldOf A M [] → l ≡ listsOf 0 (firstStage A) → _≡_ {A = Store} (record { held = h; lists = l }) (startStore A M)

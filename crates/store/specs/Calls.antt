@@ -1,4 +1,4 @@
--- Opening, judging what is held, and adding, as document 01 has them. Assumes nothing.
+-- Opening, judging what is held, adding and withdrawing, as documents 01 and 02 have them. Assumes nothing.
 use mathlib.Core.Bool.{Bool, _||_, not}
 use mathlib.Core.List.{List, []}
 use mathlib.Core.Path.{_≡_}
@@ -6,8 +6,8 @@ use Prim.Native.Nat.{_+_, ℕ}
 use lib.Dec.{eqb, leb, ltb}
 use Rattle.replies.specs.Replies.{numberOf}
 use Rattle.replies.specs.declared.Reply.{Reply}
-use Rattle.replies.specs.declared.Reply.the-variants.{Already, Counts, Done, Full, Label, Nogoods, Shape, Unsettled}
-use Rattle.rules.specs.Held.{heldOf, put, saidBy}
+use Rattle.replies.specs.declared.Reply.the-variants.{Already, Counts, Done, Full, Label, Nogoods, Shape, Unheld, Unsettled}
+use Rattle.rules.specs.Held.{dropped, heldOf, put, saidBy}
 use Rattle.rules.specs.Items.{faultOf, justificationOf, sameJustification}
 use Rattle.rules.specs.declared.Held.{Held}
 use Rattle.stages.specs.Lists.{listsOf}
@@ -61,10 +61,19 @@ judgedOf h =
 abbrev pub JudgedAnew : Held → Outcome → Type 0
 JudgedAnew h r = r ≡ judgedOf h
 
--- ---- adding
+-- ---- a justification handed over
 
 abbrev pub isDone : Reply → Bool
 isDone r = eqb (numberOf r) 0
+
+-- the shape, the faults of the item, then what is done with the justification that it makes
+abbrev pub checkedOf : Store → ℕ → List ℕ → (Justification → Outcome) → Outcome
+checkedOf s c l go =
+    choose (not (rightShape s)) (answer Shape s)
+    (choose (not (isDone (faultOf (top (s .held)) c l))) (answer (faultOf (top (s .held)) c l) s)
+    (go (justificationOf (top (s .held)) c l)))
+
+-- ---- adding
 
 -- j, without fault, to a store of right shape: held already; 256 held already; then the stages of the enlarged set
 unfoldable pub joinedBy : Store → Justification → Outcome
@@ -73,12 +82,22 @@ joinedBy s j =
     (choose (leb 256 (s .held .count)) (answer Full s)
     (storeOf s (s .held .assumptions) (s .held .claims) (put j (saidBy (s .held)))))
 
--- the shape, the faults of the item, then the rest
 unfoldable pub addOf : Store → ℕ → List ℕ → Outcome
-addOf s c l =
-    choose (not (rightShape s)) (answer Shape s)
-    (choose (not (isDone (faultOf (top (s .held)) c l))) (answer (faultOf (top (s .held)) c l) s)
-    (joinedBy s (justificationOf (top (s .held)) c l)))
+addOf s c l = checkedOf s c l (joinedBy s)
 
 abbrev pub Added : Store → ℕ → List ℕ → Outcome → Type 0
 Added s c l r = r ≡ addOf s c l
+
+-- ---- withdrawing
+
+-- j, without fault, from a store of right shape: not held; then the stages of the smaller set
+unfoldable pub partedFrom : Store → Justification → Outcome
+partedFrom s j =
+    choose (not (someOf (sameJustification j) (saidBy (s .held)))) (answer Unheld s)
+    (storeOf s (s .held .assumptions) (s .held .claims) (dropped j (saidBy (s .held))))
+
+unfoldable pub withdrawOf : Store → ℕ → List ℕ → Outcome
+withdrawOf s c l = checkedOf s c l (partedFrom s)
+
+abbrev pub Withdrawn : Store → ℕ → List ℕ → Outcome → Type 0
+Withdrawn s c l r = r ≡ withdrawOf s c l

@@ -1,4 +1,4 @@
-// The store by value: its shape, opening, judging what is held, adding.
+// The store by value: its shape, opening, judging what is held, adding, withdrawing.
 use replies::Reply;
 use rules::Entry;
 use rules::Held;
@@ -8,7 +8,7 @@ ghost use mathlib.Core.Path.{_≡_};
 ghost use Prim.Native.Nat.{_+_, _≤_};
 ghost use Rattle.rules.specs.Held.{fitting, meaning};
 ghost use Rattle.store.specs.Shape.{rightShape, RightShape, top};
-ghost use Rattle.store.specs.Calls.{startStore, Opened, JudgedAnew, Added, joinedBy};
+ghost use Rattle.store.specs.Calls.{startStore, Opened, JudgedAnew, Added, joinedBy, Withdrawn, partedFrom};
 
 // What is held, and the labels and nogoods at its depth.
 pub struct Store {
@@ -157,5 +157,46 @@ impl Store {
             return Outcome { reply, store: self };
         }
         out
+    }
+
+    // The store without one justification that it holds; or the refusal and the store as it was.
+    pub fn withdraw(self, consequent: u32, supports: &[u32]) -> Outcome
+        ensures { λ r. ⌜ Withdrawn self consequent (now (supports .entry)) r ⌝ }
+    {
+        if self.shape() {
+            let held = self.held;
+            let top = held.assumptions + held.claims;
+            let reply = rules::fault(top, consequent, supports);
+            if replies::number(reply) != 0 {
+                return Outcome { reply, store: self };
+            }
+            let entry = rules::canonical(top, consequent, supports);
+            return self.parting(entry);
+        }
+        Outcome {
+            reply: Reply::Shape,
+            store: self,
+        }
+    }
+
+    // The same of a justification in its canonical form.
+    fn parting(self, entry: Entry) -> Outcome
+        requires { ⌜ (rightShape self ≡ true) × (fitting (top (self .held)) entry ≡ true) ⌝ }
+        ensures { λ r. ⌜ r ≡ partedFrom self (meaning entry) ⌝ }
+    {
+        let held = self.held;
+        if held.holds(entry) {
+            let rest = held.remove(entry);
+            let out = judged(rest);
+            let reply = out.reply;
+            if replies::number(reply) != 0 {
+                return Outcome { reply, store: self };
+            }
+            return out;
+        }
+        Outcome {
+            reply: Reply::Unheld,
+            store: self,
+        }
     }
 }

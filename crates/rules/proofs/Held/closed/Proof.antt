@@ -1,0 +1,97 @@
+-- `closed` meets its contract. The loop: the places from `at` to i hold what was one above. Assumes nothing.
+use mathlib.Core.Path.{_∙_, _≡_, ap, refl, subst}
+use Prim.Native.Nat.{_+_, _-_, _<_, _≤_, ℕ}
+use native.Mathlib.Omega.{arith}
+use lib.ListN.{getD, length, set}
+use borrow.Author.Needs.{needs}
+use Rattle.rules.proofs.Removing.{Closing, close-end, close-more, close-none, right-vacant}
+use Rattle.rules.proofs.Scan.{right-elim}
+use Rattle.rules.proofs.Steps.{beyond, length-mapped}
+use Rattle.rules.specs.Held.{vacant}
+use Rattle.rules.specs.Placing.{withEntries}
+use Rattle.rules.specs.declared.Held.{Held}
+use Rattle.rules.proofs.Held.closed.Statement.{statement}
+use Rattle.rules.proofs.Held.closed.Tie as tie
+
+abbrev Inv-loop : tie.InvT-loop
+Inv-loop at self₀ last i₀ self i = (at ≤ i) × (i ≤ last) × (last < 256) × Closing (self₀ .entries) (self .entries) at i × (self ≡ withEntries self₀ (self₀ .count) (self .entries))
+
+abbrev μ-loop : tie.MeasureT-loop
+μ-loop at self₀ last i₀ self i = last - i
+
+sub-last : tie.Need-sub-last Inv-loop μ-loop
+sub-last c = search needs
+
+loop-holds : tie.Need-loop-holds Inv-loop μ-loop
+loop-holds c = (omega arith, omega arith, omega (arith, right-elim (c .args .t1) (c .pre .0) .few), close-none _ _, refl)
+
+add-next : tie.Need-add-next Inv-loop μ-loop
+add-next c = search needs
+
+mul-next : tie.Need-mul-next Inv-loop μ-loop
+mul-next c = search needs
+
+element-copy-out-next : tie.Need-element-copy-out-next Inv-loop μ-loop
+element-copy-out-next c = search needs
+
+mul-next-2 : tie.Need-mul-next-2 Inv-loop μ-loop
+mul-next-2 c = search needs
+
+element-set-from-next : tie.Need-element-set-from-next Inv-loop μ-loop
+element-set-from-next c = search needs
+
+add-i : tie.Need-add-i Inv-loop μ-loop
+add-i c = search needs
+
+loop-less : tie.Need-loop-less Inv-loop μ-loop
+loop-less c = search needs
+
+loop-again : tie.Need-loop-again Inv-loop μ-loop
+loop-again c =
+    let l = c .before .before .loop in
+    let a = c .before .before .before .args in
+    let e : length (a .t1 .entries) ≡ 256 = search (needs, length-mapped) in (
+      omega arith,
+      omega arith,
+      l .inv .2,
+      close-more (a .t1 .entries) (l .self .entries) (a .at) (l .i) (omega arith) (omega (arith, e, l .inv .2)) (l .inv .3),
+      ap (λ (s : Held). withEntries s (s .count) (set (l .self .entries) (l .i) (getD (l .self .entries) (l .i + 1) beyond))) (l .inv .4),
+    )
+
+mul-vacant : tie.Need-mul-vacant Inv-loop μ-loop
+mul-vacant c = let l = c .before .loop in omega (arith, l .inv .2)
+
+element-set-from-vacant : tie.Need-element-set-from-vacant Inv-loop μ-loop
+element-set-from-vacant c = let l = c .before .loop in omega (arith, l .inv .2)
+
+returns : tie.Need-returns Inv-loop μ-loop
+returns c =
+    let l = c .before .loop in
+    let a = c .before .before .args in
+    let r = c .before .before .pre .0 in
+    let e : length (a .t1 .entries) ≡ 256 = right-elim (a .t1) r .long in
+    let i : l .i ≡ a .t1 .count - 1 = omega arith in
+    ap (λ (s : Held). withEntries s (a .t1 .count - 1) (set (l .self .entries) (a .t1 .count - 1) vacant)) (l .inv .4)
+    ∙ ap (withEntries (a .t1) (a .t1 .count - 1))
+    (close-end (a .t1 .entries) (l .self .entries) (a .at) (a .t1 .count - 1) (omega arith) (omega (arith, right-elim (a .t1) r .few)) (subst (λ (n : ℕ). Closing (a .t1 .entries) (l .self .entries) (a .at) n) i (l .inv .3))
+    (λ k p q. right-vacant (a .t1) r k (omega arith) (omega arith)))
+
+pub closed-spec : {M : Type 1} → statement M
+closed-spec =
+    tie.close
+    (tie.spec
+    Inv-loop
+    μ-loop
+    sub-last
+    loop-holds
+    add-next
+    mul-next
+    element-copy-out-next
+    mul-next-2
+    element-set-from-next
+    add-i
+    loop-less
+    loop-again
+    mul-vacant
+    element-set-from-vacant
+    returns)
