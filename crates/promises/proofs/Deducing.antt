@@ -151,6 +151,7 @@ demand-3-too = record {
   two-files = λ bytes others f g p q a m e. let o = demand-3 .two-files bytes others f g p q a m e in (o .0, λ r. one-store deducing (o .1 r .store));
   in-between = λ p q. one-store deducing (demand-3 .in-between (made-ours p) (made-ours q) .store);
   undone = λ c l p e k. demand-3 .undone c l (made-ours p) e k;
+  redone = λ c l p e k. demand-3 .redone c l (made-ours p) e k;
 }
 
 pub stores-too : Stores deducing
