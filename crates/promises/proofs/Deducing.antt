@@ -81,6 +81,7 @@ its-table = record {
   adding-names = reply-table .adding-names;
   withdrawing-names = reply-table .withdrawing-names;
   loading-names = reply-table .loading-names;
+  no-ten = reply-table .no-ten;
 }
 
 pub demand-1-too : Demand1 deducing
@@ -130,6 +131,7 @@ its-telling m =
       line = t .line;
       heading = t .heading;
       depth = t .depth;
+      depth-most = t .depth-most;
       label-at = t .label-at;
       nogoods-at = t .nogoods-at;
       later = t .later;
