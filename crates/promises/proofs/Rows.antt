@@ -21,7 +21,7 @@ use Rattle.rules.specs.declared.Held.{Held}
 use Rattle.store.specs.Calls.{ofVerdict}
 use Rattle.store.specs.declared.Store.{Store}
 use Rattle.theory.proofs.Lists.{clash, or-cases, some-elim, some-intro}
-use Rattle.theory.specs.Judge.{Verdict, labelOver, nogoodsOver, settled, stageAt}
+use Rattle.theory.specs.Judge.{Verdict, labelOver, nogoodsOver, settled}
 use Rattle.theory.specs.Lists.{choose, someOf}
 use Rattle.theory.specs.Stages.{Justification}
 

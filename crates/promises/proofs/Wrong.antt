@@ -170,10 +170,10 @@ made-up-depth d =
     let k : ℕ = startStore 0 0 .lists .depth in
     d .tells m .depth .least k (omega arith) (demand-2 .tells (opened o) .depth .agrees)
 
-too-deep : ({A M : ℕ} {H : List Justification} {s : Store} → Made deep A M H s → s .lists .depth ≤ length (consequents H)) → ⊥
+too-deep : ((A M : ℕ) (H : List Justification) (s : Store) → Made deep A M H s → s .lists .depth ≤ length (consequents H)) → ⊥
 too-deep f =
-    let b = f {A = 0} {M = 0} {H = []} (opened (ap deeper (opens-at 0 0 zero-le zero-le))) in
-    omega (arith, b, consequents-length [])
+    let t : Store = deeper (answer Done (startStore 0 0)) .store in
+    omega (arith, f 0 0 [] t (opened (ap deeper (opens-at 0 0 zero-le zero-le))), consequents-length [])
 
 -- ---- wrong in one call: falsity from assumption 1
 

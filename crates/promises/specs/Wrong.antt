@@ -298,7 +298,7 @@ pub record Refuted : Type 0 where
   pub adds-nothing : Demand2 idle → ⊥
   pub stages-once : Demand2 once → ⊥
   pub made-up-depth : Demand2 deep → ⊥
-  pub too-deep : ({A M : ℕ} {H : List Justification} {s : Store} → Made deep A M H s → s .lists .depth ≤ length (consequents H)) → ⊥
+  pub too-deep : ((A M : ℕ) (H : List Justification) (s : Store) → Made deep A M H s → s .lists .depth ≤ length (consequents H)) → ⊥
   pub keeps-arrival : Demand3 arrival → ⊥
   pub strikes-nothing : Demand2 lenient → ⊥
   pub judges-prefixes : Demand2 prefixed → ⊥
