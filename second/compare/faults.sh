@@ -77,5 +77,8 @@ fault "withdraw: a refusal by stage takes the rule out" store.rs \
     '/pub fn withdraw/,/^    }/s/\*self = /self.held = smaller.clone(); *self = /'
 fault "withdraw: the lists stay as they were" store.rs \
     '/pub fn withdraw/,/^    }/s/\*self = Store::of_rules(self.a, self.m, smaller)?;/Store::of_rules(self.a, self.m, smaller.clone())?; self.held = smaller;/'
+fault "depth: no stage above 128" stages.rs 's/if next == lists {/if next == lists || depth == 128 {/'
+fault "depth: a stage 129 that differs from 128 is refused" stages.rs \
+    's/^        depth += 1;/        depth += 1; if depth == 129 { return Err(Refusal::plain(10)); }/'
 rm -rf "$work"
 if [ $missed = 0 ]; then echo "all faults seen"; else echo "faults.sh: FAILED"; exit 1; fi

@@ -124,6 +124,7 @@ fn one_job(paths: &Paths, job: &Job, sampled: bool, findings: &mut Findings) {
         Program::List => {
             let listed = listing::list(&job.input);
             findings.tally.count_file(&listed);
+            findings.hold_depth(job, &listed);
             listed.text
         }
         Program::Replay => {
@@ -163,6 +164,18 @@ impl Findings {
             hex(&job.input),
             String::from_utf8_lossy(other)
         ));
+    }
+
+    /// No case is deeper than it has different consequents.
+    fn hold_depth(&mut self, job: &Job, listed: &listing::Listed) {
+        if listed.depth > listed.consequents {
+            let (depth, consequents) = (listed.depth, listed.consequents);
+            self.differences.push(format!(
+                "difference ({}, depth): {depth} with {consequents} consequents; input as hex:\n{}",
+                job.kind,
+                hex(&job.input)
+            ));
+        }
     }
 
     /// Keep the common end of a script of a group if all that was to be brought

@@ -35,7 +35,7 @@ const MEANINGS: [&str; 19] = [
     "more than 256 held",
     "a label over 12",
     "nogoods over 32",
-    "stage 130 differs",
+    "(no meaning)",
     "file ends early",
     "bad number form",
     "bytes after the end",
@@ -51,6 +51,8 @@ const KINDS: &[&str] = &[
     "bad line",
     "withdrawn after being added, the listing as before",
     "added in a freed place of 256",
+    "depth above 100",
+    "as deep as there are different consequents",
 ];
 
 #[derive(Default)]
@@ -61,16 +63,20 @@ pub struct Tally {
     late: [[u32; MEANINGS.len()]; COLUMNS.len()],
     kinds: BTreeMap<&'static str, u32>,
     too_long: u32,
-    /// Cases listed with a depth above 100, and the greatest depth.
-    deep: u32,
+    /// The greatest depth of a case listed.
     deepest: u32,
 }
 
 impl Tally {
     pub fn count_file(&mut self, listed: &Listed) {
         self.count(FILES, listed.number, listed.stage);
-        self.deep += u32::from(depth_of(listed) > 100);
-        self.deepest = self.deepest.max(depth_of(listed));
+        self.deepest = self.deepest.max(listed.depth);
+        if listed.depth > 100 {
+            self.count_kind("depth above 100");
+        }
+        if listed.consequents > 0 && listed.depth == listed.consequents {
+            self.count_kind("as deep as there are different consequents");
+        }
     }
 
     pub fn count_script(&mut self, replies: &[Reply]) {
@@ -126,7 +132,6 @@ impl Tally {
             *self.kinds.entry(kind).or_default() += count;
         }
         self.too_long += other.too_long;
-        self.deep += other.deep;
         self.deepest = self.deepest.max(other.deepest);
     }
 
@@ -141,7 +146,7 @@ impl Tally {
         }
         KINDS.iter().for_each(|kind| println!("{kind}: {}", self.kind(kind)));
         println!("scripts too long: {}", self.too_long);
-        println!("deepest file listed: depth {}; above 100: {}", self.deepest, self.deep);
+        println!("deepest file listed: depth {}", self.deepest);
     }
 
     fn row(&self, counts: &[[u32; MEANINGS.len()]; COLUMNS.len()], i: usize) -> String {
@@ -179,14 +184,4 @@ impl Tally {
         }
         few
     }
-}
-
-/// The depth that a listing tells: the last field of its first line.
-fn depth_of(listed: &Listed) -> u32 {
-    let text = String::from_utf8_lossy(&listed.text);
-    let first = text.lines().next().unwrap_or("");
-    if !first.starts_with("case") {
-        return 0;
-    }
-    first.rsplit(' ').next().and_then(|field| field.parse().ok()).unwrap_or(0)
 }

@@ -8,21 +8,28 @@ use super::store::Store;
 pub const MOST_BYTES: usize = 4096;
 
 /// What the listing program printed, with the reply number behind it (0 where
-/// the case was listed) and the stage that decided.
+/// the case was listed), the stage that decided, and of a case that was listed
+/// the depth and the count of different consequents.
 pub struct Listed {
     pub text: Vec<u8>,
     pub number: u32,
     pub stage: u32,
+    pub depth: u32,
+    pub consequents: u32,
 }
 
 /// The listing program as a function.
 pub fn list(input: &[u8]) -> Listed {
     match load(input) {
-        Ok(store) => Listed { text: listing(&store).into_bytes(), number: 0, stage: 0 },
+        Ok(store) => {
+            let text = listing(&store).into_bytes();
+            let (depth, consequents) = (store.depth(), store.consequent_count() as u32);
+            Listed { text, number: 0, stage: 0, depth, consequents }
+        }
         Err(fault) => {
             let Refusal { number, stage, .. } = fault.refusal;
             let text = format!("refused {} {}\n", number, fault.record);
-            Listed { text: text.into_bytes(), number, stage }
+            Listed { text: text.into_bytes(), number, stage, depth: 0, consequents: 0 }
         }
     }
 }

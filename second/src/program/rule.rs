@@ -8,7 +8,6 @@ pub const MOST_SUPPORTS: usize = 4;
 pub const MOST_HELD: usize = 256;
 pub const MOST_MEMBERS: usize = 12;
 pub const MOST_NOGOODS: usize = 32;
-pub const STAGE_LIMIT: u32 = 129;
 
 /// A set of assumptions: assumption k is worth 2^(k-1).
 pub type Set = u32;
@@ -69,7 +68,7 @@ pub struct Refusal {
     pub number: u32,
     /// The number with the long label; refusal 8 alone names one.
     pub named: Option<u32>,
-    /// The stage that decided, for 8, 9 and 10; else 0.
+    /// The stage that decided, for 8 and 9; else 0.
     pub stage: u32,
 }
 

@@ -7,9 +7,10 @@
 use super::by_joins::ByJoins;
 use super::by_subsets::BySubsets;
 use super::random::Random;
-use super::rule::{has_one_of, inside, single, Rule, Set, STAGE_LIMIT};
+use super::rule::{has_one_of, inside, single, Rule, Set};
 use super::script;
 use super::stages::{judge_by_joins, judge_by_subsets, Judged, Stages, FEW_ASSUMPTIONS};
+use std::collections::BTreeSet;
 
 const SMALL_CASES: u32 = 20_000;
 const LARGE_CASES: u32 = 3_000;
@@ -33,18 +34,25 @@ const BY_HAND: &[(&str, &str)] = &[
         "open 1 1\nwithdraw 9 0 0 0 0 0\nwithdraw 9 0\nwithdraw 2 0\nwithdraw 2 1",
         "done\nrefused 6\nrefused 4\nrefused 5\nrefused 18\n",
     ),
+    // Depth 2 with two consequents, 3 with falsity too; two more rules for them add no stage.
+    (
+        "open 1 2\nadd 2 1\nadd 3 2\nadd 3 1 2\nadd 2\nlist\nadd 0 3\nlist",
+        "done\ndone\ndone\ndone\ndone\ncase 1 2 4 2\n0 nogood\n1 supported {1}\n2 supported {}\n3 supported {}\n\
+         done\ncase 1 2 5 3\n0 nogood {}\n1 unsupported\n2 unsupported\n3 unsupported\n",
+    ),
 ];
 
 /// Run all; print the count; say whether all passed.
 pub fn run(seed: u64) -> bool {
     let mut random = Random::new(seed);
     let mut failed = by_hand();
-    let (mut early, mut late) = ([0; 11], [0; 11]);
+    let (mut early, mut late) = ([0; 10], [0; 10]);
     for _ in 0..SMALL_CASES {
         let case = small_case(&mut random);
         let (reply, stage) = reply_of(&case);
         if stage > 1 { late[reply] += 1 } else { early[reply] += 1 }
         failed += report(same_stages(&case), &case, "the two ways differ");
+        failed += report(depth_fits(&case), &case, "deeper than it has consequents");
     }
     println!("small cases: {} judged", early[0]);
     println!("  refused 8: {} at stage 1, {} above", early[8], late[8]);
@@ -54,6 +62,7 @@ pub fn run(seed: u64) -> bool {
         let case = large_case(&mut random);
         if let Ok(result) = judge_by_joins(case.a, case.m, &case.rules()) {
             judged += 1;
+            failed += report(depth_fits(&case), &case, "deeper than it has consequents");
             failed += report(probes_agree(&mut random, &case, &result), &case, "a probe differs");
         }
     }
@@ -174,7 +183,7 @@ fn same_stages(case: &Case) -> bool {
     let mut subsets = BySubsets::new(case.a, case.m, &rules);
     let mut joins = ByJoins::new(case.a, case.m, &rules);
     let mut last = None;
-    for _ in 0..=STAGE_LIMIT + 1 {
+    loop {
         let stage = subsets.next_stage();
         if stage != joins.next_stage() {
             return false;
@@ -185,6 +194,15 @@ fn same_stages(case: &Case) -> bool {
         last = Some(stage);
     }
     judge_by_subsets(case.a, case.m, &rules) == judge_by_joins(case.a, case.m, &rules)
+}
+
+/// The depth is no more than the number of different consequents.
+fn depth_fits(case: &Case) -> bool {
+    let consequents: BTreeSet<u32> = case.held.iter().map(|rule| rule.consequent).collect();
+    match judge_by_joins(case.a, case.m, &case.rules()) {
+        Ok(judged) => judged.depth as usize <= consequents.len(),
+        Err(_) => true,
+    }
 }
 
 /// Random sets, and sets made of a member or two, against the definition.

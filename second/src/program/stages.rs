@@ -3,7 +3,7 @@
 
 use super::by_joins::ByJoins;
 use super::by_subsets::BySubsets;
-use super::rule::{Refusal, Rule, Set, STAGE_LIMIT};
+use super::rule::{Refusal, Rule, Set};
 
 /// Up to this many assumptions, all subsets are tried.
 pub const FEW_ASSUMPTIONS: u32 = 10;
@@ -50,17 +50,20 @@ pub fn judge_by_joins(a: u32, m: u32, rules: &[&Rule]) -> Result<Judged, Refusal
     walk(&mut ByJoins::new(a, m, rules))
 }
 
-/// Go up the stages until one agrees with the next or a list is too long.
+/// Go up the stages until one agrees with the next or a list is too long. It
+/// ends: while lists change, some set gains a number, and the numbers that can
+/// be gained are the consequents.
 fn walk(stages: &mut dyn Stages) -> Result<Judged, Refusal> {
     let mut lists = stage(stages, 0)?;
-    for depth in 0..=STAGE_LIMIT {
+    let mut depth = 0;
+    loop {
         let next = stage(stages, depth + 1)?;
         if next == lists {
             return Ok(Judged { lists, depth });
         }
         lists = next;
+        depth += 1;
     }
-    Err(Refusal { number: 10, named: None, stage: STAGE_LIMIT + 1 })
 }
 
 /// One stage, with a list over its limit turned into the refusal it means.

@@ -101,6 +101,11 @@ impl Store {
         self.held.len()
     }
 
+    /// How many different consequents the held justifications have.
+    pub fn consequent_count(&self) -> usize {
+        self.held.iter().map(|rule| rule.consequent).collect::<BTreeSet<u32>>().len()
+    }
+
     pub fn depth(&self) -> u32 {
         self.judged.depth
     }
