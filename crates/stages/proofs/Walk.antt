@@ -58,7 +58,7 @@ module _ (T : ℕ → Stage) (N : ℕ) (wide : N ≤ 128) (long : (k : ℕ) → 
   agree-not : (k : ℕ) → Room (T k) → (Room (T (k + 1)) → ⊥) → agree (T k) (T (k + 1)) ≡ false
   agree-not k o n = ⊎-elim (λ (a : agree (T k) (T (k + 1)) ≡ true). absurd (n (subst Room (agree-elim (T k) (T (k + 1)) a) o))) (λ a. a) (either (agree (T k) (T (k + 1))))
 
-  -- stages that differ come before the last
+  -- a stage that differs from the next comes before stage e
   differs-low : (k : ℕ) → agree (T k) (T (k + 1)) ≡ false → k < e
   differs-low k a = elim (decLt k e) [
     | yes p ↦ p

@@ -401,7 +401,7 @@ fn touched<'a>(
     marks
 }
 
-// The stages from 0 upward, to the first that agrees with the next, or the refusal. Stages that differ are fewer than the different consequents, so the walk ends.
+// The stages from 0 upward, to the first that agrees with the next, or the refusal. A stage that differs from the next has a number below that of the different consequents, so the walk ends.
 pub fn judge(held: Held) -> Judged
     requires { ⌜ Judgeable held ⌝ }
     ensures { λ r. ⌜ Judge held r ⌝ }
