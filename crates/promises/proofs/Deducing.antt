@@ -11,14 +11,14 @@ use Rattle.asking.specs.declared.Answer.{Answer}
 use Rattle.asking.specs.declared.Answer.the-variants.{Inconsistent, Supported, Unsupported}
 use Rattle.promises.proofs.Answers.{question-by}
 use Rattle.promises.proofs.Form.{made-form, made-holds}
-use Rattle.promises.proofs.Refusals.{demand-1}
+use Rattle.promises.proofs.Refusals.{refusals}
 use Rattle.promises.proofs.Right.{made-right}
 use Rattle.promises.proofs.Sameness.{demand-3, one-store}
 use Rattle.promises.proofs.Table.{reply-table}
 use Rattle.promises.proofs.Telling.{carries-same, contradicts-same}
 use Rattle.promises.proofs.Truth.{demand-2}
 use Rattle.promises.specs.Calls.{ours}
-use Rattle.promises.specs.Demand1.{Demand1}
+use Rattle.promises.specs.Demand1.{Refusals}
 use Rattle.promises.specs.Demand2.{Demand2, QuestionSays, Tells}
 use Rattle.promises.specs.Demand3.{Demand3}
 use Rattle.promises.specs.Made.{Made, SameMembers, Stores, added, asked, contexted, headed, kept, lined, loaded, opened, refused, shown, withdrawn}
@@ -83,19 +83,19 @@ its-table = record {
   loading-names = reply-table .loading-names;
 }
 
-pub demand-1-too : Demand1 deducing
-demand-1-too = record {
+pub refusals-too : Refusals deducing
+refusals-too = record {
   table = its-table;
-  adding = demand-1 .adding;
-  withdrawing = demand-1 .withdrawing;
+  adding = refusals .adding;
+  withdrawing = refusals .withdrawing;
   question = λ s n E. refl;
-  context = demand-1 .context;
-  member = demand-1 .member;
-  line = demand-1 .line;
-  heading = demand-1 .heading;
-  bytes = demand-1 .bytes;
-  line-bytes = demand-1 .line-bytes;
-  heading-bytes = demand-1 .heading-bytes;
+  context = refusals .context;
+  member = refusals .member;
+  line = refusals .line;
+  heading = refusals .heading;
+  bytes = refusals .bytes;
+  line-bytes = refusals .line-bytes;
+  heading-bytes = refusals .heading-bytes;
 }
 
 -- ---- its answers on made stores are ours

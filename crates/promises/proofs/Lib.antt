@@ -1,4 +1,6 @@
-pub mod Cited
+pub mod Keeps
+pub mod Coded
+pub mod Once
 pub mod InOrder
 pub mod Opening
 pub mod Keeping
@@ -20,7 +22,6 @@ pub mod Meaning
 pub mod OwnSupport
 pub mod Truth
 pub mod Promises
-pub mod OneAnswer
 pub mod Small
 pub mod Cases
 pub mod Prefixed

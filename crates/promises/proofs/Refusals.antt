@@ -1,12 +1,13 @@
 -- Demand 1 of our calls. Assumes nothing.
 use mathlib.Core.Path.{refl}
+use Rattle.promises.proofs.Coded.{coded}
 use Rattle.promises.proofs.Keeping.{add-keeps, bytes-keep, heading-keeps, line-keeps, withdraw-keeps}
 use Rattle.promises.proofs.Table.{reply-table}
 use Rattle.promises.specs.Calls.{ours}
-use Rattle.promises.specs.Demand1.{Demand1}
+use Rattle.promises.specs.Demand1.{Demand1, Refusals}
 
-pub demand-1 : Demand1 ours
-demand-1 = record {
+pub refusals : Refusals ours
+refusals = record {
   table = reply-table;
   adding = add-keeps;
   withdrawing = withdraw-keeps;
@@ -19,3 +20,6 @@ demand-1 = record {
   line-bytes = line-keeps;
   heading-bytes = heading-keeps;
 }
+
+pub demand-1 : Demand1 ours
+demand-1 = record { ends = coded; refusals = refusals }

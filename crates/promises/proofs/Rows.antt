@@ -10,7 +10,7 @@ use lib.Dec.{eqb, leb, ltb}
 use lib.ListN.{length}
 use borrow.Author.Tests.{eq-eqb, eqb-true, le-ltb, leb-false, leb-true, lt-ltb, ltb-true, not-false, not-true}
 use Rattle.promises.proofs.Full.{VerdictSays, nogoods-not-label, one-label, room-not-label, room-not-nogoods}
-use Rattle.promises.specs.OneAnswer.{One}
+use Rattle.promises.specs.Once.{One}
 use Rattle.promises.specs.Room.{LabelFull}
 use Rattle.promises.specs.Table.{Above, StageRows, given, noRow}
 use Rattle.replies.specs.Replies.{namedBy, numberOf}

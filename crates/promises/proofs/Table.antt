@@ -19,7 +19,7 @@ use Rattle.promises.proofs.Full.{VerdictSays, judge-says}
 use Rattle.promises.proofs.Rows.{Names, Tests, by-choice, exactly, fault-told, given-one, less-test, most-test, names-choice, no-row-one, not-test, or-test, stages-name, stages-one, stages-told, unnamed}
 use Rattle.promises.proofs.Telling.{covered}
 use Rattle.promises.specs.Calls.{ours}
-use Rattle.promises.specs.OneAnswer.{One}
+use Rattle.promises.specs.Once.{One}
 use Rattle.promises.specs.Room.{LabelFull}
 use Rattle.promises.specs.Table.{AddRows, ContextRows, HeadingRows, LineRows, LoadRows, MemberRows, OpenRows, Outside, QuestionRows, ReplyTable, StageRows, WithdrawRows, enlarged, given, handed, lessened, noRow}
 use Rattle.replies.specs.Replies.{numberOf}

@@ -15,7 +15,7 @@ use Rattle.asking.specs.declared.Answer.the-variants.{Inconsistent, Refused, Su
 use Rattle.asking.specs.declared.Asked.{Asked}
 use Rattle.promises.proofs.Arrival.{keeps-arrival}
 use Rattle.promises.proofs.Cases.{p-cases}
-use Rattle.promises.proofs.Deducing.{demand-1-too, demand-2-too, demand-3-too, stores-too}
+use Rattle.promises.proofs.Deducing.{refusals-too, demand-2-too, demand-3-too, stores-too}
 use Rattle.promises.proofs.Form.{Form, done-by, done-store, form-a, form-count, form-m, form-said, made-form, none-store}
 use Rattle.promises.proofs.Full.{room-not-nogoods}
 use Rattle.promises.proofs.Prefixed.{judges-prefixes}
@@ -427,5 +427,5 @@ refuted = record {
   clears-a-consequent = clears-a-consequent;
   frees-no-place = frees-no-place;
   reads-no-list = reads-no-list;
-  reads-no-list-untold = (demand-1-too, demand-2-too, demand-3-too, stores-too);
+  reads-no-list-untold = (refusals-too, demand-2-too, demand-3-too, stores-too);
 }

@@ -39,7 +39,7 @@ pub record Calls : Type 0 where
   pub line : Store → ℕ → List ℕ → Line
   pub heading : Store → List ℕ → Line
 
--- ours: what the contracts of the product's calls say of every answer (`Cited`)
+-- ours: what the contracts of the product's calls say of every answer (`Coded`)
 abbrev pub ours : Calls
 ours = record {
   opening = openOf;

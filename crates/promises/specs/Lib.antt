@@ -1,5 +1,7 @@
 pub mod Calls
-pub mod Cited
+pub mod Keeps
+pub mod Coded
+pub mod Once
 pub mod Made
 pub mod Room
 pub mod Table
@@ -9,6 +11,5 @@ pub mod Demand2
 pub mod Demand3
 pub mod Meaning
 pub mod Promises
-pub mod OneAnswer
 pub mod Cases
 pub mod Wrong

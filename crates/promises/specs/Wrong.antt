@@ -13,7 +13,7 @@ use Rattle.casefile.specs.declared.Loaded.{Loaded}
 use Rattle.items.specs.Items.{Item}
 use Rattle.lines.specs.Lines.{kept}
 use Rattle.promises.specs.Calls.{Calls, handing, ours}
-use Rattle.promises.specs.Demand1.{Demand1}
+use Rattle.promises.specs.Demand1.{Refusals}
 use Rattle.promises.specs.Demand2.{Demand2}
 use Rattle.promises.specs.Demand3.{Demand3}
 use Rattle.promises.specs.Made.{Stores, inOrder}
@@ -307,4 +307,4 @@ pub record Refuted : Type 0 where
   pub frees-no-place : Stores notFreed → ⊥
   pub reads-no-list : AsTheyStand deducing → ⊥
   -- .. of which no other demand can tell
-  pub reads-no-list-untold : Demand1 deducing × Demand2 deducing × Demand3 deducing × Stores deducing
+  pub reads-no-list-untold : Refusals deducing × Demand2 deducing × Demand3 deducing × Stores deducing
