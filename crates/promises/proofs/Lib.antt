@@ -22,9 +22,3 @@ pub mod Meaning
 pub mod OwnSupport
 pub mod Truth
 pub mod Promises
-pub mod Small
-pub mod Cases
-pub mod Prefixed
-pub mod Arrival
-pub mod Deducing
-pub mod Wrong

@@ -11,5 +11,3 @@ pub mod Demand2
 pub mod Demand3
 pub mod Meaning
 pub mod Promises
-pub mod Cases
-pub mod Wrong

@@ -13,23 +13,23 @@ use Rattle.asking.specs.Asking.{answerNumber, byteOf, questionOf, standing}
 use Rattle.asking.specs.declared.Answer.{Answer}
 use Rattle.asking.specs.declared.Answer.the-variants.{Inconsistent, Refused, Supported, Unsupported}
 use Rattle.asking.specs.declared.Asked.{Asked}
-use Rattle.promises.proofs.Arrival.{keeps-arrival}
-use Rattle.promises.proofs.Cases.{p-cases}
-use Rattle.promises.proofs.Deducing.{refusals-too, demand-2-too, demand-3-too, stores-too}
+use Rattle.refuted.proofs.Arrival.{keeps-arrival}
+use Rattle.refuted.proofs.Cases.{p-cases}
+use Rattle.refuted.proofs.Deducing.{refusals-too, demand-2-too, demand-3-too, stores-too}
 use Rattle.promises.proofs.Form.{Form, done-by, done-store, form-a, form-count, form-m, form-said, made-form, none-store}
 use Rattle.promises.proofs.Full.{room-not-nogoods}
-use Rattle.promises.proofs.Prefixed.{judges-prefixes}
+use Rattle.refuted.proofs.Prefixed.{judges-prefixes}
 use Rattle.promises.proofs.Right.{made-right}
-use Rattle.promises.proofs.Small.{add-done, done-with, few-room, made-add, made-open, one-done, one-made, opens-at}
+use Rattle.refuted.proofs.Small.{add-done, done-with, few-room, made-add, made-open, one-done, one-made, opens-at}
 use Rattle.promises.proofs.Standing.{as-they-stand}
 use Rattle.promises.proofs.Truth.{demand-2}
 use Rattle.promises.specs.Calls.{ours}
 use Rattle.promises.specs.Demand2.{Demand2, Smallest}
 use Rattle.promises.specs.Made.{Made, Stores, added, inOrder, opened, withdrawn}
 use Rattle.promises.specs.Room.{Reaches}
 use Rattle.promises.specs.Standing.{AsTheyStand}
 use Rattle.promises.specs.Table.{OverCounts, ReplyTable, given}
-use Rattle.promises.specs.Wrong.{Refuted, alwaysFull, clearing, countKept, deducing, deep, deeper, denying, emptying, forgetful, forgetting, idle, lenient, listsKept, notFreed, once, othersThan, refusing, sparing, unstruck, unstruckLists, workedOut}
+use Rattle.refuted.specs.Wrong.{Refuted, alwaysFull, clearing, countKept, deducing, deep, deeper, denying, emptying, forgetful, forgetting, idle, lenient, listsKept, notFreed, once, othersThan, refusing, sparing, unstruck, unstruckLists, workedOut}
 use Rattle.replies.specs.Replies.{numberOf}
 use Rattle.replies.specs.declared.Reply.the-variants.{Done, Nogoods}
 use Rattle.replies.specs.declared.Reply.{Reply}

@@ -9,21 +9,21 @@ use borrow.Author.Tests.{eqb-true}
 use Rattle.asking.specs.Asking.{answerNumber, questionOf}
 use Rattle.asking.specs.declared.Answer.{Answer}
 use Rattle.asking.specs.declared.Answer.the-variants.{Inconsistent, Supported, Unsupported}
 use Rattle.promises.proofs.Answers.{question-by}
 use Rattle.promises.proofs.Form.{made-form, made-holds}
 use Rattle.promises.proofs.Refusals.{refusals}
 use Rattle.promises.proofs.Right.{made-right}
 use Rattle.promises.proofs.Sameness.{demand-3, one-store}
 use Rattle.promises.proofs.Table.{reply-table}
 use Rattle.promises.proofs.Telling.{carries-same, contradicts-same}
 use Rattle.promises.proofs.Truth.{demand-2}
 use Rattle.promises.specs.Calls.{ours}
 use Rattle.promises.specs.Demand1.{Refusals}
 use Rattle.promises.specs.Demand2.{Demand2, QuestionSays, Tells}
 use Rattle.promises.specs.Demand3.{Demand3}
 use Rattle.promises.specs.Made.{Made, SameMembers, Stores, added, asked, contexted, headed, kept, lined, loaded, opened, refused, shown, withdrawn}
 use Rattle.promises.specs.Table.{QuestionRows, ReplyTable}
-use Rattle.promises.specs.Wrong.{deducing, workedOut}
+use Rattle.refuted.specs.Wrong.{deducing, workedOut}
 use Rattle.rules.specs.Held.{saidBy}
 use Rattle.store.specs.declared.Store.{Store}
 use Rattle.theory.specs.Demands.{carries, contradicts}

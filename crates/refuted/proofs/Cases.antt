@@ -10,17 +10,17 @@ use Rattle.casefile.proofs.Cases.{listed as spells, listedCase}
 use Rattle.casefile.specs.Load.{loadOf}
 use Rattle.numbers.specs.Numbers.{numberAt, numberFrom, secondFrom}
 use Rattle.numbers.specs.declared.Number.the-variants.{Bad, Value}
 use Rattle.promises.proofs.Form.{Form, form-a, form-m, form-settled, made-form}
 use Rattle.promises.proofs.Right.{form-right, form-stage}
-use Rattle.promises.proofs.Small.{add-done, few-room, made-add, made-open, one-done, one-made}
+use Rattle.refuted.proofs.Small.{add-done, few-room, made-add, made-open, one-done, one-made}
 use Rattle.promises.proofs.Standing.{as-they-stand}
 use Rattle.promises.proofs.Telling.{held-label-at, held-nogoods-at}
 use Rattle.promises.proofs.Truth.{demand-2}
 use Rattle.promises.specs.Calls.{ours}
-use Rattle.promises.specs.Cases.{ListsAre, PCases, absurdity, assumed, eachOther, listed, listedBytes, oneWay, struck, withOne}
+use Rattle.refuted.specs.Cases.{ListsAre, PCases, absurdity, assumed, eachOther, listed, listedBytes, oneWay, struck, withOne}
 use Rattle.promises.specs.Demand2.{atPlace}
 use Rattle.promises.specs.Made.{Made, inOrder, loaded, putIn}
 use Rattle.promises.specs.Room.{Reaches}
 use Rattle.replies.specs.declared.Reply.the-variants.{Already, Done, Form as BadForm}
 use Rattle.rules.specs.Held.{put}
 use Rattle.rules.specs.Items.{faultOf, justificationOf, sameJustification, setOf}

@@ -1,0 +1,6 @@
+pub mod Small
+pub mod Cases
+pub mod Prefixed
+pub mod Arrival
+pub mod Deducing
+pub mod Wrong
