@@ -24,7 +24,8 @@ use Rattle.promises.proofs.Loading.{case-judged, case-low}
 use Rattle.promises.proofs.Rows.{Names, by-choice, few-told, given-one, less-test, or-test, stages-name, stages-one, stages-told, unnamed}
 use Rattle.promises.specs.Made.{SameMembers, putIn}
 use Rattle.promises.specs.Once.{One}
-use Rattle.promises.specs.Table.{LoadNames, LoadRows, Next, NumberRows, NumbersRows, RecordRows, Reported, SecondRows, StageRows, given}
+use Rattle.promises.specs.Rows.{given}
+use Rattle.promises.specs.Table.{LoadNames, LoadRows, Next, NumberRows, NumbersRows, RecordRows, Reported, SecondRows, StageRows}
 use Rattle.replies.specs.Replies.{namedBy, numberOf}
 use Rattle.replies.specs.declared.Reply.{Reply}
 use Rattle.replies.specs.declared.Reply.the-variants.{After, Counts, Ends, Falsity, Form, Full, Number, Supports}

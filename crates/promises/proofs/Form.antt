@@ -15,9 +15,9 @@ use Rattle.casefile.specs.Load.{loadOf, loadedOf, recorded}
 use Rattle.casefile.specs.declared.Loaded.{Loaded}
 use Rattle.promises.proofs.InOrder.{in-order-dropped, in-order-from, in-order-is, in-order-members, in-order-new, in-order-ordered}
 use Rattle.promises.proofs.Opening.{judge-none}
-use Rattle.promises.proofs.Keeping.{add-keeps, withdraw-keeps}
+use Rattle.promises.proofs.Keeping.{add-keeps, read-store, withdraw-keeps}
 use Rattle.promises.specs.Calls.{ours}
-use Rattle.promises.specs.Made.{HoldsExactly, Made, SameMembers, added, asked, contexted, headed, inOrder, kept, lined, loaded, opened, putIn, refused, shown, withdrawn}
+use Rattle.promises.specs.Made.{HoldsExactly, Made, SameMembers, added, asked, inOrder, kept, loaded, opened, putIn, refused, withdrawn}
 use Rattle.replies.specs.Replies.{numberOf}
 use Rattle.replies.specs.declared.Reply.{Reply}
 use Rattle.replies.specs.declared.Reply.the-variants.{Already, Counts, Done, Full, Shape, Unheld}
@@ -342,11 +342,7 @@ module _ {A M : ℕ} where
   made-form (kept {H = H} {s = s} {t = t} c l r m e n) =
       let k : withdrawOf s c l .store ≡ s = withdraw-keeps s c l (λ q. n (sym (ap (λ (a : Outcome). a .reply) e) ∙ q)) in
       subst (Form A M H) (sym k ∙ ap (λ (a : Outcome). a .store) e) (made-form m)
-  made-form (asked {H = H} n E m e) = subst (Form A M H) e (made-form m)
-  made-form (contexted {H = H} E out m e) = subst (Form A M H) e (made-form m)
-  made-form (shown {H = H} n place m e) = subst (Form A M H) e (made-form m)
-  made-form (lined {H = H} n out m e) = subst (Form A M H) e (made-form m)
-  made-form (headed {H = H} out m e) = subst (Form A M H) e (made-form m)
+  made-form (asked {H = H} {s = s} a m e) = subst (Form A M H) (sym (read-store s a) ∙ e) (made-form m)
 
   -- a made store holds exactly what was put in
   pub made-holds : {H : List Justification} {s : Store} → Made ours A M H s → HoldsExactly A M H s

@@ -1,7 +1,6 @@
 -- Demand 1 of our calls. Assumes nothing.
-use mathlib.Core.Path.{refl}
 use Rattle.promises.proofs.Coded.{coded}
-use Rattle.promises.proofs.Keeping.{add-keeps, bytes-keep, heading-keeps, line-keeps, withdraw-keeps}
+use Rattle.promises.proofs.Keeping.{add-keeps, read-keeps, read-store, withdraw-keeps}
 use Rattle.promises.proofs.Table.{reply-table}
 use Rattle.promises.specs.Calls.{ours}
 use Rattle.promises.specs.Demand1.{Demand1, Refusals}
@@ -11,14 +10,8 @@ refusals = record {
   table = reply-table;
   adding = add-keeps;
   withdrawing = withdraw-keeps;
-  question = λ s n E. refl;
-  context = λ s E out. refl;
-  member = λ s n place. refl;
-  line = λ s n out. refl;
-  heading = λ s out. refl;
-  bytes = bytes-keep;
-  line-bytes = line-keeps;
-  heading-bytes = heading-keeps;
+  reading = read-store;
+  bytes = read-keeps;
 }
 
 pub demand-1 : Demand1 ours

@@ -41,11 +41,7 @@ one-store C e = record {
   depth = ap (λ (x : Store). x .lists .depth) e;
   adding = λ c l. ap (λ (x : Store). C .adding x c l) e;
   withdrawing = λ c l. ap (λ (x : Store). C .withdrawing x c l) e;
-  question = λ n E. ap (λ (x : Store). C .question x n E) e;
-  context = λ E out. ap (λ (x : Store). C .context x E out) e;
-  member = λ n place. ap (λ (x : Store). C .member x n place) e;
-  line = λ n out. ap (λ (x : Store). C .line x n out) e;
-  heading = λ out. ap (λ (x : Store). C .heading x out) e;
+  reading = λ a. ap (λ (x : Store). C .reading x a) e;
   store = e;
 }
 

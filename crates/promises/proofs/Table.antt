@@ -16,12 +16,13 @@ use Rattle.lines.specs.Lines.{Wrote, caseText, fitted, headingOf, kept, lineOf,
 use Rattle.lines.specs.declared.Written.the-variants.{Length}
 use Rattle.promises.proofs.Filing.{load-names, load-one, load-told, reportOf}
 use Rattle.promises.proofs.Full.{VerdictSays, judge-says}
-use Rattle.promises.proofs.Rows.{Names, Tests, by-choice, exactly, fault-told, given-one, less-test, most-test, names-choice, no-row-one, not-test, or-test, stages-name, stages-one, stages-told, unnamed}
+use Rattle.promises.proofs.Rows.{Names, Tests, by-choice, exactly, fault-told, given-one, less-test, most-test, names-choice, no-row-one, not-test, or-test, outside-test, stages-name, stages-one, stages-told, unnamed}
 use Rattle.promises.proofs.Telling.{covered}
-use Rattle.promises.specs.Calls.{ours}
+use Rattle.promises.specs.Calls.{Ask, caseLine, context, line, member, numberSaid, ours, question, readOf}
 use Rattle.promises.specs.Once.{One}
 use Rattle.promises.specs.Room.{LabelFull}
-use Rattle.promises.specs.Table.{AddRows, ContextRows, HeadingRows, LineRows, LoadRows, MemberRows, OpenRows, Outside, QuestionRows, ReplyTable, StageRows, WithdrawRows, enlarged, given, handed, lessened, noRow}
+use Rattle.promises.specs.Rows.{given, noRow}
+use Rattle.promises.specs.Table.{AddRows, AskRows, LoadRows, OpenRows, Outside, ReplyTable, ShapedRows, StageRows, WithdrawRows, enlarged, handed, lessened}
 use Rattle.replies.specs.Replies.{numberOf}
 use Rattle.replies.specs.declared.Reply.{Reply}
 use Rattle.replies.specs.declared.Reply.the-variants.{Already, Counts, Done, Falsity, Full, Number, Place, Shape, Short, Supports, Unheld}
@@ -218,12 +219,6 @@ module _ (s : Store) (c : ℕ) (l : List ℕ) where
 -- ---- the calls that read
 
 module _ (s : Store) where
-  outside-test : (E : ℕ) → Tests (not (inRange (s .held .assumptions) E)) (Outside s E)
-  unfolding inRange
-  outside-test E =
-      let w : ℕ = 2 ^ (s .held .assumptions) in
-      record { so = λ h. ltb-false E w (not-true (ltb E w) h); not-so = λ h p. clash (not-false (ltb E w) h) (le-ltb E w p) }
-
   -- none of the three answers is a refusal
   standing-zero : (n E : ℕ) → answerNumber (standing (s .lists) n E) ≡ 0
   unfolding standing
@@ -234,42 +229,37 @@ module _ (s : Store) where
       go false true = refl
       go false false = refl
 
-  question-told : (n E : ℕ) → QuestionRows s n E (answerNumber (questionOf s n E))
-  unfolding questionOf
-  question-told n E =
-      let out : Bool = ltb (top (s .held)) n || not (inRange (s .held .assumptions) E) in
-      by-choice _ answerNumber (not (rightShape s)) (Refused Shape) (choose out (Refused Number) (standing (s .lists) n E)) (not-test (rightShape s)) refl
-      (λ p. by-choice noRow answerNumber out (Refused Number) (standing (s .lists) n E) (or-test (less-test (top (s .held)) n) (outside-test E)) refl (λ q. standing-zero n E))
-
-  context-told : (E : ℕ) (out : List ℕ) → ContextRows s E out (numberOf (contextReply s E (length out)))
-  unfolding contextReply
-  context-told E out =
-      by-choice _ numberOf (not (rightShape s)) Shape (choose (not (inRange (s .held .assumptions) E)) Number (choose (ltb (length out) (top (s .held) + 1)) Short Done)) (not-test (rightShape s)) refl
-      (λ p. by-choice _ numberOf (not (inRange (s .held .assumptions) E)) Number (choose (ltb (length out) (top (s .held) + 1)) Short Done) (outside-test E) refl
-      (λ q. by-choice noRow numberOf (ltb (length out) (top (s .held) + 1)) Short Done (less-test (length out) (top (s .held) + 1)) refl (λ z. refl)))
-
-  member-told : (n place : ℕ) → MemberRows s n place (memberNumber (memberOf s n place))
-  unfolding memberOf memberAt
-  member-told n place =
-      let l : List ℕ = listHeld (s .lists) n in
-      by-choice _ memberNumber (not (rightShape s)) (Not Shape) (choose (ltb (top (s .held)) n) (Not Number) (choose (leb (length l) place) (Not Place) (Is (getD l place 0)))) (not-test (rightShape s)) refl
-      (λ p. by-choice _ memberNumber (ltb (top (s .held)) n) (Not Number) (choose (leb (length l) place) (Not Place) (Is (getD l place 0))) (less-test (top (s .held)) n) refl
-      (λ q. by-choice noRow memberNumber (leb (length l) place) (Not Place) (Is (getD l place 0)) (most-test (length l) place) refl (λ z. refl)))
-
   fitted-told : (t out : List ℕ) → given (length out < length t) 15 noRow (wrote (fitted t out))
   unfolding fitted
   fitted-told t out = by-choice noRow wrote (ltb (length out) (length t)) (kept Short out) (record { answer = Length (length t); bytes = t ++ drop (length t) out }) (less-test (length out) (length t)) refl (λ z. refl)
 
-  line-told : (n : ℕ) (out : List ℕ) → LineRows s n out (wrote (lineOf s n out))
-  unfolding lineOf
-  line-told n out =
+  read-told : (a : Ask) → AskRows s a (numberSaid a (readOf s a .said))
+  unfolding questionOf contextReply memberOf memberAt lineOf headingOf
+  read-told (question n E) =
+      let out : Bool = ltb (top (s .held)) n || not (inRange (s .held .assumptions) E) in
+      by-choice _ answerNumber (not (rightShape s)) (Refused Shape) (choose out (Refused Number) (standing (s .lists) n E)) (not-test (rightShape s)) refl
+      (λ p. by-choice noRow answerNumber out (Refused Number) (standing (s .lists) n E) (or-test (less-test (top (s .held)) n) (outside-test s E)) refl (λ q. standing-zero n E))
+  read-told (context E out) =
+      by-choice _ numberOf (not (rightShape s)) Shape (choose (not (inRange (s .held .assumptions) E)) Number (choose (ltb (length out) (top (s .held) + 1)) Short Done)) (not-test (rightShape s)) refl
+      (λ p. by-choice _ numberOf (not (inRange (s .held .assumptions) E)) Number (choose (ltb (length out) (top (s .held) + 1)) Short Done) (outside-test s E) refl
+      (λ q. by-choice noRow numberOf (ltb (length out) (top (s .held) + 1)) Short Done (less-test (length out) (top (s .held) + 1)) refl (λ z. refl)))
+  read-told (member n place) =
+      let l : List ℕ = listHeld (s .lists) n in
+      by-choice _ memberNumber (not (rightShape s)) (Not Shape) (choose (ltb (top (s .held)) n) (Not Number) (choose (leb (length l) place) (Not Place) (Is (getD l place 0)))) (not-test (rightShape s)) refl
+      (λ p. by-choice _ memberNumber (ltb (top (s .held)) n) (Not Number) (choose (leb (length l) place) (Not Place) (Is (getD l place 0))) (less-test (top (s .held)) n) refl
+      (λ q. by-choice noRow memberNumber (leb (length l) place) (Not Place) (Is (getD l place 0)) (most-test (length l) place) refl (λ z. refl)))
+  read-told (line n out) =
       let w : Wrote = fitted (lineText (s .lists) n) out in
       by-choice _ wrote (not (rightShape s)) (kept Shape out) (choose (ltb (top (s .held)) n) (kept Number out) w) (not-test (rightShape s)) refl
       (λ p. by-choice _ wrote (ltb (top (s .held)) n) (kept Number out) w (less-test (top (s .held)) n) refl (λ q. fitted-told (lineText (s .lists) n) out))
+  read-told (caseLine out) = by-choice _ wrote (not (rightShape s)) (kept Shape out) (fitted (caseText s) out) (not-test (rightShape s)) refl (λ p. fitted-told (caseText s) out)
 
-  heading-told : (out : List ℕ) → HeadingRows s out (wrote (headingOf s out))
-  unfolding headingOf
-  heading-told out = by-choice _ wrote (not (rightShape s)) (kept Shape out) (fitted (caseText s) out) (not-test (rightShape s)) refl (λ p. fitted-told (caseText s) out)
+  shaped-one : (a : Ask) → One (ShapedRows s a)
+  shaped-one (question n E) = given-one _ _ _ no-row-one
+  shaped-one (context E out) = given-one _ _ _ (given-one _ _ _ no-row-one)
+  shaped-one (member n place) = given-one _ _ _ (given-one _ _ _ no-row-one)
+  shaped-one (line n out) = given-one _ _ _ (given-one _ _ _ no-row-one)
+  shaped-one (caseLine out) = given-one _ _ _ no-row-one
 
 -- ---- all of it
 
@@ -278,11 +268,7 @@ reply-table = record {
   opening = λ A M. exactly (OpenRows A M) (replied (openOf A M)) (given-one _ _ _ no-row-one) (open-told A M);
   adding = λ s c l. exactly (AddRows s c l) (replied (addOf s c l)) (add-one s c l) (add-told s c l);
   withdrawing = λ s c l. exactly (WithdrawRows s c l) (replied (withdrawOf s c l)) (withdraw-one s c l) (withdraw-told s c l);
-  question = λ s n E. exactly (QuestionRows s n E) (answerNumber (questionOf s n E)) (given-one _ _ _ (given-one _ _ _ no-row-one)) (question-told s n E);
-  context = λ s E out. exactly (ContextRows s E out) (numberOf (contextReply s E (length out))) (given-one _ _ _ (given-one _ _ _ (given-one _ _ _ no-row-one))) (context-told s E out);
-  member = λ s n place. exactly (MemberRows s n place) (memberNumber (memberOf s n place)) (given-one _ _ _ (given-one _ _ _ (given-one _ _ _ no-row-one))) (member-told s n place);
-  line = λ s n out. exactly (LineRows s n out) (wrote (lineOf s n out)) (given-one _ _ _ (given-one _ _ _ (given-one _ _ _ no-row-one))) (line-told s n out);
-  heading = λ s out. exactly (HeadingRows s out) (wrote (headingOf s out)) (given-one _ _ _ (given-one _ _ _ no-row-one)) (heading-told s out);
+  reading = λ s a. exactly (AskRows s a) (numberSaid a (readOf s a .said)) (given-one _ _ _ (shaped-one s a)) (read-told s a);
   loading = λ bytes. exactly (LoadRows bytes) (reportOf (loadOf bytes)) (load-one bytes) (load-told bytes);
   adding-names = add-names;
   withdrawing-names = withdraw-names;

@@ -3,7 +3,7 @@ use mathlib.Core.List.{List, List·Memᴰ as Mem, _++_, _∷_}
 use mathlib.Core.Path.{_≡_}
 use Prim.Native.Nat.{_+_, ℕ}
 use Rattle.casefile.specs.Case.{Case, caseOf, whole}
-use Rattle.promises.specs.Calls.{Calls}
+use Rattle.promises.specs.Calls.{Ask, Calls}
 use Rattle.promises.specs.Made.{Made, SameMembers, putIn}
 use Rattle.replies.specs.declared.Reply.the-variants.{Already, Done}
 use Rattle.rules.specs.Held.{saidBy}
@@ -20,11 +20,7 @@ pub record Same (C : Calls) (s t : Store) : Type 0 where
   pub depth : s .lists .depth ≡ t .lists .depth
   pub adding : (c : ℕ) (l : List ℕ) → C .adding s c l ≡ C .adding t c l
   pub withdrawing : (c : ℕ) (l : List ℕ) → C .withdrawing s c l ≡ C .withdrawing t c l
-  pub question : (n E : ℕ) → C .question s n E ≡ C .question t n E
-  pub context : (E : ℕ) (out : List ℕ) → C .context s E out ≡ C .context t E out
-  pub member : (n place : ℕ) → C .member s n place ≡ C .member t n place
-  pub line : (n : ℕ) (out : List ℕ) → C .line s n out ≡ C .line t n out
-  pub heading : (out : List ℕ) → C .heading s out ≡ C .heading t out
+  pub reading : (a : Ask) → C .reading s a ≡ C .reading t a
   -- they are one store, so whatever is made of them is the same
   pub store : s ≡ t
 

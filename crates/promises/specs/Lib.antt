@@ -3,6 +3,7 @@ pub mod Keeps
 pub mod Coded
 pub mod Once
 pub mod Made
+pub mod Rows
 pub mod Room
 pub mod Table
 pub mod Standing

@@ -5,7 +5,7 @@ use mathlib.Core.Logic.{_↔_}
 use mathlib.Core.Path.{_≡_}
 use Prim.Native.Nat.{_+_, ℕ}
 use Rattle.casefile.specs.Case.{Case, caseOf, whole}
-use Rattle.promises.specs.Calls.{Calls}
+use Rattle.promises.specs.Calls.{Ask, Calls}
 use Rattle.replies.specs.declared.Reply.{Reply}
 use Rattle.replies.specs.declared.Reply.the-variants.{Done}
 use Rattle.rules.specs.Held.{dropped, heldOf, ordered, put, saidBy}
@@ -37,11 +37,7 @@ pub data Made (C : Calls) (A M : ℕ) : List Justification → Store → Type 0 
   -- a refused withdrawing handed t back
   kept : {H : List Justification} {s t : Store} (c : ℕ) (l : List ℕ) (r : Reply) → Made C A M H s → C .withdrawing s c l ≡ answer r t → (r ≡ Done → ⊥) → Made C A M H t
   -- a call that reads handed t back
-  asked : {H : List Justification} {s t : Store} (n E : ℕ) → Made C A M H s → C .question s n E .store ≡ t → Made C A M H t
-  contexted : {H : List Justification} {s t : Store} (E : ℕ) (out : List ℕ) → Made C A M H s → C .context s E out .outcome .store ≡ t → Made C A M H t
-  shown : {H : List Justification} {s t : Store} (n place : ℕ) → Made C A M H s → C .member s n place .store ≡ t → Made C A M H t
-  lined : {H : List Justification} {s t : Store} (n : ℕ) (out : List ℕ) → Made C A M H s → C .line s n out .listed .store ≡ t → Made C A M H t
-  headed : {H : List Justification} {s t : Store} (out : List ℕ) → Made C A M H s → C .heading s out .listed .store ≡ t → Made C A M H t
+  asked : {H : List Justification} {s t : Store} (a : Ask) → Made C A M H s → C .reading s a .store ≡ t → Made C A M H t
 
 -- the same members, however often and in whatever order
 abbrev pub SameMembers : List Justification → List Justification → Type 0

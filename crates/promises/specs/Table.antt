@@ -6,12 +6,12 @@ use mathlib.Core.Option.{some}
 use mathlib.Core.Path.{_≡_}
 use Prim.Native.Nat.{_*_, _+_, _-_, _<_, _^_, _≤_, suc, zero, ℕ}
 use lib.ListN.{length}
-use Rattle.asking.specs.Asking.{answerNumber, memberNumber}
 use Rattle.casefile.specs.Case.{Case, Reading, caseOf, refused, whole}
-use Rattle.lines.specs.Lines.{caseText, lineText, writtenNumber}
-use Rattle.promises.specs.Calls.{Calls}
+use Rattle.lines.specs.Lines.{caseText, lineText}
+use Rattle.promises.specs.Calls.{Ask, Calls, caseLine, context, line, member, numberSaid, question}
 use Rattle.promises.specs.Made.{putIn}
 use Rattle.promises.specs.Room.{LabelFull, NogoodsFull}
+use Rattle.promises.specs.Rows.{given, noRow}
 use Rattle.replies.specs.Replies.{namedBy, numberOf}
 use Rattle.rules.specs.Held.{dropped, saidBy}
 use Rattle.rules.specs.Items.{justificationOf}
@@ -20,16 +20,6 @@ use Rattle.store.specs.Shape.{rightShape, top}
 use Rattle.store.specs.declared.Store.{Store}
 use Rattle.theory.specs.Judge.{stageAt}
 use Rattle.theory.specs.Stages.{Justification}
-
--- ---- rows, one after the other
-
--- the answer c where P holds, else what the next rows say
-unfoldable pub given : {X : Type 0} → Type 0 → X → (X → Type 0) → X → Type 0
-given P c next a = (P × (a ≡ c)) ⊎ ((P → ⊥) × next a)
-
--- 0 where no row holds
-abbrev pub noRow : ℕ → Type 0
-noRow a = a ≡ 0
 
 -- ---- open
 
@@ -90,41 +80,22 @@ WithdrawRows s c l =
     (given (Mem (handed s c l) (saidBy (s .held)) → ⊥) 18
     (StageRows (s .held .assumptions) (top (s .held)) (lessened s c l)))
 
--- ---- question, context, member, the text line of a number, the first line
+-- ---- the calls that read
 
 -- an assumption above A in the set E
 abbrev pub Outside : Store → ℕ → Type 0
 Outside s E = 2 ^ (s .held .assumptions) ≤ E
 
-abbrev pub QuestionRows : Store → ℕ → ℕ → ℕ → Type 0
-QuestionRows s n E =
-    given (rightShape s ≡ false) 2
-    (given ((top (s .held) < n) ⊎ Outside s E) 4
-    noRow)
+-- of a store of right shape
+abbrev pub ShapedRows : Store → Ask → ℕ → Type 0
+ShapedRows s (question n E) = given ((top (s .held) < n) ⊎ Outside s E) 4 noRow
+ShapedRows s (context E out) = given (Outside s E) 4 (given (length out < top (s .held) + 1) 15 noRow)
+ShapedRows s (member n place) = given (top (s .held) < n) 4 (given (length (listHeld (s .lists) n) ≤ place) 16 noRow)
+ShapedRows s (line n out) = given (top (s .held) < n) 4 (given (length out < length (lineText (s .lists) n)) 15 noRow)
+ShapedRows s (caseLine out) = given (length out < length (caseText s)) 15 noRow
 
-abbrev pub ContextRows : Store → ℕ → List ℕ → ℕ → Type 0
-ContextRows s E out =
-    given (rightShape s ≡ false) 2
-    (given (Outside s E) 4
-    (given (length out < top (s .held) + 1) 15
-    noRow))
-
-abbrev pub MemberRows : Store → ℕ → ℕ → ℕ → Type 0
-MemberRows s n place =
-    given (rightShape s ≡ false) 2
-    (given (top (s .held) < n) 4
-    (given (length (listHeld (s .lists) n) ≤ place) 16
-    noRow))
-
-abbrev pub LineRows : Store → ℕ → List ℕ → ℕ → Type 0
-LineRows s n out =
-    given (rightShape s ≡ false) 2
-    (given (top (s .held) < n) 4
-    (given (length out < length (lineText (s .lists) n)) 15
-    noRow))
-
-abbrev pub HeadingRows : Store → List ℕ → ℕ → Type 0
-HeadingRows s out = given (rightShape s ≡ false) 2 (given (length out < length (caseText s)) 15 noRow)
+abbrev pub AskRows : Store → Ask → ℕ → Type 0
+AskRows s a = given (rightShape s ≡ false) 2 (ShapedRows s a)
 
 -- ---- load
 
@@ -184,11 +155,7 @@ pub record ReplyTable (C : Calls) : Type 0 where
   pub opening : (A M a : ℕ) → (numberOf (C .opening A M .reply) ≡ a) ↔ OpenRows A M a
   pub adding : (s : Store) (c : ℕ) (l : List ℕ) (a : ℕ) → (numberOf (C .adding s c l .reply) ≡ a) ↔ AddRows s c l a
   pub withdrawing : (s : Store) (c : ℕ) (l : List ℕ) (a : ℕ) → (numberOf (C .withdrawing s c l .reply) ≡ a) ↔ WithdrawRows s c l a
-  pub question : (s : Store) (n E a : ℕ) → (answerNumber (C .question s n E .answer) ≡ a) ↔ QuestionRows s n E a
-  pub context : (s : Store) (E : ℕ) (out : List ℕ) (a : ℕ) → (numberOf (C .context s E out .outcome .reply) ≡ a) ↔ ContextRows s E out a
-  pub member : (s : Store) (n place a : ℕ) → (memberNumber (C .member s n place .answer) ≡ a) ↔ MemberRows s n place a
-  pub line : (s : Store) (n : ℕ) (out : List ℕ) (a : ℕ) → (writtenNumber (C .line s n out .listed .answer) ≡ a) ↔ LineRows s n out a
-  pub heading : (s : Store) (out : List ℕ) (a : ℕ) → (writtenNumber (C .heading s out .listed .answer) ≡ a) ↔ HeadingRows s out a
+  pub reading : (s : Store) (q : Ask) (a : ℕ) → (numberSaid q (C .reading s q .said) ≡ a) ↔ AskRows s q a
   pub loading : (bytes : List ℕ) (a : Reported) → ((numberOf (C .loading bytes .reply), C .loading bytes .«record») ≡ a) ↔ LoadRows bytes a
   -- 8 names the lowest such claim or assumption; no other reply names one
   pub adding-names : (s : Store) (c : ℕ) (l : List ℕ) (n : ℕ) → (namedBy (C .adding s c l .reply) ≡ some n)
