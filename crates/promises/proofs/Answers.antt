@@ -85,7 +85,7 @@ module _ {A M : ℕ} {H : List Justification} {s : Store} (f : Form A M H s) whe
   tops : top (s .held) ≡ A + M
   tops = ap₂ (λ (a m : ℕ). a + m) (form-a f) (form-m f)
 
-  in-set : (E : ℕ) → E < 2 ^ A → Outside s E → ⊥
+  pub in-set : (E : ℕ) → E < 2 ^ A → Outside s E → ⊥
   in-set E h o = not-below E (2 ^ (s .held .assumptions)) o (subst (λ (a : ℕ). E < 2 ^ a) (sym (form-a f)) h)
     where
       not-below : (a b : ℕ) → b ≤ a → a < b → ⊥
@@ -124,7 +124,7 @@ module _ {A M : ℕ} {H : List Justification} {s : Store} (f : Form A M H s) whe
   list-smallest (suc i) h = form-label f (suc i) h
 
   -- at a place of the list the member, else 16
-  member-by : (n place : ℕ) → n ≤ A + M → memberOf s n place ≡ atPlace (listHeld (s .lists) n) place
+  pub member-by : (n place : ℕ) → n ≤ A + M → memberOf s n place ≡ atPlace (listHeld (s .lists) n) place
   unfolding memberOf memberAt
   member-by n place h = let r = form-right f in let k = test-off (ltb (top (s .held)) n) (less-test (top (s .held)) n) (in-top n h) in rw (r, k)
 

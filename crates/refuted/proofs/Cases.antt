@@ -4,16 +4,15 @@ use mathlib.Core.Path.{_∙_, _≡_, ap, ap₂, refl, sym}
 use Prim.Native.Nat.{_+_, suc, ℕ}
 use native.Mathlib.Omega.{arith}
 use lib.ListN.{getD, length}
-use Rattle.asking.specs.Asking.{memberAt, memberNumber, memberOf, memberSet}
-use Rattle.asking.specs.declared.Shown.{Shown}
+use Rattle.asking.specs.Asking.{memberNumber, memberOf, memberSet}
 use Rattle.casefile.proofs.Cases.{listed as spells, listedCase}
 use Rattle.casefile.specs.Load.{loadOf}
 use Rattle.numbers.specs.Numbers.{numberAt, numberFrom, secondFrom}
 use Rattle.numbers.specs.declared.Number.the-variants.{Bad, Value}
+use Rattle.promises.proofs.Answers.{member-by}
 use Rattle.promises.proofs.Form.{Form, form-a, form-m, form-settled, made-form}
 use Rattle.promises.proofs.Right.{form-right, form-stage}
 use Rattle.refuted.proofs.Small.{add-done, few-room, made-add, made-open, one-done, one-made}
-use Rattle.promises.proofs.Standing.{as-they-stand}
 use Rattle.promises.proofs.Telling.{held-label-at, held-nogoods-at}
 use Rattle.promises.proofs.Truth.{demand-2}
 use Rattle.promises.specs.Calls.{ours}
@@ -111,10 +110,9 @@ five : labelHeld (listed ours .lists) 5 ≡ 6 ∷ []
 five = fifth (listed ours .lists) (1 ∷ []) (2 ∷ []) (4 ∷ []) (1 ∷ 6 ∷ []) (6 ∷ []) (listed-are .labels)
 
 member-five : (place : ℕ) → memberOf (listed ours) 5 place ≡ atPlace (6 ∷ []) place
-unfolding memberAt
 member-five place =
     let f : Form 3 2 worked (listed ours) = made-form made-listed in
-    ap (λ (a : Shown). a .answer) (as-they-stand .stands (listed ours) (form-right f) .member 5 place (omega (arith, form-a f, form-m f))) ∙ ap (λ (l : List ℕ). atPlace l place) five
+    member-by f 5 place (omega arith) ∙ ap (λ (l : List ℕ). atPlace l place) five
 
 -- ---- claims 2 and 3 support each other
 

@@ -1,3 +1,4 @@
+pub mod Exchange
 pub mod Small
 pub mod Cases
 pub mod Prefixed

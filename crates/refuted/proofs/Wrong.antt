@@ -12,23 +12,25 @@ use lib.ListN.{length}
 use Rattle.asking.specs.Asking.{answerNumber, byteOf, questionOf, standing}
 use Rattle.asking.specs.declared.Answer.{Answer}
 use Rattle.asking.specs.declared.Answer.the-variants.{Inconsistent, Refused, Supported, Unsupported}
-use Rattle.asking.specs.declared.Asked.{Asked}
 use Rattle.refuted.proofs.Arrival.{keeps-arrival}
 use Rattle.refuted.proofs.Cases.{p-cases}
 use Rattle.refuted.proofs.Deducing.{refusals-too, demand-2-too, demand-3-too, stores-too}
+use Rattle.promises.proofs.Answers.{in-set}
 use Rattle.promises.proofs.Form.{Form, done-by, done-store, form-a, form-count, form-m, form-said, made-form, none-store}
 use Rattle.promises.proofs.Full.{room-not-nogoods}
 use Rattle.refuted.proofs.Prefixed.{judges-prefixes}
 use Rattle.promises.proofs.Right.{made-right}
 use Rattle.refuted.proofs.Small.{add-done, done-with, few-room, made-add, made-open, one-done, one-made, opens-at}
+use Rattle.promises.proofs.Rows.{passes}
 use Rattle.promises.proofs.Standing.{as-they-stand}
 use Rattle.promises.proofs.Truth.{demand-2}
-use Rattle.promises.specs.Calls.{ours}
+use Rattle.promises.specs.Calls.{Read, ours, question}
 use Rattle.promises.specs.Demand2.{Demand2, Smallest}
 use Rattle.promises.specs.Made.{Made, Stores, added, inOrder, opened, withdrawn}
 use Rattle.promises.specs.Room.{Reaches}
+use Rattle.promises.specs.Rows.{given}
 use Rattle.promises.specs.Standing.{AsTheyStand}
-use Rattle.promises.specs.Table.{OverCounts, ReplyTable, given}
+use Rattle.promises.specs.Table.{OverCounts, ReplyTable, ShapedRows}
 use Rattle.refuted.specs.Wrong.{Refuted, alwaysFull, clearing, countKept, deducing, deep, deeper, denying, emptying, forgetful, forgetting, idle, lenient, listsKept, notFreed, once, othersThan, refusing, sparing, unstruck, unstruckLists, workedOut}
 use Rattle.replies.specs.Replies.{numberOf}
 use Rattle.replies.specs.declared.Reply.the-variants.{Done, Nogoods}
@@ -271,10 +273,14 @@ forged-right =
     and-intro (and-left (heldFits (bare .held)) _ (made-right made-bare))
     (sym (ap₂ (listsRight (listed .lists)) (same-counts .0) (same-counts .1)) ∙ and-right (heldFits (listed .held)) _ (made-right made-listed))
 
+-- 2 and {1} are in range
+unrefused : {H : List Justification} {s : Store} → Form 1 1 H s → ShapedRows s (question 2 1) 0
+unrefused {s = s} f = passes ℕ _ _ 0 _ (⊎-elim (λ (p : top (s .held) < 2). omega (arith, form-a f, form-m f)) (in-set f 1 (omega arith))) refl
+
 supported-as-listed : standing (listed .lists) 2 1 ≡ Supported
 supported-as-listed =
     let f = made-form made-listed in
-    sym (ap (λ (a : Asked). a .answer) (as-they-stand .stands listed (made-right made-listed) .question 2 1 (omega (arith, form-a f, form-m f)) (subst (λ (A : ℕ). 1 < 2 ^ A) (sym (form-a f)) (omega arith))))
+    sym (ap (λ (a : Read (question 2 1)). a .said) (as-they-stand .stands listed (made-right made-listed) .reading (question 2 1) (unrefused f)))
     ∙ demand-2 .tells made-listed .question 2 1 (omega arith) (omega arith) Supported .1 first-carries
 
 -- ---- withdraws the rule and keeps the lists, or the count
@@ -399,13 +405,12 @@ reads-no-list : AsTheyStand deducing → ⊥
 unfolding inOrder
 reads-no-list d =
     let f = made-form made-bare in
-    let n : 2 ≤ top (forged .held) = omega (arith, form-a f, form-m f) in
-    let h : 1 < 2 ^ (forged .held .assumptions) = subst (λ (A : ℕ). 1 < 2 ^ A) (sym (form-a f)) (omega arith) in
-    let asked : ours .question forged 2 1 .answer ≡ Supported = ap (λ (a : Asked). a .answer) (as-they-stand .stands forged forged-right .question 2 1 n h) ∙ supported-as-listed in
-    let said : deducing .question forged 2 1 .answer ≡ Supported = ap (λ (a : Asked). a .answer) (d .stands forged forged-right .question 2 1 n h) ∙ supported-as-listed in
-    let worked : deducing .question forged 2 1 .answer ≡ Unsupported =
+    let w : ShapedRows forged (question 2 1) 0 = unrefused (made-form made-bare) in
+    let asked : ours .reading forged (question 2 1) .said ≡ Supported = ap (λ (a : Read (question 2 1)). a .said) (as-they-stand .stands forged forged-right .reading (question 2 1) w) ∙ supported-as-listed in
+    let said : deducing .reading forged (question 2 1) .said ≡ Supported = ap (λ (a : Read (question 2 1)). a .said) (d .stands forged forged-right .reading (question 2 1) w) ∙ supported-as-listed in
+    let worked : deducing .reading forged (question 2 1) .said ≡ Unsupported =
     ap₂ (λ (a : Answer) (H : List Justification). choose (eqb (answerNumber a) 0) (workedOut H 2 1) a) asked (form-said f) ∙ unsupported-by-none in
-    not-both (deducing .question forged 2 1 .answer) said worked
+    not-both (deducing .reading forged (question 2 1) .said) said worked
   where
     unsupported-by-none : workedOut [] 2 1 ≡ Unsupported
     unsupported-by-none = let c = none-carries .0 in let k = none-carries .1 in rw (c, k)

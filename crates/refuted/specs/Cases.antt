@@ -7,7 +7,7 @@ use lib.ListN.{length}
 use Rattle.asking.specs.Asking.{memberNumber, memberSet}
 use Rattle.numbers.specs.Numbers.{numberAt}
 use Rattle.numbers.specs.declared.Number.the-variants.{Bad, Value}
-use Rattle.promises.specs.Calls.{Calls}
+use Rattle.promises.specs.Calls.{Calls, member}
 use Rattle.promises.specs.Made.{Made}
 use Rattle.replies.specs.declared.Reply.the-variants.{Already, Done, Form}
 use Rattle.store.specs.Reading.{labelHeld, nogoodsHeld}
@@ -71,8 +71,8 @@ pub record PCases (C : Calls) : Type 0 where
   pub listed-lists : ListsAre (listed C) 2 (3 ∷ []) ((1 ∷ []) ∷ (2 ∷ []) ∷ (4 ∷ []) ∷ (1 ∷ 6 ∷ []) ∷ (6 ∷ []) ∷ [])
   -- {2,3} is 6
   pub listed-5 : labelHeld (listed C .lists) 5 ≡ 6 ∷ []
-  pub listed-member : memberSet (C .member (listed C) 5 0 .answer) ≡ some 6
-  pub listed-last : memberNumber (C .member (listed C) 5 1 .answer) ≡ 16
+  pub listed-member : memberSet (C .reading (listed C) (member 5 0) .said) ≡ some 6
+  pub listed-last : memberNumber (C .reading (listed C) (member 5 1) .said) ≡ 16
   -- A=1, claims 2 and 3 supporting each other: both unsupported, depth 0
   pub one-way-done : C .adding (C .opening 1 2 .store) 2 (3 ∷ []) .reply ≡ Done
   pub one-way-made : Made C 1 2 (from 2 (3 ∷ []) ∷ []) (oneWay C)
