@@ -141,26 +141,6 @@ module _ (A N : ℕ) (J : List Justification) where
     judge-says (labelOver n) e = over-label n (rw e at (judge-told limits A N J))
     judge-says unsettled e = never-ten A N J w low e
 
--- the other way round
-module _ {A N : ℕ} {H : List Justification} where
-  pub nogoods-verdict : (v : Verdict) → VerdictSays A N H v → NogoodsFull A N H → v ≡ nogoodsOver
-  nogoods-verdict (settled d s) r g = absurd (room-not-nogoods r g)
-  nogoods-verdict nogoodsOver r g = refl
-  nogoods-verdict (labelOver n) r g = absurd (nogoods-not-label g r)
-  nogoods-verdict unsettled r g = absurd r
-
-  pub label-verdict : (v : Verdict) {n : ℕ} → VerdictSays A N H v → LabelFull A N H n → v ≡ labelOver n
-  label-verdict (settled d s) r g = absurd (room-not-label r g)
-  label-verdict nogoodsOver r g = absurd (nogoods-not-label r g)
-  label-verdict (labelOver m) r g = ap labelOver (one-label r g)
-  label-verdict unsettled r g = absurd r
-
-  pub room-verdict : (v : Verdict) → VerdictSays A N H v → AllInRoom A N H → (d : ℕ) × (s : Stage) × (v ≡ settled d s)
-  room-verdict (settled d s) r g = (d, s, refl)
-  room-verdict nogoodsOver r g = absurd (room-not-nogoods g r)
-  room-verdict (labelOver m) r g = absurd (room-not-label g r)
-  room-verdict unsettled r g = absurd r
-
 -- ---- the same members need the same room
 
 module _ (A N : ℕ) {J H : List Justification} (f : SameMembers J H) where

@@ -11,9 +11,9 @@ use lib.ListN.{length}
 use borrow.Author.Tests.{eq-eqb, eqb-true, le-ltb, leb-false, leb-true, lt-ltb, ltb-false, ltb-true, not-false, not-true}
 use Rattle.promises.proofs.Full.{VerdictSays, nogoods-not-label, one-label, room-not-label, room-not-nogoods}
 use Rattle.promises.specs.Once.{One}
-use Rattle.promises.specs.Room.{LabelFull}
-use Rattle.promises.specs.Rows.{given, noRow}
-use Rattle.promises.specs.Table.{Above, Outside, StageRows}
+use Rattle.promises.specs.Room.{Above, AllInRoom, LabelFull, StagesSay}
+use Rattle.promises.specs.Rows.{given, naming, noRow}
+use Rattle.promises.specs.Table.{Outside, StageRows}
 use Rattle.replies.specs.Replies.{namedBy, numberOf}
 use Rattle.replies.specs.declared.Reply.{Reply}
 use Rattle.replies.specs.declared.Reply.the-variants.{Done, Falsity, Nogoods, Number, Supports}
@@ -37,6 +37,13 @@ given-one P c next o a b (inl p) (inl q) = p .1 ∙ sym (q .1)
 given-one P c next o a b (inl p) (inr q) = absurd (q .0 (p .0))
 given-one P c next o a b (inr p) (inl q) = absurd (p .0 (q .0))
 given-one P c next o a b (inr p) (inr q) = o a b (p .1) (q .1)
+
+pub naming-one : {X : Type 0} (P : ℕ → Type 0) (c : ℕ → X) (next : X → Type 0) → ((n m : ℕ) → P n → P m → n ≡ m) → One next → One (naming P c next)
+unfolding naming
+naming-one P c next k o a b (inl p) (inl q) = p .2 ∙ ap c (k (p .0) (q .0) (p .1) (q .1)) ∙ sym (q .2)
+naming-one P c next k o a b (inl p) (inr q) = absurd (q .0 (p .0) (p .1))
+naming-one P c next k o a b (inr p) (inl q) = absurd (p .0 (q .0) (q .1))
+naming-one P c next k o a b (inr p) (inr q) = o a b (p .1) (q .1)
 
 pub no-row-one : One noRow
 no-row-one a b p q = p ∙ sym q
@@ -146,6 +153,22 @@ module _ (A N : ℕ) (J : List Justification) where
     stages-told s h nogoodsOver r = inl (r, refl)
     stages-told s h (labelOver n) r = inr (λ x. nogoods-not-label x r, inl ((n, r), refl))
     stages-told s h unsettled r = absurd r
+
+-- .. by their replies
+module _ (A N : ℕ) (J : List Justification) where
+  pub say-one : One (StagesSay A N J)
+  say-one = given-one _ _ _ (naming-one _ _ _ (λ n m p q. one-label p q) (λ a b p q. p .1 ∙ sym (q .1)))
+
+  pub room-says : AllInRoom A N J → StagesSay A N J Done
+  unfolding given naming
+  room-says r = inr (λ x. room-not-nogoods r x, inr (λ n x. room-not-label r x, (r, refl)))
+
+  pub stages-say : (s : Store) (h : Held) (v : Verdict) → VerdictSays A N J v → StagesSay A N J (ofVerdict s h v .reply)
+  unfolding given naming
+  stages-say s h (settled d g) r = room-says r
+  stages-say s h nogoodsOver r = inl (r, refl)
+  stages-say s h (labelOver n) r = inr (λ x. nogoods-not-label x r, inl (n, r, refl))
+  stages-say s h unsettled r = absurd r
 
 -- ---- the number that is named
 

@@ -5,17 +5,18 @@ use mathlib.Core.Logic.{_↔_}
 use mathlib.Core.Path.{_≡_}
 use Prim.Native.Nat.{suc, ℕ}
 use Rattle.promises.specs.Demand2.{IsDepth}
+use Rattle.promises.specs.Made.{Input}
 use Rattle.theory.specs.Demands.{Holds, Model, carries, contradicts}
 use Rattle.theory.specs.Sets.{contains, within}
 use Rattle.theory.specs.Stages.{Justification, follows, labelAt, nogoodsAt}
 use Rattle.theory.specs.Step.{joinsFor}
 
 -- n follows from E by H at some stage
-abbrev pub AtSomeStage : List Justification → ℕ → ℕ → Type 0
+abbrev pub AtSomeStage : Input → ℕ → ℕ → Type 0
 AtSomeStage H E n = (k : ℕ) × (follows H k E n ≡ true)
 
 -- S is a model of H that contains E
-pub record ModelOf (H : List Justification) (E : ℕ) (S : ℕ → Bool) : Type 0 where
+pub record ModelOf (H : Input) (E : ℕ) (S : ℕ → Bool) : Type 0 where
   pub model : Model H S
   pub has : Holds S E
 
@@ -27,19 +28,19 @@ pub record Unrivalled (l : List ℕ) (E : ℕ) : Type 0 where
 -- H are the justifications held, E is a set of assumptions
 pub record Meaning : Type 0 where
   -- a set contradicts itself: falsity follows from it at some stage
-  pub contradicts-stages : (H : List Justification) (E : ℕ) → (contradicts H E ≡ true) ↔ AtSomeStage H E 0
+  pub contradicts-stages : (H : Input) (E : ℕ) → (contradicts H E ≡ true) ↔ AtSomeStage H E 0
   -- a set carries n: falsity follows from it at no stage, and n at some stage
-  pub carries-stages : (H : List Justification) (E n : ℕ) → (carries H E n ≡ true) ↔ ((AtSomeStage H E 0 → ⊥) × AtSomeStage H E n)
+  pub carries-stages : (H : Input) (E n : ℕ) → (carries H E n ≡ true) ↔ ((AtSomeStage H E 0 → ⊥) × AtSomeStage H E n)
   -- document 003: no model contains it
-  pub contradicts-models : (H : List Justification) (E : ℕ) → (contradicts H E ≡ true) ↔ ((S : ℕ → Bool) → ModelOf H E S → ⊥)
+  pub contradicts-models : (H : Input) (E : ℕ) → (contradicts H E ≡ true) ↔ ((S : ℕ → Bool) → ModelOf H E S → ⊥)
   -- .. it has a model, and all its models have n
-  pub carries-models : (H : List Justification) (E n : ℕ) → (carries H E n ≡ true) ↔ (((S : ℕ → Bool) × ModelOf H E S) × ((S : ℕ → Bool) → ModelOf H E S → S n ≡ true))
+  pub carries-models : (H : Input) (E n : ℕ) → (carries H E n ≡ true) ↔ (((S : ℕ → Bool) × ModelOf H E S) × ((S : ℕ → Bool) → ModelOf H E S → S n ≡ true))
   -- document 002: the new nogoods are made of the old ones and of one member from the label of each support, joined, over all justifications of falsity, with all supersets removed
-  pub nogoods-step : (A : ℕ) (H : List Justification) (k E : ℕ) → Mem E (nogoodsAt A H (suc k)) ↔ Unrivalled (nogoodsAt A H k ++ joinsFor (labelAt A H k) 0 H) E
+  pub nogoods-step : (A : ℕ) (H : Input) (k E : ℕ) → Mem E (nogoodsAt A H (suc k)) ↔ Unrivalled (nogoodsAt A H k ++ joinsFor (labelAt A H k) 0 H) E
   -- a new label is made of the old label and of one member from the label of each support, joined, over all justifications of the consequent, with the new stage's nogoods and all supersets removed
-  pub label-step : (A : ℕ) (H : List Justification) (k n E : ℕ)
+  pub label-step : (A : ℕ) (H : Input) (k n E : ℕ)
       → Mem E (labelAt A H (suc k) n) ↔ ((contains (nogoodsAt A H (suc k)) E ≡ false) × Unrivalled (labelAt A H k n ++ joinsFor (labelAt A H k) n H) E)
   -- a justification that names its own consequent as a support changes no label, no nogood and no depth
-  pub self-label : (j : Justification) (H : List Justification) → Mem (j .consequent) (j .supports) → (A k n : ℕ) → labelAt A (j ∷ H) k n ≡ labelAt A H k n
-  pub self-nogoods : (j : Justification) (H : List Justification) → Mem (j .consequent) (j .supports) → (A k : ℕ) → nogoodsAt A (j ∷ H) k ≡ nogoodsAt A H k
-  pub self-depth : (j : Justification) (H : List Justification) → Mem (j .consequent) (j .supports) → (A N d : ℕ) → IsDepth A N (j ∷ H) d ↔ IsDepth A N H d
+  pub self-label : (j : Justification) (H : Input) → Mem (j .consequent) (j .supports) → (A k n : ℕ) → labelAt A (j ∷ H) k n ≡ labelAt A H k n
+  pub self-nogoods : (j : Justification) (H : Input) → Mem (j .consequent) (j .supports) → (A k : ℕ) → nogoodsAt A (j ∷ H) k ≡ nogoodsAt A H k
+  pub self-depth : (j : Justification) (H : Input) → Mem (j .consequent) (j .supports) → (A N d : ℕ) → IsDepth A N (j ∷ H) d ↔ IsDepth A N H d

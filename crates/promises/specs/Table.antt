@@ -10,7 +10,7 @@ use Rattle.casefile.specs.Case.{Case, Reading, caseOf, refused, whole}
 use Rattle.lines.specs.Lines.{caseText, lineText}
 use Rattle.promises.specs.Calls.{Ask, Calls, caseLine, context, line, member, numberSaid, question}
 use Rattle.promises.specs.Made.{putIn}
-use Rattle.promises.specs.Room.{LabelFull, NogoodsFull}
+use Rattle.promises.specs.Room.{Above, LabelFull, NogoodsFull}
 use Rattle.promises.specs.Rows.{given, noRow}
 use Rattle.replies.specs.Replies.{namedBy, numberOf}
 use Rattle.rules.specs.Held.{dropped, saidBy}
@@ -39,10 +39,6 @@ StageRows A N J =
     (given ((n : ℕ) × LabelFull A N J n) 8
     (given (stageAt A N J 130 ≡ stageAt A N J 129 → ⊥) 10
     noRow))
-
--- a number above N: the consequent c, or one of the supports l
-abbrev pub Above : ℕ → ℕ → List ℕ → Type 0
-Above N c l = (N < c) ⊎ ((x : ℕ) × Mem x l × (N < x))
 
 -- consequent c with supports l, as s holds it
 abbrev pub handed : Store → ℕ → List ℕ → Justification

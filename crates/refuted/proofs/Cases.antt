@@ -13,6 +13,8 @@ use Rattle.promises.proofs.Answers.{member-by}
 use Rattle.promises.proofs.Form.{Form, form-a, form-m, form-settled, made-form}
 use Rattle.promises.proofs.Right.{form-right, form-stage}
 use Rattle.refuted.proofs.Small.{add-done, few-room, made-add, made-open, one-done, one-made}
+use Rattle.promises.proofs.Rows.{room-says}
+use Rattle.promises.proofs.Sameness.{demand-3}
 use Rattle.promises.proofs.Telling.{held-label-at, held-nogoods-at}
 use Rattle.promises.proofs.Truth.{demand-2}
 use Rattle.promises.specs.Calls.{ours}
@@ -26,6 +28,7 @@ use Rattle.rules.specs.Items.{faultOf, justificationOf, sameJustification, setO
 use Rattle.stages.specs.Lists.{listsOf}
 use Rattle.stages.specs.declared.Lists.{Lists}
 use Rattle.store.specs.Reading.{labelHeld}
+use Rattle.store.specs.declared.Outcome.{Outcome}
 use Rattle.store.specs.declared.Store.{Store}
 use Rattle.theory.proofs.Judgement.{stage-length, stage-nogoods}
 use Rattle.theory.proofs.Listing.{below-elim}
@@ -92,7 +95,7 @@ unfolding verdict inOrder put setOf sameJustification ahead lesser
 listed-verdict = refl
 
 listed-done : loadOf listedBytes .reply ≡ Done
-listed-done = demand-2 .loads listedBytes listedCase spells Done .1 (few-room 3 5 (putIn listedCase) (omega arith))
+listed-done = demand-2 .loads listedBytes listedCase spells Done .1 (room-says 3 5 (putIn listedCase) (few-room 3 5 (putIn listedCase) (omega arith)))
 
 made-listed : Made ours 3 2 worked (listed ours)
 unfolding setOf those numbersBelow someOf
@@ -229,7 +232,7 @@ p-cases = record {
   assumed-lists = made-are made-assumed assumed-verdict;
   with-one-done = one-done 2 1 3 (2 ∷ 1 ∷ 2 ∷ []) (omega arith) (omega arith) (one-sounds .0);
   with-one-made = made-with-one;
-  with-one-again = demand-2 .tells made-with-one .adding 3 (1 ∷ 2 ∷ []) Already .1 (one-sounds .1, here one-set);
+  with-one-again = ap (λ (o : Outcome). o .reply) (demand-3 .repeated 3 (1 ∷ 2 ∷ []) made-with-one (one-sounds .1) (here one-set));
   struck-done = one-done 1 0 0 (1 ∷ []) (omega arith) (omega arith) struck-sound;
   struck-made = made-struck;
   struck-lists = made-are made-struck struck-verdict;

@@ -15,15 +15,16 @@ use Rattle.asking.specs.declared.Answer.the-variants.{Inconsistent, Refused, Su
 use Rattle.refuted.proofs.Arrival.{keeps-arrival}
 use Rattle.refuted.proofs.Cases.{p-cases}
 use Rattle.refuted.proofs.Deducing.{refusals-too, demand-2-too, demand-3-too, stores-too}
+use Rattle.promises.proofs.Adding.{reached}
 use Rattle.promises.proofs.Answers.{in-set}
 use Rattle.promises.proofs.Form.{Form, done-by, done-store, form-a, form-count, form-m, form-said, made-form, none-store}
-use Rattle.promises.proofs.Full.{room-not-nogoods}
 use Rattle.refuted.proofs.Prefixed.{judges-prefixes}
 use Rattle.promises.proofs.Right.{made-right}
 use Rattle.refuted.proofs.Small.{add-done, done-with, few-room, made-add, made-open, one-done, one-made, opens-at}
 use Rattle.promises.proofs.Rows.{passes}
 use Rattle.promises.proofs.Standing.{as-they-stand}
 use Rattle.promises.proofs.Truth.{demand-2}
+use Rattle.promises.proofs.Withdrawing.{lets-go}
 use Rattle.promises.specs.Calls.{Read, ours, question}
 use Rattle.promises.specs.Demand2.{Demand2, Smallest}
 use Rattle.promises.specs.Made.{Made, Stores, added, inOrder, opened, withdrawn}
@@ -33,7 +34,7 @@ use Rattle.promises.specs.Standing.{AsTheyStand}
 use Rattle.promises.specs.Table.{OverCounts, ReplyTable, ShapedRows}
 use Rattle.refuted.specs.Wrong.{Refuted, alwaysFull, clearing, countKept, deducing, deep, deeper, denying, emptying, forgetful, forgetting, idle, lenient, listsKept, notFreed, once, othersThan, refusing, sparing, unstruck, unstruckLists, workedOut}
 use Rattle.replies.specs.Replies.{numberOf}
-use Rattle.replies.specs.declared.Reply.the-variants.{Done, Nogoods}
+use Rattle.replies.specs.declared.Reply.the-variants.{Done}
 use Rattle.replies.specs.declared.Reply.{Reply}
 use Rattle.rules.specs.Held.{dropped, heldOf, put, saidBy}
 use Rattle.rules.specs.Items.{faultOf, justificationOf, sameJustification, setOf}
@@ -153,12 +154,12 @@ stages-once d =
     let o : openOf 1 2 ≡ answer Done s₀ = opens-at 1 2 (omega arith) (omega arith) in
     let m₀ : Made ours 1 2 [] s₀ = opened o in
     let out₁ : Outcome = addOf s₀ 2 (1 ∷ []) in
-    let e₁ : out₁ ≡ answer Done (out₁ .store) = done-with out₁ (demand-2 .tells m₀ .adding 2 (1 ∷ []) Done .1 (first-reaches, few-room 1 3 (first 2 ∷ []) (omega arith))) in
+    let e₁ : out₁ ≡ answer Done (out₁ .store) = done-with out₁ (demand-2 .tells m₀ .adding 2 (1 ∷ []) Done .1 (reached 2 (1 ∷ []) first-reaches (few-room 1 3 (first 2 ∷ []) (omega arith)))) in
     let m₁ : Made ours 1 2 (first 2 ∷ []) (out₁ .store) = added 2 (1 ∷ []) m₀ e₁ in
     let w₁ : Made once 1 2 (first 2 ∷ []) (out₁ .store) = added 2 (1 ∷ []) (opened o) (ap (λ (n : ℕ). choose (eqb n 0) out₁ (listsKept s₀ out₁)) none-yet ∙ e₁) in
     let out₂ : Outcome = addOf (out₁ .store) 3 (2 ∷ []) in
     let kept : Outcome = listsKept (out₁ .store) out₂ in
-    let r₂ : out₂ .reply ≡ Done = demand-2 .tells m₁ .adding 3 (2 ∷ []) Done .1 (second-reaches, few-room 1 3 (second 2 ∷ first 2 ∷ []) (omega arith)) in
+    let r₂ : out₂ .reply ≡ Done = demand-2 .tells m₁ .adding 3 (2 ∷ []) Done .1 (reached 3 (2 ∷ []) second-reaches (few-room 1 3 (second 2 ∷ first 2 ∷ []) (omega arith))) in
     let w₂ : Made once 1 2 (second 2 ∷ first 2 ∷ []) (kept .store) =
     added 3 (2 ∷ []) w₁ (ap (λ (n : ℕ). choose (eqb n 0) out₂ kept) (form-count (made-form m₁) ∙ one-held) ∙ done-with kept r₂) in
     clash (demand-2 .tells m₁ .label 3 (omega arith) .exactly 1 .0 (d .tells w₂ .label 3 (omega arith) .exactly 1 .1 one-smallest) .has) first-carries-not
@@ -235,10 +236,15 @@ forgets-nogoods d =
 
 -- ---- calls every table full: claim 2 from assumption 1 fits
 
+fits : Reaches 1 1 [] 2 (1 ∷ [])
+unfolding faultOf someOf inOrder
+fits = record { sound = refl; new = λ m. elim m [ ]; room = omega arith }
+
 calls-all-full : Demand2 alwaysFull → ⊥
 calls-all-full d =
     let m : Made alwaysFull 1 1 [] (startStore 1 1) = opened (opens-at 1 1 (omega arith) (omega arith)) in
-    room-not-nogoods (few-room 1 2 (first 1 ∷ []) (omega arith)) (d .tells m .adding 2 (1 ∷ []) Nogoods .0 refl .1)
+    let z : _≡_ {A = ℕ} 9 0 = ap numberOf (d .tells m .adding 2 (1 ∷ []) Done .1 (reached 2 (1 ∷ []) fits (few-room 1 2 (first 1 ∷ []) (omega arith)))) in
+    omega arith
 
 -- ---- reads no list: the justifications of one made store with the lists of another. Nothing is held, yet the label of 2 has {1}
 
@@ -313,7 +319,7 @@ bare-done : openOf 1 1 ≡ answer Done bare
 bare-done = done-with (openOf 1 1) (ap (λ (o : Outcome). o .reply) (opens-at 1 1 (omega arith) (omega arith)))
 
 withdrawn-done : withdrawOf listed 2 (1 ∷ []) .reply ≡ Done
-withdrawn-done = demand-2 .tells made-listed .withdrawing 2 (1 ∷ []) Done .1 (record { sound = first-sound; held = here refl }, few-room 1 2 rest (omega arith))
+withdrawn-done = demand-2 .tells made-listed .withdrawing 2 (1 ∷ []) Done .1 (lets-go 1 1 2 (1 ∷ []) first-sound (here refl) (few-room 1 2 rest (omega arith)))
 
 withdraws-no-list : Demand2 emptying → ⊥
 withdraws-no-list d =
@@ -378,7 +384,7 @@ unfolding dropped those sameJustification sameSets alike setOf someOf numbersBel
 cleared = refl
 
 single-done : withdrawOf double 2 [] .reply ≡ Done
-single-done = demand-2 .tells made-double .withdrawing 2 [] Done .1 (record { sound = premise-reaches .sound; held = here refl }, few-room 1 2 single (omega arith))
+single-done = demand-2 .tells made-double .withdrawing 2 [] Done .1 (lets-go 1 1 2 [] (premise-reaches .sound) (here refl) (few-room 1 2 single (omega arith)))
 
 none-stored : (s : Store) → storeOf s 1 1 [] ≡ answer Done (startStore 1 1)
 unfolding storeOf
