@@ -9,7 +9,7 @@ use Rattle.casefile.specs.Case.{Case, Reading, caseOf, doneOf, heldBy, p
 use Rattle.casefile.specs.Load.{loadOf, loadedOf, recorded}
 use Rattle.casefile.specs.declared.Loaded.{Loaded}
 use Rattle.casefile.specs.declared.Parsed.{Parsed}
-use Rattle.items.proofs.Taken.{zero-done}
+use Rattle.replies.proofs.Laws.{zero-done}
 use Rattle.replies.specs.Replies.{numberOf}
 use Rattle.replies.specs.declared.Reply.the-variants.{Done}
 use Rattle.replies.specs.declared.Reply.{Reply}

@@ -133,10 +133,14 @@ module _ {A M : ℕ} {H : List Justification} {s : Store} (f : Form A M H s) whe
 
   -- ---- lines
 
+  pub line-by : (n : ℕ) → n ≤ A + M → (out : List ℕ) → length (textOf n (listHeld (s .lists) n)) ≤ length out
+      → readOf s (line n out) ≡ reads (line n out) (written (textOf n (listHeld (s .lists) n))) s (over (textOf n (listHeld (s .lists) n)) out)
+  unfolding lineText
+  line-by n h out k = stand .reading (line n out) (passes ℕ _ _ 0 _ (in-top n h) (passes ℕ _ _ 0 _ (λ z. omega arith) refl))
+
   pub form-line : (n : ℕ) → n ≤ A + M → (l : List ℕ) × ListsSmallest A (listedFor H n) l
       × ((out : List ℕ) → length (textOf n l) ≤ length out → readOf s (line n out) ≡ reads (line n out) (written (textOf n l)) s (over (textOf n l) out))
-  unfolding lineText
-  form-line n h = (listHeld (s .lists) n, list-smallest n h, λ out k. stand .reading (line n out) (passes ℕ _ _ 0 _ (in-top n h) (passes ℕ _ _ 0 _ (λ z. omega arith) refl)))
+  form-line n h = (listHeld (s .lists) n, list-smallest n h, line-by n h)
 
   case-text : caseText s ≡ firstText A M H s
   unfolding caseText

@@ -6,11 +6,15 @@ use Rattle.asking.proofs.question.Met as question-at
 use Rattle.casefile.proofs.load.Met as load-at
 use Rattle.lines.proofs.case_line.Met as case-line-at
 use Rattle.lines.proofs.line.Met as line-at
+use Rattle.lines.proofs.refusal.Met as refusal-at
+use Rattle.numbers.proofs.read.Met as read-at
 use Rattle.promises.specs.Calls.{ours}
 use Rattle.promises.specs.Coded.{Coded}
 use Rattle.store.proofs.Store.add.Met as add-at
 use Rattle.store.proofs.Store.open.Met as open-at
+use Rattle.store.proofs.Store.shape.Met as shape-at
 use Rattle.store.proofs.Store.withdraw.Met as withdraw-at
+use Rattle.store.proofs.judged.Met as judged-at
 
 same : {X : Type 0} → X ↔ X
 same = (λ x. x, λ x. x)
@@ -26,4 +30,8 @@ coded = record {
   member = record { keeps = λ M. member-at.met; free = λ κs a. tt; exact = λ κs a r e. same };
   line = record { keeps = λ M. line-at.met; free = λ κs a. tt; exact = λ κs a r e. same };
   caseLine = record { keeps = λ M. case-line-at.met; free = λ κs a. tt; exact = λ κs a r e. same };
+  judging = record { keeps = λ M. judged-at.met; free = λ κs a. tt; exact = λ κs a r e. same };
+  shape = record { keeps = λ M. shape-at.met; free = λ κs a. tt; exact = λ κs a r e. same };
+  refusal = record { keeps = λ M. refusal-at.met; free = λ κs a. tt; exact = λ κs a r e. same };
+  decoding = record { keeps = λ M. read-at.met; free = λ κs a. tt; exact = λ κs a r e. same };
 }

@@ -1,22 +1,24 @@
 -- A refusal leaves the store and every lent byte as they were. Assumes nothing.
-use mathlib.Core.Bool.{Bool, false, not, true}
+use mathlib.Core.Bool.{Bool, _||_, false, not, true}
 use mathlib.Core.List.{List, _++_}
-use mathlib.Core.Path.{_≡_, refl}
+use mathlib.Core.Path.{_∙_, _≡_, refl, sym}
 use Prim.Native.Nat.{_+_, ℕ}
 use lib.Dec.{leb, ltb}
 use lib.ListN.{drop, length}
 use borrow.Author.Tests.{eqb-true}
 use Rattle.asking.specs.Asking.{contextBytes, contextOf, contextReply}
-use Rattle.lines.specs.Lines.{Wrote, caseText, fitted, headingOf, kept, lineOf, lineText, writtenNumber}
+use Rattle.casefile.specs.Case.{Case, Reading, caseOf, heldBy, refused as unread, whole}
+use Rattle.casefile.specs.Load.{loadOf, loadedOf}
+use Rattle.lines.specs.Lines.{Wrote, caseText, fitted, headingOf, kept, lineOf, lineText, refusalText, writtenNumber}
 use Rattle.promises.specs.Calls.{Ask, caseLine, context, lentTo, line, member, numberSaid, question, readOf}
 use Rattle.replies.specs.Replies.{numberOf}
 use Rattle.replies.specs.declared.Reply.{Reply}
-use Rattle.replies.specs.declared.Reply.the-variants.{Already, Done, Full, Number, Shape, Short, Unheld}
+use Rattle.replies.specs.declared.Reply.the-variants.{Already, Counts, Done, Full, Number, Shape, Short, Unheld}
 use Rattle.rules.specs.Held.{dropped, heldOf, put, saidBy}
 use Rattle.rules.specs.Items.{faultOf, justificationOf, sameJustification}
 use Rattle.rules.specs.declared.Held.{Held}
-use Rattle.store.specs.Calls.{addOf, answer, isDone, joinedBy, ofVerdict, partedFrom, storeOf, withdrawOf}
-use Rattle.store.specs.Shape.{rightShape, top}
+use Rattle.store.specs.Calls.{addOf, answer, isDone, joinedBy, judgedOf, noStore, ofVerdict, openOf, partedFrom, startStore, storeOf, withdrawOf}
+use Rattle.store.specs.Shape.{heldFits, rightShape, top}
 use Rattle.store.specs.declared.Outcome.{Outcome}
 use Rattle.store.specs.declared.Store.{Store}
 use Rattle.theory.specs.Judge.{Verdict, judge, labelOver, limits, nogoodsOver, settled, unsettled}
@@ -111,3 +113,28 @@ module _ (s : Store) where
   read-keeps (member n place) k = refl
   read-keeps (line n out) k = line-keeps n out k
   read-keeps (caseLine out) k = heading-keeps out k
+
+-- ---- no store is returned
+
+none-opened : openOf 0 0 .store ≡ noStore
+unfolding openOf
+none-opened = refl
+
+pub open-keeps : (A M : ℕ) → (openOf A M .reply ≡ Done → ⊥) → openOf A M .store ≡ openOf 0 0 .store
+unfolding openOf
+open-keeps A M n = keeps-choose noStore (ltb 32 A || ltb 96 M) (answer Counts noStore) (answer Done (startStore A M)) refl (λ k. absurd (k refl)) n ∙ sym none-opened
+
+loaded-keeps : (R : Reading Case) → (loadedOf R .reply ≡ Done → ⊥) → loadedOf R .store ≡ noStore
+loaded-keeps (whole f) n = keeps-store noStore (f .header .assumptions) (f .header .claims) (heldBy f) n
+loaded-keeps (unread x r) n = refl
+
+pub load-keeps : (bytes : List ℕ) → (loadOf bytes .reply ≡ Done → ⊥) → loadOf bytes .store ≡ openOf 0 0 .store
+unfolding loadOf
+load-keeps bytes n = loaded-keeps (caseOf bytes) n ∙ sym none-opened
+
+pub judge-keeps : (h : Held) → (judgedOf h .reply ≡ Done → ⊥) → judgedOf h .store ≡ openOf 0 0 .store
+unfolding judgedOf
+judge-keeps h n = keeps-choose noStore (not (heldFits h)) (answer Shape noStore) _ refl (keeps-store noStore (h .assumptions) (h .claims) (saidBy h)) n ∙ sym none-opened
+
+pub refusal-keeps : (r : Reply) (k : ℕ) (out : List ℕ) → (writtenNumber (fitted (refusalText r k) out .answer) ≡ 0 → ⊥) → fitted (refusalText r k) out .bytes ≡ out
+refusal-keeps r k out = kept-fitted noStore (refusalText r k) out

@@ -18,6 +18,8 @@ pub mod Rows
 pub mod Filing
 pub mod Table
 pub mod Refusals
+pub mod Counting
+pub mod Models
 pub mod Meaning
 pub mod OwnSupport
 pub mod Truth

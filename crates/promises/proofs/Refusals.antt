@@ -1,6 +1,6 @@
 -- Demand 1 of our calls. Assumes nothing.
 use Rattle.promises.proofs.Coded.{coded}
-use Rattle.promises.proofs.Keeping.{add-keeps, read-keeps, read-store, withdraw-keeps}
+use Rattle.promises.proofs.Keeping.{add-keeps, judge-keeps, load-keeps, open-keeps, read-keeps, read-store, refusal-keeps, withdraw-keeps}
 use Rattle.promises.proofs.Table.{reply-table}
 use Rattle.promises.specs.Calls.{ours}
 use Rattle.promises.specs.Demand1.{Demand1, Refusals}
@@ -8,10 +8,14 @@ use Rattle.promises.specs.Demand1.{Demand1, Refusals}
 pub refusals : Refusals ours
 refusals = record {
   table = reply-table;
+  opening = open-keeps;
+  loading = load-keeps;
+  judging = judge-keeps;
   adding = add-keeps;
   withdrawing = withdraw-keeps;
   reading = read-store;
   bytes = read-keeps;
+  refusal-bytes = refusal-keeps;
 }
 
 pub demand-1 : Demand1 ours

@@ -42,6 +42,7 @@ one-store C e = record {
   adding = λ c l. ap (λ (x : Store). C .adding x c l) e;
   withdrawing = λ c l. ap (λ (x : Store). C .withdrawing x c l) e;
   reading = λ a. ap (λ (x : Store). C .reading x a) e;
+  shape = ap (λ (x : Store). C .shape x) e;
   store = e;
 }
 

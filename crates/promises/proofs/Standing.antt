@@ -6,10 +6,11 @@ use Prim.Native.Nat.{_+_, ℕ}
 use native.Mathlib.Omega.{arith}
 use lib.Dec.{ltb}
 use lib.ListN.{drop, length}
+use borrow.Author.Tests.{le-ltb}
 use Rattle.asking.specs.Asking.{contextBytes, contextOf, contextReply, memberAt, memberOf, questionOf, standing}
 use Rattle.asking.specs.declared.Answer.{Answer}
 use Rattle.asking.specs.declared.Found.{Found}
-use Rattle.lines.specs.Lines.{Wrote, caseText, fitted, headingOf, lineOf, lineText}
+use Rattle.lines.specs.Lines.{Wrote, caseText, fitted, headingOf, lineOf, lineText, refusalText}
 use Rattle.promises.proofs.Form.{add-tried, parted-done, tried-done, withdraw-parted}
 use Rattle.promises.proofs.InOrder.{in-order-is, in-order-put}
 use Rattle.promises.proofs.Rows.{less-test, or-test, outside-test, passed, test-off}
@@ -29,6 +30,13 @@ use Rattle.store.specs.declared.Store.{Store}
 use Rattle.theory.specs.Lists.{choose}
 use Rattle.theory.specs.Sets.{inRange}
 use Rattle.theory.specs.Stages.{Justification}
+
+abbrev wrote : List ℕ → List ℕ → Wrote
+wrote t out = record { answer = written t; bytes = over t out }
+
+fits : (t out : List ℕ) → ltb (length out) (length t) ≡ false → fitted t out ≡ wrote t out
+unfolding fitted
+fits t out h = rw h
 
 module _ (s : Store) (right : rightShape s ≡ true) where
   abbrev N : ℕ
@@ -54,13 +62,6 @@ module _ (s : Store) (right : rightShape s ≡ true) where
   member-stands : (n place : ℕ) → ltb N n ≡ false → memberOf s n place ≡ memberAt (s .lists) n place
   unfolding memberOf
   member-stands n place h = rw (right, h)
-
-  abbrev wrote : List ℕ → List ℕ → Wrote
-  wrote t out = record { answer = written t; bytes = over t out }
-
-  fits : (t out : List ℕ) → ltb (length out) (length t) ≡ false → fitted t out ≡ wrote t out
-  unfolding fitted
-  fits t out h = rw h
 
   line-stands : (n : ℕ) (out : List ℕ) → ltb N n ≡ false → ltb (length out) (length (lineText (s .lists) n)) ≡ false → lineOf s n out ≡ wrote (lineText (s .lists) n) out
   unfolding lineOf
@@ -112,4 +113,7 @@ module _ (s : Store) (right : rightShape s ≡ true) where
   stands = record { reading = read-stands; adding = adding-stands; withdrawing = withdrawing-stands }
 
 pub as-they-stand : AsTheyStand ours
-as-they-stand = record { stands = stands }
+as-they-stand = record {
+  stands = stands;
+  refusal = λ r k out h. fits (refusalText r k) out (le-ltb (length out) (length (refusalText r k)) h);
+}

@@ -12,9 +12,10 @@ use Rattle.asking.specs.Asking.{answerNumber, contextReply, memberAt, memberNum
 use Rattle.asking.specs.declared.Answer.the-variants.{Inconsistent, Refused, Supported, Unsupported}
 use Rattle.asking.specs.declared.Found.the-variants.{Is, Not}
 use Rattle.casefile.specs.Load.{loadOf}
-use Rattle.lines.specs.Lines.{Wrote, caseText, fitted, headingOf, kept, lineOf, lineText, writtenNumber}
+use Rattle.lines.specs.Lines.{Wrote, caseText, fitted, headingOf, kept, lineOf, lineText, refusalText, writtenNumber}
 use Rattle.lines.specs.declared.Written.the-variants.{Length}
-use Rattle.promises.proofs.Filing.{load-names, load-one, load-told, reportOf}
+use Rattle.numbers.specs.Numbers.{numberAt}
+use Rattle.promises.proofs.Filing.{decode-one, decode-told, load-names, load-one, load-told, reportOf}
 use Rattle.promises.proofs.Full.{VerdictSays, judge-says}
 use Rattle.promises.proofs.Rows.{Names, Tests, by-choice, exactly, fault-told, given-one, less-test, most-test, names-choice, no-row-one, not-test, or-test, outside-test, stages-name, stages-one, stages-told, unnamed}
 use Rattle.promises.proofs.Telling.{covered}
@@ -22,7 +23,7 @@ use Rattle.promises.specs.Calls.{Ask, caseLine, context, line, member, n
 use Rattle.promises.specs.Once.{One}
 use Rattle.promises.specs.Room.{LabelFull}
 use Rattle.promises.specs.Rows.{given, noRow}
-use Rattle.promises.specs.Table.{AddRows, AskRows, LoadRows, OpenRows, Outside, ReplyTable, ShapedRows, StageRows, WithdrawRows, enlarged, handed, lessened}
+use Rattle.promises.specs.Table.{AddRows, AskRows, DecodeRows, JudgeRows, LoadRows, OpenRows, RefusalRows, ReplyTable, ShapedRows, StageRows, WithdrawRows, enlarged, handed, lessened, reported}
 use Rattle.replies.specs.Replies.{numberOf}
 use Rattle.replies.specs.declared.Reply.{Reply}
 use Rattle.replies.specs.declared.Reply.the-variants.{Already, Counts, Done, Falsity, Full, Number, Place, Shape, Short, Supports, Unheld}
@@ -32,10 +33,11 @@ use Rattle.rules.proofs.Order.{mem-same, same-mem}
 use Rattle.rules.proofs.Putting.{put-cases, put-new, put-old}
 use Rattle.rules.specs.Held.{dropped, heldOf, put, saidBy}
 use Rattle.rules.specs.Items.{faultOf, sameJustification}
-use Rattle.store.proofs.Shapes.{shape-elim}
-use Rattle.store.specs.Calls.{addOf, answer, isDone, joinedBy, noStore, openOf, partedFrom, startStore, storeOf, withdrawOf}
+use Rattle.rules.specs.declared.Held.{Held}
+use Rattle.store.proofs.Shapes.{fits-elim, shape-elim}
+use Rattle.store.specs.Calls.{addOf, answer, isDone, joinedBy, judgedOf, noStore, openOf, partedFrom, startStore, storeOf, withdrawOf}
 use Rattle.store.specs.Reading.{labelHeld, listHeld, nogoodsHeld}
-use Rattle.store.specs.Shape.{rightShape, top}
+use Rattle.store.specs.Shape.{heldFits, rightShape, top}
 use Rattle.store.specs.declared.Outcome.{Outcome}
 use Rattle.store.specs.declared.Store.{Store}
 use Rattle.theory.proofs.Lists.{clash}
@@ -216,7 +218,40 @@ module _ (s : Store) (c : ℕ) (l : List ℕ) where
   withdraw-one : One (WithdrawRows s c l)
   withdraw-one = given-one _ _ _ (given-one _ _ _ (given-one _ _ _ (given-one _ _ _ (given-one _ _ _ (stages-one B most K)))))
 
+-- ---- judging what is held
+
+module _ (h : Held) where
+  module _ (fits : heldFits h ≡ true) where
+    judged-says : VerdictSays (h .assumptions) (top h) (saidBy h) (judge limits (h .assumptions) (top h) (saidBy h))
+    judged-says =
+        let f = fits-elim h fits in
+        judge-says (h .assumptions) (top h) (saidBy h) (λ j m. right-range h (f .right) j m .low) (λ j m t k. right-range h (f .right) j m .between t k .1) (omega (arith, f .few, f .claims)) (judge limits (h .assumptions) (top h) (saidBy h)) refl
+
+    judged-told : StageRows (h .assumptions) (top h) (saidBy h) (replied (storeOf noStore (h .assumptions) (h .claims) (saidBy h)))
+    unfolding storeOf
+    judged-told =
+        let f = fits-elim h fits in
+        stages-told (h .assumptions) (top h) (saidBy h) (λ j m. right-range h (f .right) j m .low) (omega (arith, f .few, f .claims)) noStore (heldOf (h .assumptions) (h .claims) (saidBy h)) (judge limits (h .assumptions) (top h) (saidBy h)) judged-says
+
+    judged-named : Names (LabelFull (h .assumptions) (top h) (saidBy h)) (storeOf noStore (h .assumptions) (h .claims) (saidBy h) .reply)
+    unfolding storeOf
+    judged-named = stages-name (h .assumptions) (top h) (saidBy h) noStore (heldOf (h .assumptions) (h .claims) (saidBy h)) (judge limits (h .assumptions) (top h) (saidBy h)) judged-says
+
+  judge-told : JudgeRows h (replied (judgedOf h))
+  unfolding judgedOf
+  judge-told = by-choice _ replied (not (heldFits h)) (answer Shape noStore) (storeOf noStore (h .assumptions) (h .claims) (saidBy h)) (not-test (heldFits h)) refl (λ p. judged-told (not-false (heldFits h) p))
+
+  judge-names : Names (LabelFull (h .assumptions) (top h) (saidBy h)) (judgedOf h .reply)
+  unfolding judgedOf
+  judge-names =
+      names-choice _ (λ (o : Outcome). o .reply) (not (heldFits h)) (answer Shape noStore) (storeOf noStore (h .assumptions) (h .claims) (saidBy h)) (unnamed _ Shape refl (λ z. omega arith))
+      (λ p. judged-named (not-false (heldFits h) p))
+
 -- ---- the calls that read
+
+fitted-told : (t out : List ℕ) → given (length out < length t) 15 noRow (wrote (fitted t out))
+unfolding fitted
+fitted-told t out = by-choice noRow wrote (ltb (length out) (length t)) (kept Short out) (record { answer = Length (length t); bytes = t ++ drop (length t) out }) (less-test (length out) (length t)) refl (λ z. refl)
 
 module _ (s : Store) where
   -- none of the three answers is a refusal
@@ -228,10 +263,6 @@ module _ (s : Store) where
       go true b = refl
       go false true = refl
       go false false = refl
-
-  fitted-told : (t out : List ℕ) → given (length out < length t) 15 noRow (wrote (fitted t out))
-  unfolding fitted
-  fitted-told t out = by-choice noRow wrote (ltb (length out) (length t)) (kept Short out) (record { answer = Length (length t); bytes = t ++ drop (length t) out }) (less-test (length out) (length t)) refl (λ z. refl)
 
   read-told : (a : Ask) → AskRows s a (numberSaid a (readOf s a .said))
   unfolding questionOf contextReply memberOf memberAt lineOf headingOf
@@ -270,7 +301,12 @@ reply-table = record {
   withdrawing = λ s c l. exactly (WithdrawRows s c l) (replied (withdrawOf s c l)) (withdraw-one s c l) (withdraw-told s c l);
   reading = λ s a. exactly (AskRows s a) (numberSaid a (readOf s a .said)) (given-one _ _ _ (shaped-one s a)) (read-told s a);
   loading = λ bytes. exactly (LoadRows bytes) (reportOf (loadOf bytes)) (load-one bytes) (load-told bytes);
+  judging = λ h. exactly (JudgeRows h) (replied (judgedOf h)) (given-one _ _ _ (stages-one (h .assumptions) (top h) (saidBy h))) (judge-told h);
+  shape = λ s. refl;
+  refusal = λ r k out. exactly (RefusalRows r k out) (wrote (fitted (refusalText r k) out)) (given-one _ _ _ no-row-one) (fitted-told (refusalText r k) out);
+  decoding = λ bytes at. exactly (DecodeRows bytes at) (reported (numberAt bytes at)) (decode-one bytes at) (decode-told bytes at);
   adding-names = add-names;
   withdrawing-names = withdraw-names;
   loading-names = load-names;
+  judging-names = judge-names;
 }

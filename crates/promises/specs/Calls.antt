@@ -1,4 +1,5 @@
 -- The calls as one value, so that a demand can be said of any program. Assumes nothing.
+use mathlib.Core.Bool.{Bool}
 use mathlib.Core.List.{List, [], _++_}
 use Prim.Native.Nat.{ℕ}
 use lib.ListN.{drop, length}
@@ -7,12 +8,16 @@ use Rattle.asking.specs.declared.Answer.{Answer}
 use Rattle.asking.specs.declared.Found.{Found}
 use Rattle.casefile.specs.Load.{loadOf}
 use Rattle.casefile.specs.declared.Loaded.{Loaded}
-use Rattle.lines.specs.Lines.{Wrote, headingOf, lineOf, writtenNumber}
+use Rattle.lines.specs.Lines.{Wrote, fitted, headingOf, lineOf, refusalText, writtenNumber}
 use Rattle.lines.specs.declared.Written.{Written}
 use Rattle.lines.specs.declared.Written.the-variants.{Length}
+use Rattle.numbers.specs.Numbers.{numberAt}
+use Rattle.numbers.specs.declared.Number.{Number}
 use Rattle.replies.specs.Replies.{numberOf}
 use Rattle.replies.specs.declared.Reply.{Reply}
-use Rattle.store.specs.Calls.{addOf, openOf, withdrawOf}
+use Rattle.rules.specs.declared.Held.{Held}
+use Rattle.store.specs.Calls.{addOf, judgedOf, openOf, withdrawOf}
+use Rattle.store.specs.Shape.{rightShape}
 use Rattle.store.specs.declared.Outcome.{Outcome}
 use Rattle.store.specs.declared.Store.{Store}
 
@@ -72,13 +77,21 @@ over t out = t ++ drop (length t) out
 
 -- ---- all of them
 
--- each call takes the store by value and hands one back
+-- a call that has a store takes it by value and hands one back
 pub record Calls : Type 0 where
   pub opening : ℕ → ℕ → Outcome
   pub loading : List ℕ → Loaded
+  -- the store of what is held, judged anew
+  pub judging : Held → Outcome
   pub adding : Store → ℕ → List ℕ → Outcome
   pub withdrawing : Store → ℕ → List ℕ → Outcome
   pub reading : Store → (a : Ask) → Read a
+  -- whether a store has the right shape
+  pub shape : Store → Bool
+  -- the line of a refusal with its record, into lent bytes
+  pub refusal : Reply → ℕ → List ℕ → Wrote
+  -- the number at a place of the bytes of a file
+  pub decoding : List ℕ → ℕ → Number
 
 -- what the contracts of the product's calls that read say
 abbrev pub readOf : Store → (a : Ask) → Read a
@@ -90,4 +103,14 @@ readOf s (caseLine out) = reads (caseLine out) (headingOf s out .answer) s (head
 
 -- ours: what the contracts of the product's calls say of every answer (`Coded`)
 abbrev pub ours : Calls
-ours = record { opening = openOf; loading = loadOf; adding = addOf; withdrawing = withdrawOf; reading = readOf }
+ours = record {
+  opening = openOf;
+  loading = loadOf;
+  judging = judgedOf;
+  adding = addOf;
+  withdrawing = withdrawOf;
+  reading = readOf;
+  shape = rightShape;
+  refusal = λ r k out. fitted (refusalText r k) out;
+  decoding = numberAt;
+}

@@ -1,4 +1,4 @@
--- The calls held to the compiled code: of any arguments, each of the nine functions ends, is safe, and answers and leaves in the lent bytes what C says. Assumes nothing.
+-- The calls held to the compiled code: of any arguments, each of the functions ends, is safe, and answers and leaves in the lent bytes what C says. Assumes nothing.
 use mathlib.Core.List.{List}
 use mathlib.Core.Path.{_≡_}
 use Prim.Native.Nat.{ℕ}
@@ -24,7 +24,15 @@ use Rattle.lines.proofs.case_line.Symbol as case-line-code
 use Rattle.lines.proofs.line as line-at
 use Rattle.lines.proofs.line.Reads as line-reads
 use Rattle.lines.proofs.line.Symbol as line-code
+use Rattle.lines.proofs.refusal as refusal-at
+use Rattle.lines.proofs.refusal.Reads as refusal-reads
+use Rattle.lines.proofs.refusal.Symbol as refusal-code
+use Rattle.lines.specs.Lines.{Wrote}
 use Rattle.lines.specs.declared.Listed.{Listed}
+use Rattle.lines.specs.declared.Written.{Written}
+use Rattle.numbers.proofs.read as read-at
+use Rattle.numbers.proofs.read.Reads as read-reads
+use Rattle.numbers.proofs.read.Symbol as read-code
 use Rattle.promises.specs.Calls.{Calls, Read, caseLine, context, line, member, question}
 use Rattle.promises.specs.Keeps.{Tied}
 use Rattle.store.proofs.Store.add as add-at
@@ -33,12 +41,18 @@ use Rattle.store.proofs.Store.add.Symbol as add-code
 use Rattle.store.proofs.Store.open as open-at
 use Rattle.store.proofs.Store.open.Reads as open-reads
 use Rattle.store.proofs.Store.open.Symbol as open-code
+use Rattle.store.proofs.Store.shape as shape-at
+use Rattle.store.proofs.Store.shape.Reads as shape-reads
+use Rattle.store.proofs.Store.shape.Symbol as shape-code
 use Rattle.store.proofs.Store.withdraw as withdraw-at
 use Rattle.store.proofs.Store.withdraw.Reads as withdraw-reads
 use Rattle.store.proofs.Store.withdraw.Symbol as withdraw-code
+use Rattle.store.proofs.judged as judged-at
+use Rattle.store.proofs.judged.Reads as judged-reads
+use Rattle.store.proofs.judged.Symbol as judged-code
 use Rattle.store.specs.Calls.{answer}
 
--- ---- the structs in which the code hands over what a call that reads leaves
+-- ---- the structs in which the code hands over what a call leaves
 
 abbrev pub asked : {n E : ℕ} → Read (question n E) → Asked
 asked x = record { answer = x .said; store = x .store }
@@ -54,6 +68,9 @@ lined x = record { answer = x .said; store = x .store }
 
 abbrev pub headed : {out : List ℕ} → Read (caseLine out) → Listed
 headed x = record { answer = x .said; store = x .store }
+
+abbrev pub wrote : Written → List ℕ → Wrote
+wrote r b = record { answer = r; bytes = b }
 
 -- ---- the functions: a the arguments, r the result, e the parameters at exit
 
@@ -76,3 +93,11 @@ pub record Coded (C : Calls) : Type 2 where
       (λ κs a r e. (r ≡ lined (C .reading (a .0) (line (a .1 .0) (now (a .1 .1 .0))))) × (now (e .1 .1 .0) ≡ C .reading (a .0) (line (a .1 .0) (now (a .1 .1 .0))) .bytes))
   pub caseLine : Tied case-line-at.ended case-line-code.routine case-line-reads.Asked case-line-reads.Learnt
       (λ κs a r e. (r ≡ headed (C .reading (a .0) (caseLine (now (a .1 .0))))) × (now (e .1 .0) ≡ C .reading (a .0) (caseLine (now (a .1 .0))) .bytes))
+  pub judging : Tied judged-at.ended judged-code.routine judged-reads.Asked judged-reads.Learnt
+      (λ κs a r e. r ≡ C .judging (a .0))
+  pub shape : Tied shape-at.ended shape-code.routine shape-reads.Asked shape-reads.Learnt
+      (λ κs a r e. r ≡ C .shape (a .0))
+  pub refusal : Tied refusal-at.ended refusal-code.routine refusal-reads.Asked refusal-reads.Learnt
+      (λ κs a r e. wrote r (now (e .1 .1 .0)) ≡ C .refusal (a .0) (a .1 .0) (now (a .1 .1 .0)))
+  pub decoding : Tied read-at.ended read-code.routine read-reads.Asked read-reads.Learnt
+      (λ κs a r e. r ≡ C .decoding (now (a .0)) (a .1 .0))

@@ -21,6 +21,7 @@ pub record Same (C : Calls) (s t : Store) : Type 0 where
   pub adding : (c : ℕ) (l : List ℕ) → C .adding s c l ≡ C .adding t c l
   pub withdrawing : (c : ℕ) (l : List ℕ) → C .withdrawing s c l ≡ C .withdrawing t c l
   pub reading : (a : Ask) → C .reading s a ≡ C .reading t a
+  pub shape : C .shape s ≡ C .shape t
   -- they are one store, so whatever is made of them is the same
   pub store : s ≡ t
 

@@ -10,6 +10,7 @@ use Rattle.replies.specs.declared.Reply.{Reply}
 use Rattle.replies.specs.declared.Reply.the-variants.{Done}
 use Rattle.rules.specs.Held.{dropped, heldOf, ordered, put, saidBy}
 use Rattle.rules.specs.Items.{justificationOf, sameJustification}
+use Rattle.rules.specs.declared.Held.{Held}
 use Rattle.stages.specs.Lists.{listsOf}
 use Rattle.store.specs.Calls.{answer, noStore, storeOf}
 use Rattle.store.specs.Shape.{rightShape}
@@ -38,6 +39,8 @@ pub data Made (C : Calls) (A M : ℕ) : Input → Store → Type 0 where
   opened : {s : Store} → C .opening A M ≡ answer Done s → Made C A M [] s
   -- by loading a file that spells the case f, answered 0
   loaded : {s : Store} (bytes : List ℕ) (f : Case) → caseOf bytes ≡ whole f → f .header .assumptions ≡ A → f .header .claims ≡ M → C .loading bytes .reply ≡ Done → C .loading bytes .store ≡ s → Made C A M (putIn f) s
+  -- by judging what is held in its places, answered 0
+  judged : {s : Store} (h : Held) → h .assumptions ≡ A → h .claims ≡ M → C .judging h ≡ answer Done s → Made C A M (saidBy h) s
   -- by adding, answered 0
   added : {H : Input} {s t : Store} (c : ℕ) (l : List ℕ) → Made C A M H s → C .adding s c l ≡ answer Done t → Made C A M (putting (justificationOf (A + M) c l) H) t
   -- a refused adding handed t back

@@ -2,13 +2,14 @@
 use mathlib.Core.Bool.{true}
 use mathlib.Core.List.{List, [], _++_}
 use mathlib.Core.Path.{_≡_}
-use Prim.Native.Nat.{_+_, ℕ}
-use lib.ListN.{drop}
+use Prim.Native.Nat.{_+_, _≤_, ℕ}
+use lib.ListN.{drop, length}
 use Rattle.asking.specs.Asking.{byteOf, memberAt, standing}
-use Rattle.lines.specs.Lines.{caseText, lineText}
+use Rattle.lines.specs.Lines.{caseText, lineText, refusalText}
 use Rattle.promises.specs.Calls.{Ask, Calls, Read, caseLine, context, line, member, over, question, reads, written}
 use Rattle.promises.specs.Made.{inOrder}
 use Rattle.promises.specs.Table.{ShapedRows, enlarged, lessened}
+use Rattle.replies.specs.declared.Reply.{Reply}
 use Rattle.replies.specs.declared.Reply.the-variants.{Done}
 use Rattle.store.specs.Calls.{answer, noStore, storeOf}
 use Rattle.store.specs.Shape.{rightShape, top}
@@ -33,3 +34,5 @@ pub record Stands (C : Calls) (s : Store) : Type 0 where
 
 pub record AsTheyStand (C : Calls) : Type 0 where
   pub stands : (s : Store) → rightShape s ≡ true → Stands C s
+  -- the line of a refusal: `refused`, its number, its record
+  pub refusal : (r : Reply) (k : ℕ) (out : List ℕ) → length (refusalText r k) ≤ length out → C .refusal r k out ≡ record { answer = written (refusalText r k); bytes = over (refusalText r k) out }

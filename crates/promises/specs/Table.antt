@@ -5,18 +5,22 @@ use mathlib.Core.Logic.{_↔_, _⊎_}
 use mathlib.Core.Option.{some}
 use mathlib.Core.Path.{_≡_}
 use Prim.Native.Nat.{_*_, _+_, _-_, _<_, _^_, _≤_, suc, zero, ℕ}
-use lib.ListN.{length}
+use lib.ListN.{drop, length}
 use Rattle.casefile.specs.Case.{Case, Reading, caseOf, refused, whole}
-use Rattle.lines.specs.Lines.{caseText, lineText}
+use Rattle.lines.specs.Lines.{caseText, lineText, refusalText, writtenNumber}
+use Rattle.numbers.specs.declared.Number.{Number}
+use Rattle.numbers.specs.declared.Number.the-variants.{Bad, Value}
 use Rattle.promises.specs.Calls.{Ask, Calls, caseLine, context, line, member, numberSaid, question}
 use Rattle.promises.specs.Made.{putIn}
 use Rattle.promises.specs.Room.{Above, LabelFull, NogoodsFull}
 use Rattle.promises.specs.Rows.{given, noRow}
 use Rattle.replies.specs.Replies.{namedBy, numberOf}
+use Rattle.replies.specs.declared.Reply.{Reply}
 use Rattle.rules.specs.Held.{dropped, saidBy}
 use Rattle.rules.specs.Items.{justificationOf}
+use Rattle.rules.specs.declared.Held.{Held}
 use Rattle.store.specs.Reading.{listHeld}
-use Rattle.store.specs.Shape.{rightShape, top}
+use Rattle.store.specs.Shape.{heldFits, rightShape, top}
 use Rattle.store.specs.declared.Store.{Store}
 use Rattle.theory.specs.Judge.{stageAt}
 use Rattle.theory.specs.Stages.{Justification}
@@ -76,6 +80,11 @@ WithdrawRows s c l =
     (given (Mem (handed s c l) (saidBy (s .held)) → ⊥) 18
     (StageRows (s .held .assumptions) (top (s .held)) (lessened s c l)))
 
+-- ---- judging what is held in its places
+
+abbrev pub JudgeRows : Held → ℕ → Type 0
+JudgeRows h = given (heldFits h ≡ false) 2 (StageRows (h .assumptions) (top h) (saidBy h))
+
 -- ---- the calls that read
 
 -- an assumption above A in the set E
@@ -92,6 +101,11 @@ ShapedRows s (caseLine out) = given (length out < length (caseText s)) 15 noRow
 
 abbrev pub AskRows : Store → Ask → ℕ → Type 0
 AskRows s a = given (rightShape s ≡ false) 2 (ShapedRows s a)
+
+-- ---- the line of a refusal
+
+abbrev pub RefusalRows : Reply → ℕ → List ℕ → ℕ → Type 0
+RefusalRows r k out = given (length out < length (refusalText r k)) 15 noRow
 
 -- ---- load
 
@@ -130,6 +144,14 @@ RecordRows A N (suc n) r H l =
     (given (Mem 0 s) (5, suc r)
     (RecordRows A N n (suc r) (justificationOf N c s ∷ H) l₃))))))
 
+-- the number at a place of the bytes: 0 and the number, or the fault
+abbrev pub reported : Number → Reported
+reported (Value n next) = (0, n)
+reported (Bad f) = (numberOf f, 0)
+
+abbrev pub DecodeRows : List ℕ → ℕ → Reported → Type 0
+DecodeRows bytes at = NumberRows 0 (drop at bytes) (λ x rest a. a ≡ (0, x))
+
 -- A, M, count J; after the header: 3, then 7; then J records
 abbrev pub LoadRows : List ℕ → Reported → Type 0
 LoadRows l =
@@ -153,9 +175,14 @@ pub record ReplyTable (C : Calls) : Type 0 where
   pub withdrawing : (s : Store) (c : ℕ) (l : List ℕ) (a : ℕ) → (numberOf (C .withdrawing s c l .reply) ≡ a) ↔ WithdrawRows s c l a
   pub reading : (s : Store) (q : Ask) (a : ℕ) → (numberSaid q (C .reading s q .said) ≡ a) ↔ AskRows s q a
   pub loading : (bytes : List ℕ) (a : Reported) → ((numberOf (C .loading bytes .reply), C .loading bytes .«record») ≡ a) ↔ LoadRows bytes a
+  pub judging : (h : Held) (a : ℕ) → (numberOf (C .judging h .reply) ≡ a) ↔ JudgeRows h a
+  pub shape : (s : Store) → C .shape s ≡ rightShape s
+  pub refusal : (r : Reply) (k : ℕ) (out : List ℕ) (a : ℕ) → (writtenNumber (C .refusal r k out .answer) ≡ a) ↔ RefusalRows r k out a
+  pub decoding : (bytes : List ℕ) (at : ℕ) (a : Reported) → (reported (C .decoding bytes at) ≡ a) ↔ DecodeRows bytes at a
   -- 8 names the lowest such claim or assumption; no other reply names one
   pub adding-names : (s : Store) (c : ℕ) (l : List ℕ) (n : ℕ) → (namedBy (C .adding s c l .reply) ≡ some n)
       ↔ ((numberOf (C .adding s c l .reply) ≡ 8) × LabelFull (s .held .assumptions) (top (s .held)) (enlarged s c l) n)
   pub withdrawing-names : (s : Store) (c : ℕ) (l : List ℕ) (n : ℕ) → (namedBy (C .withdrawing s c l .reply) ≡ some n)
       ↔ ((numberOf (C .withdrawing s c l .reply) ≡ 8) × LabelFull (s .held .assumptions) (top (s .held)) (lessened s c l) n)
   pub loading-names : (bytes : List ℕ) (n : ℕ) → (namedBy (C .loading bytes .reply) ≡ some n) ↔ ((numberOf (C .loading bytes .reply) ≡ 8) × LoadNames (caseOf bytes) n)
+  pub judging-names : (h : Held) (n : ℕ) → (namedBy (C .judging h .reply) ≡ some n) ↔ ((numberOf (C .judging h .reply) ≡ 8) × LabelFull (h .assumptions) (top h) (saidBy h) n)

@@ -22,7 +22,7 @@ use Rattle.promises.specs.Calls.{Ask, lentTo, numberSaid, ours, question, readO
 use Rattle.promises.specs.Demand1.{Refusals}
 use Rattle.promises.specs.Demand2.{Demand2, QuestionSays, Tells}
 use Rattle.promises.specs.Demand3.{Demand3}
-use Rattle.promises.specs.Made.{Made, SameMembers, Stores, added, asked, kept, loaded, opened, refused, withdrawn}
+use Rattle.promises.specs.Made.{Made, SameMembers, Stores, added, asked, judged, kept, loaded, opened, refused, withdrawn}
 use Rattle.promises.specs.Table.{AskRows, ReplyTable}
 use Rattle.refuted.proofs.Exchange.{by-question}
 use Rattle.refuted.specs.Wrong.{deducing, workedOut}
@@ -44,6 +44,7 @@ module _ {A M : ℕ} where
   made-ours : {H : List Justification} {s : Store} → Made deducing A M H s → Made ours A M H s
   made-ours (opened e) = opened e
   made-ours (loaded bytes f e a m r k) = loaded bytes f e a m r k
+  made-ours (judged h a m e) = judged h a m e
   made-ours (added c l m e) = added c l (made-ours m) e
   made-ours (refused c l r m e n) = refused c l r (made-ours m) e n
   made-ours (withdrawn c l m e) = withdrawn c l (made-ours m) e
@@ -79,18 +80,27 @@ its-table = record {
   withdrawing = reply-table .withdrawing;
   reading = read-rows;
   loading = reply-table .loading;
+  judging = reply-table .judging;
+  shape = reply-table .shape;
+  refusal = reply-table .refusal;
+  decoding = reply-table .decoding;
   adding-names = reply-table .adding-names;
   withdrawing-names = reply-table .withdrawing-names;
   loading-names = reply-table .loading-names;
+  judging-names = reply-table .judging-names;
 }
 
 pub refusals-too : Refusals deducing
 refusals-too = record {
   table = its-table;
+  opening = refusals .opening;
+  loading = refusals .loading;
+  judging = refusals .judging;
   adding = refusals .adding;
   withdrawing = refusals .withdrawing;
   reading = its-store;
   bytes = λ s. by-question asks readOf s (λ a x. (numberSaid a (x .said) ≡ 0 → ⊥) → x .bytes ≡ lentTo a) (refusals .bytes s) (λ n E k. refl);
+  refusal-bytes = refusals .refusal-bytes;
 }
 
 -- ---- its answers on made stores are ours

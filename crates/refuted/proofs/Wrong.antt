@@ -15,24 +15,26 @@ use Rattle.asking.specs.declared.Answer.the-variants.{Inconsistent, Refused, Su
 use Rattle.refuted.proofs.Arrival.{keeps-arrival}
 use Rattle.refuted.proofs.Cases.{p-cases}
 use Rattle.refuted.proofs.Deducing.{refusals-too, demand-2-too, demand-3-too, stores-too}
+use Rattle.casefile.proofs.Cases.{listed as spells, listedCase}
 use Rattle.promises.proofs.Adding.{reached}
 use Rattle.promises.proofs.Answers.{in-set}
 use Rattle.promises.proofs.Form.{Form, done-by, done-store, form-a, form-count, form-m, form-said, made-form, none-store}
 use Rattle.refuted.proofs.Prefixed.{judges-prefixes}
 use Rattle.promises.proofs.Right.{made-right}
 use Rattle.refuted.proofs.Small.{add-done, done-with, few-room, made-add, made-open, one-done, one-made, opens-at}
-use Rattle.promises.proofs.Rows.{passes}
+use Rattle.promises.proofs.Rows.{passes, room-says}
 use Rattle.promises.proofs.Standing.{as-they-stand}
 use Rattle.promises.proofs.Truth.{demand-2}
 use Rattle.promises.proofs.Withdrawing.{lets-go}
-use Rattle.promises.specs.Calls.{Read, ours, question}
-use Rattle.promises.specs.Demand2.{Demand2, Smallest}
-use Rattle.promises.specs.Made.{Made, Stores, added, inOrder, opened, withdrawn}
+use Rattle.promises.specs.Calls.{Calls, Read, ours, question}
+use Rattle.promises.specs.Demand2.{Demand2, IsDepth, Smallest}
+use Rattle.promises.specs.Made.{Made, Stores, added, inOrder, opened, putIn, withdrawn}
 use Rattle.promises.specs.Room.{Reaches}
 use Rattle.promises.specs.Rows.{given}
 use Rattle.promises.specs.Standing.{AsTheyStand}
 use Rattle.promises.specs.Table.{OverCounts, ReplyTable, ShapedRows}
-use Rattle.refuted.specs.Wrong.{Refuted, alwaysFull, clearing, countKept, deducing, deep, deeper, denying, emptying, forgetful, forgetting, idle, lenient, listsKept, notFreed, once, othersThan, refusing, sparing, unstruck, unstruckLists, workedOut}
+use Rattle.refuted.specs.Cases.{listedBytes}
+use Rattle.refuted.specs.Wrong.{AddsNone, Depths, LoadsNone, Refuted, alwaysFull, clearing, countKept, deducing, deep, deeper, denying, emptying, forgetful, forgetting, idle, lenient, listsKept, notFreed, once, othersThan, refusing, sparing, unstruck, unstruckLists, workedOut}
 use Rattle.replies.specs.Replies.{numberOf}
 use Rattle.replies.specs.declared.Reply.the-variants.{Done}
 use Rattle.replies.specs.declared.Reply.{Reply}
@@ -68,6 +70,19 @@ unfolding given
 refuses-table t =
     let fits : OverCounts 0 0 → ⊥ = ⊎-elim (λ (p : 32 < 0). omega arith) (λ (p : 96 < 0). omega arith) in
     let z : _≡_ {A = ℕ} 3 0 = t .opening 0 0 0 .1 (inr (fits, refl)) in omega arith
+
+-- .. so does every program that answers no adding, or no loading, with 0
+fits : Reaches 1 1 [] 2 (1 ∷ [])
+unfolding faultOf someOf inOrder
+fits = record { sound = refl; new = λ m. elim m [ ]; room = omega arith }
+
+adds-none : (C : Calls) → AddsNone C → Demand2 C → ⊥
+adds-none C none d =
+    let o : C .opening 1 1 ≡ answer Done (C .opening 1 1 .store) = done-with (C .opening 1 1) (d .opens 1 1 (omega arith) (omega arith)) in
+    none (C .opening 1 1 .store) 2 (1 ∷ []) (d .tells (opened o) .adding 2 (1 ∷ []) Done .1 (reached 2 (1 ∷ []) fits (few-room 1 2 (justificationOf 2 2 (1 ∷ []) ∷ []) (omega arith))))
+
+loads-none : (C : Calls) → LoadsNone C → Demand2 C → ⊥
+loads-none C none d = none listedBytes (d .loads listedBytes listedCase spells Done .1 (room-says 3 5 (putIn listedCase) (few-room 3 5 (putIn listedCase) (omega arith))))
 
 -- ---- calls every set unsupported: assumption 1 is supported by itself
 one-carries : carries [] 1 1 ≡ true
@@ -165,12 +180,15 @@ stages-once d =
     clash (demand-2 .tells m₁ .label 3 (omega arith) .exactly 1 .0 (d .tells w₂ .label 3 (omega arith) .exactly 1 .1 one-smallest) .has) first-carries-not
 
 -- ---- a made-up depth
-made-up-depth : Demand2 deep → ⊥
+made-up-depth : Depths deep → ⊥
 made-up-depth d =
     let o : openOf 0 0 ≡ answer Done (startStore 0 0) = opens-at 0 0 zero-le zero-le in
     let m : Made deep 0 0 [] (deeper (answer Done (startStore 0 0)) .store) = opened (ap deeper o) in
     let k : ℕ = startStore 0 0 .lists .depth in
-    d .tells m .depth .least k (omega arith) (demand-2 .tells (opened o) .depth .agrees)
+    d .depth m .least k (omega arith) (demand-2 .tells (opened o) .depth .agrees)
+
+any-made-up : (C : Calls) {A M : ℕ} {H : List Justification} {s : Store} → Made C A M H s → (IsDepth A (A + M) H (s .lists .depth) → ⊥) → Demand2 C → ⊥
+any-made-up C m n d = n (d .tells m .depth)
 
 -- ---- wrong in one call: falsity from assumption 1
 
@@ -236,15 +254,8 @@ forgets-nogoods d =
 
 -- ---- calls every table full: claim 2 from assumption 1 fits
 
-fits : Reaches 1 1 [] 2 (1 ∷ [])
-unfolding faultOf someOf inOrder
-fits = record { sound = refl; new = λ m. elim m [ ]; room = omega arith }
-
 calls-all-full : Demand2 alwaysFull → ⊥
-calls-all-full d =
-    let m : Made alwaysFull 1 1 [] (startStore 1 1) = opened (opens-at 1 1 (omega arith) (omega arith)) in
-    let z : _≡_ {A = ℕ} 9 0 = ap numberOf (d .tells m .adding 2 (1 ∷ []) Done .1 (reached 2 (1 ∷ []) fits (few-room 1 2 (first 1 ∷ []) (omega arith)))) in
-    omega arith
+calls-all-full = adds-none alwaysFull (λ s c l e. let z : _≡_ {A = ℕ} 9 0 = ap numberOf e in omega arith)
 
 -- ---- reads no list: the justifications of one made store with the lists of another. Nothing is held, yet the label of 2 has {1}
 
@@ -425,10 +436,13 @@ pub refuted : Refuted
 refuted = record {
   refuses = refuses;
   refuses-table = refuses-table;
+  adds-none = adds-none;
+  loads-none = loads-none;
   denies = denies;
   adds-nothing = adds-nothing;
   stages-once = stages-once;
   made-up-depth = made-up-depth;
+  any-made-up = any-made-up;
   keeps-arrival = keeps-arrival;
   strikes-nothing = strikes-nothing;
   judges-prefixes = judges-prefixes;

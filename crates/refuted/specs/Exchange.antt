@@ -7,20 +7,34 @@ use Rattle.promises.specs.Calls.{Ask, Calls, Read, caseLine, context, line, mem
 use Rattle.store.specs.declared.Outcome.{Outcome}
 use Rattle.store.specs.declared.Store.{Store}
 
+-- C with these five calls for its own
+abbrev pub exchanged : Calls → (ℕ → ℕ → Outcome) → (List ℕ → Loaded) → (Store → ℕ → List ℕ → Outcome) → (Store → ℕ → List ℕ → Outcome) → (Store → (a : Ask) → Read a) → Calls
+exchanged C opening loading adding withdrawing reading = record {
+  opening = opening;
+  loading = loading;
+  judging = C .judging;
+  adding = adding;
+  withdrawing = withdrawing;
+  reading = reading;
+  shape = C .shape;
+  refusal = C .refusal;
+  decoding = C .decoding;
+}
+
 abbrev pub withOpening : (ℕ → ℕ → Outcome) → Calls → Calls
-withOpening f C = record { opening = f; loading = C .loading; adding = C .adding; withdrawing = C .withdrawing; reading = C .reading }
+withOpening f C = exchanged C f (C .loading) (C .adding) (C .withdrawing) (C .reading)
 
 abbrev pub withLoading : (List ℕ → Loaded) → Calls → Calls
-withLoading f C = record { opening = C .opening; loading = f; adding = C .adding; withdrawing = C .withdrawing; reading = C .reading }
+withLoading f C = exchanged C (C .opening) f (C .adding) (C .withdrawing) (C .reading)
 
 abbrev pub withAdding : (Store → ℕ → List ℕ → Outcome) → Calls → Calls
-withAdding f C = record { opening = C .opening; loading = C .loading; adding = f; withdrawing = C .withdrawing; reading = C .reading }
+withAdding f C = exchanged C (C .opening) (C .loading) f (C .withdrawing) (C .reading)
 
 abbrev pub withWithdrawing : (Store → ℕ → List ℕ → Outcome) → Calls → Calls
-withWithdrawing f C = record { opening = C .opening; loading = C .loading; adding = C .adding; withdrawing = f; reading = C .reading }
+withWithdrawing f C = exchanged C (C .opening) (C .loading) (C .adding) f (C .reading)
 
 abbrev pub withReading : (Store → (a : Ask) → Read a) → Calls → Calls
-withReading f C = record { opening = C .opening; loading = C .loading; adding = C .adding; withdrawing = C .withdrawing; reading = f }
+withReading f C = exchanged C (C .opening) (C .loading) (C .adding) (C .withdrawing) f
 
 -- a question answered by f, what else is read by r
 abbrev pub answering : (Store → ℕ → ℕ → Answer) → (Store → (a : Ask) → Read a) → Store → (a : Ask) → Read a

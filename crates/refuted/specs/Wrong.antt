@@ -1,6 +1,7 @@
 -- Wrong programs, each as a value of the calls and refuted by a demand: the five empty ones of document 01, then nine that go wrong in one call. Nothing else cites this file. Assumes nothing.
 use mathlib.Core.Bool.{not}
 use mathlib.Core.List.{List, [], _++_, _∷_, map}
+use mathlib.Core.Path.{_≡_}
 use Prim.Native.Nat.{_+_, suc, ℕ}
 use lib.Dec.{eqb}
 use Rattle.asking.specs.Asking.{answerNumber, questionOf}
@@ -14,12 +15,12 @@ use Rattle.items.specs.Items.{Item}
 use Rattle.lines.specs.declared.Written.the-variants.{Refused as Unwritten}
 use Rattle.promises.specs.Calls.{Ask, Calls, Read, caseLine, context, line, member, ours, question, reads}
 use Rattle.promises.specs.Demand1.{Refusals}
-use Rattle.promises.specs.Demand2.{Demand2}
+use Rattle.promises.specs.Demand2.{Demand2, IsDepth}
 use Rattle.promises.specs.Demand3.{Demand3}
-use Rattle.promises.specs.Made.{Stores, inOrder}
+use Rattle.promises.specs.Made.{Input, Made, Stores, inOrder}
 use Rattle.promises.specs.Standing.{AsTheyStand}
 use Rattle.promises.specs.Table.{ReplyTable}
-use Rattle.refuted.specs.Exchange.{withAdding, withLoading, withOpening, withQuestion, withWithdrawing}
+use Rattle.refuted.specs.Exchange.{exchanged, withAdding, withLoading, withOpening, withQuestion, withWithdrawing}
 use Rattle.replies.specs.declared.Reply.the-variants.{Counts, Done, Ends, Nogoods, Shape}
 use Rattle.rules.specs.Held.{heldOf, saidBy}
 use Rattle.rules.specs.Items.{justificationOf}
@@ -47,13 +48,7 @@ refusingRead s (line n out) = reads (line n out) (Unwritten Shape) s out
 refusingRead s (caseLine out) = reads (caseLine out) (Unwritten Shape) s out
 
 abbrev pub refusing : Calls
-refusing = record {
-  opening = λ A M. answer Counts noStore;
-  loading = λ bytes. record { reply = Ends; «record» = 0; store = noStore };
-  adding = λ s c l. answer Shape s;
-  withdrawing = λ s c l. answer Shape s;
-  reading = refusingRead;
-}
+refusing = exchanged ours (λ A M. answer Counts noStore) (λ bytes. record { reply = Ends; «record» = 0; store = noStore }) (λ s c l. answer Shape s) (λ s c l. answer Shape s) refusingRead
 
 -- calls every set unsupported
 abbrev pub denying : Calls
@@ -164,13 +159,32 @@ workedOut H n E = choose (contradicts H E) Inconsistent (choose (carries H E n) 
 abbrev pub deducing : Calls
 deducing = withQuestion (λ s n E. choose (eqb (answerNumber (questionOf s n E)) 0) (workedOut (saidBy (s .held)) n E) (questionOf s n E)) ours
 
+-- ---- classes
+
+-- answers no adding with 0
+abbrev pub AddsNone : Calls → Type 0
+AddsNone C = (s : Store) (c : ℕ) (l : List ℕ) → C .adding s c l .reply ≡ Done → ⊥
+
+-- answers no loading with 0
+abbrev pub LoadsNone : Calls → Type 0
+LoadsNone C = (bytes : List ℕ) → C .loading bytes .reply ≡ Done → ⊥
+
+-- what demand 2 says of the depth
+pub record Depths (C : Calls) : Type 0 where
+  pub depth : {A M : ℕ} {H : Input} {s : Store} → Made C A M H s → IsDepth A (A + M) H (s .lists .depth)
+
 pub record Refuted : Type 0 where
   pub refuses : Demand2 refusing → ⊥
   pub refuses-table : ReplyTable refusing → ⊥
+  -- .. and any program that answers no adding with 0, or no loading
+  pub adds-none : (C : Calls) → AddsNone C → Demand2 C → ⊥
+  pub loads-none : (C : Calls) → LoadsNone C → Demand2 C → ⊥
   pub denies : Demand2 denying → ⊥
   pub adds-nothing : Demand2 idle → ⊥
   pub stages-once : Demand2 once → ⊥
-  pub made-up-depth : Demand2 deep → ⊥
+  -- .. by the depth of its stores alone; so does any program with a made store whose depth is not the depth
+  pub made-up-depth : Depths deep → ⊥
+  pub any-made-up : (C : Calls) {A M : ℕ} {H : Input} {s : Store} → Made C A M H s → (IsDepth A (A + M) H (s .lists .depth) → ⊥) → Demand2 C → ⊥
   pub keeps-arrival : Demand3 arrival → ⊥
   pub strikes-nothing : Demand2 lenient → ⊥
   pub judges-prefixes : Demand2 prefixed → ⊥

@@ -9,7 +9,7 @@ use lib.ListN.{length}
 use borrow.Author.Tests.{eq-eqb, le-leb, le-ltb, lt-leb, lt-ltb, ne-eqb}
 use Rattle.replies.specs.Replies.{numberOf}
 use Rattle.replies.specs.declared.Reply.{Reply}
-use Rattle.replies.specs.declared.Reply.the-variants.{After, Already, Counts, Done, Ends, Falsity, Form, Full, Label, Long, Nogoods, Number, Place, Shape, Short, Supports, Unheld, Unsettled}
+use Rattle.replies.specs.declared.Reply.the-variants.{Already, Counts, Done, Full, Shape, Unheld}
 use Rattle.rules.proofs.Dropping.{dropped-few, dropped-from}
 use Rattle.rules.proofs.Entries.{said-many}
 use Rattle.rules.proofs.Laws.{dropped-right, fitting-ranged, held-said, put-right, right-held, right-range}
@@ -135,27 +135,6 @@ module _ (s : Store) (c : ℕ) (l : List ℕ) where
   pub withdraw-item : rightShape s ≡ true → numberOf item ≡ 0 → partedFrom s (justificationOf (top (s .held)) c l) ≡ withdrawOf s c l
   unfolding withdrawOf
   withdraw-item = checked-item (partedFrom s)
-
--- a reply of number 0 is done
-pub is-done : (r : Reply) → numberOf r ≡ 0 → r ≡ Done
-is-done Done e = refl
-is-done Already e = absurd (omega arith)
-is-done Shape e = absurd (omega arith)
-is-done Counts e = absurd (omega arith)
-is-done Number e = absurd (omega arith)
-is-done Falsity e = absurd (omega arith)
-is-done Supports e = absurd (omega arith)
-is-done Full e = absurd (omega arith)
-is-done (Label n) e = absurd (omega arith)
-is-done Nogoods e = absurd (omega arith)
-is-done Unsettled e = absurd (omega arith)
-is-done Ends e = absurd (omega arith)
-is-done Form e = absurd (omega arith)
-is-done After e = absurd (omega arith)
-is-done Long e = absurd (omega arith)
-is-done Short e = absurd (omega arith)
-is-done Place e = absurd (omega arith)
-is-done Unheld e = absurd (omega arith)
 
 -- ---- another set K of justifications, judged anew for the store s
 

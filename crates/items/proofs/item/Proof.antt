@@ -3,7 +3,8 @@ use mathlib.Core.Path.{sym, ap, _∙_}
 use native.Mathlib.Omega.{arith}
 use lib.Seq.{length-take-le}
 use borrow.Author.Needs.{needs}
-use Rattle.items.proofs.Taken.{supports-long, supports-read, supports-fault, item-unread, item-faulty, item-whole, zero-done}
+use Rattle.items.proofs.Taken.{supports-long, supports-read, supports-fault, item-unread, item-faulty, item-whole}
+use Rattle.replies.proofs.Laws.{zero-done}
 use Rattle.replies.specs.declared.Reply.the-variants.{Done}
 use Rattle.rules.specs.declared.Entry.{Entry}
 use Rattle.items.proofs.item.Statement.{statement}
