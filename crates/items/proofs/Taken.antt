@@ -16,9 +16,9 @@ use Rattle.items.specs.declared.Given.{Given}
 use Rattle.numbers.proofs.Numbers.{Onward, bad-from, chosen, onward, onward-bad, onward-got, onward-then, place-of, value-from}
 use Rattle.numbers.specs.Numbers.{Taken, got, bad, andThen, numberAt, numberFrom}
 use Rattle.numbers.specs.declared.Number.the-variants.{Value, Bad as bad-number}
-use Rattle.replies.proofs.Numbers.{is-done}
+use Rattle.replies.proofs.Laws.{zero-done}
 use Rattle.replies.specs.Replies.{numberOf}
-use Rattle.replies.specs.declared.Reply.the-variants.{Counts as Over, Done, Full, Supports}
+use Rattle.replies.specs.declared.Reply.the-variants.{Counts as Over, Done, Full, Number, Supports}
 use Rattle.replies.specs.declared.Reply.{Reply}
 use Rattle.rules.proofs.Entries.{length-padded, unpadded}
 use Rattle.rules.specs.Held.{entryOf}
@@ -167,12 +167,12 @@ module _ (N : ℕ) (i : Item) where
   unless-each : (rest : List ℕ) → Each (Faultless N) (unless F i rest)
   unfolding Each
   unless-each rest =
-      ⊎-elim (λ t. let d : F ≡ Done = is-done F (eqb-true (numberOf F) 0 t) in subst (Each (Faultless N)) (sym (unless-yes rest d)) d)
+      ⊎-elim (λ t. let d : F ≡ Done = zero-done F (eqb-true (numberOf F) 0 t) in subst (Each (Faultless N)) (sym (unless-yes rest d)) d)
       (λ t. subst (Each (Faultless N)) (sym (unless-no rest t)) tt) (either (eqb (numberOf F) 0))
 
   unless-onward : (l : List ℕ) (k : ℕ) → k ≤ length l → Onward l (unless F i (drop k l))
   unless-onward l k h =
-      ⊎-elim (λ t. subst (Onward l) (sym (unless-yes (drop k l) (is-done F (eqb-true (numberOf F) 0 t)))) (onward-got l i k h))
+      ⊎-elim (λ t. subst (Onward l) (sym (unless-yes (drop k l) (zero-done F (eqb-true (numberOf F) 0 t)))) (onward-got l i k h))
       (λ t. subst (Onward l) (sym (unless-no (drop k l) t)) (onward-bad Item l F t)) (either (eqb (numberOf F) 0))
 
 module _ (N : ℕ) where

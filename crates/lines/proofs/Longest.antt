@@ -10,7 +10,7 @@ use borrow.Author.Tests.{le-ltb}
 use Rattle.lines.proofs.Bounds.{bounded}
 use Rattle.lines.specs.Lines.{caseText, fitted, headingOf, lineOf, lineText, longest, refusalText, wordOf}
 use Rattle.lines.specs.declared.Written.the-variants.{Length}
-use Rattle.replies.proofs.Numbers.{few-replies}
+use Rattle.replies.proofs.Laws.{two-digits}
 use Rattle.replies.specs.Replies.{numberOf}
 use Rattle.replies.specs.declared.Reply.{Reply}
 use Rattle.store.specs.Reading.{listHeld}
@@ -52,7 +52,7 @@ case-length s t =
 
 pub refused-length : (r : Reply) (k : ℕ) → k < 2 ^ 32 → length (refusalText r k) ≤ 22
 unfolding refusalText
-refused-length r k h = refusal-length (numberOf r) k (few-replies r) h
+refused-length r k h = refusal-length (numberOf r) k (two-digits r) h
 
 -- ---- where the lent bytes are as long as the longest line, nothing is refused with 15
 

@@ -1,28 +1,28 @@
 -- The answers of question, context, member and the lines on a made store, over what was put in. Assumes nothing.
 use mathlib.Core.Bool.{Bool, false, true}
 use mathlib.Core.List.{List, _++_}
-use mathlib.Core.Logic.{_↔_}
+use mathlib.Core.Logic.{_↔_, ⊎-elim}
 use mathlib.Core.Path.{_∙_, _≡_, ap, ap₂, refl, subst, sym}
 use Prim.Native.Nat.{_+_, _<_, _^_, _≤_, suc, zero, ℕ}
 use native.Mathlib.Omega.{arith}
+use lib.Dec.{ltb}
 use lib.ListN.{drop, length}
-use Rattle.asking.specs.Asking.{byteOf, contextBytes, contextReply, left, memberAt, memberOf, questionOf, standing}
+use Rattle.asking.specs.Asking.{byteOf, memberAt, memberOf, questionOf, standing}
 use Rattle.asking.specs.declared.Answer.{Answer}
 use Rattle.asking.specs.declared.Answer.the-variants.{Inconsistent, Refused, Supported, Unsupported}
-use Rattle.asking.specs.declared.Asked.{Asked}
-use Rattle.asking.specs.declared.Shown.{Shown}
-use Rattle.lines.specs.Lines.{caseText, headingOf, lineOf, lineText}
+use Rattle.lines.specs.Lines.{caseText, lineText}
 use Rattle.promises.proofs.Form.{Form, form-a, form-count, form-m}
 use Rattle.promises.proofs.Right.{form-right}
+use Rattle.promises.proofs.Rows.{less-test, passes, test-off}
 use Rattle.promises.proofs.Standing.{as-they-stand}
 use Rattle.promises.proofs.Telling.{form-carries, form-contradicts, form-label, form-nogoods}
-use Rattle.promises.specs.Calls.{handing, ours, writes}
-use Rattle.promises.specs.Demand2.{ListsSmallest, QuestionSays, atPlace, byteBy, listedFor, textOf}
+use Rattle.promises.specs.Calls.{Read, caseLine, context, line, ours, over, question, readOf, reads, written}
+use Rattle.promises.specs.Demand2.{ListsSmallest, QuestionSays, atPlace, byteBy, firstText, listedFor, textOf}
 use Rattle.promises.specs.Made.{inOrder}
 use Rattle.promises.specs.Standing.{Stands}
+use Rattle.promises.specs.Table.{Outside}
 use Rattle.replies.specs.declared.Reply.the-variants.{Done}
 use Rattle.stages.proofs.Tables.{table-same}
-use Rattle.store.specs.Calls.{answer}
 use Rattle.store.specs.Reading.{labelHeld, listHeld, nogoodsHeld}
 use Rattle.store.specs.Shape.{top}
 use Rattle.store.specs.declared.Store.{Store}
@@ -85,17 +85,23 @@ module _ {A M : ℕ} {H : List Justification} {s : Store} (f : Form A M H s) whe
   tops : top (s .held) ≡ A + M
   tops = ap₂ (λ (a m : ℕ). a + m) (form-a f) (form-m f)
 
-  set-in : (E : ℕ) → E < 2 ^ A → E < 2 ^ (s .held .assumptions)
-  set-in E h = subst (λ (a : ℕ). E < 2 ^ a) (sym (form-a f)) h
+  pub in-set : (E : ℕ) → E < 2 ^ A → Outside s E → ⊥
+  in-set E h o = not-below E (2 ^ (s .held .assumptions)) o (subst (λ (a : ℕ). E < 2 ^ a) (sym (form-a f)) h)
+    where
+      not-below : (a b : ℕ) → b ≤ a → a < b → ⊥
+      not-below a b p q = omega arith
+
+  in-top : (n : ℕ) → n ≤ A + M → top (s .held) < n → ⊥
+  in-top n h k = omega (arith, tops)
 
   -- the lists are read as they stand
-  abbrev reads : Stands ours s
-  reads = as-they-stand .stands s (form-right f)
+  abbrev stand : Stands ours s
+  stand = as-they-stand .stands s (form-right f)
 
   -- ---- question
 
   pub question-by : (n E : ℕ) → n ≤ A + M → E < 2 ^ A → questionOf s n E ≡ answerBy H n E
-  question-by n E l h = ap (λ (a : Asked). a .answer) (reads .question n E (omega (arith, tops)) (set-in E h)) ∙ standing-by n E l h
+  question-by n E l h = ap (λ (r : Read (question n E)). r .said) (stand .reading (question n E) (passes ℕ _ _ 0 _ (⊎-elim (in-top n l) (in-set E h)) refl)) ∙ standing-by n E l h
 
   pub form-question : (n E : ℕ) → n ≤ A + M → E < 2 ^ A → (a : Answer) → (questionOf s n E ≡ a) ↔ QuestionSays H n E a
   form-question n E l h a = let r = answer-says H n E a in let e = question-by n E l h in (λ q. r .0 (sym e ∙ q), λ q. e ∙ r .1 q)
@@ -105,11 +111,11 @@ module _ {A M : ℕ} {H : List Justification} {s : Store} (f : Form A M H s) whe
   bytes-by : (E : ℕ) → E < 2 ^ A → table (A + M + 1) (λ n. byteOf (standing (s .lists) n E)) ≡ table (A + M + 1) (byteBy H E)
   bytes-by E h = table-same (A + M + 1) (λ n. byteOf (standing (s .lists) n E)) (byteBy H E) 0 (λ n p. ap byteOf (standing-by n E (omega arith) h) ∙ byte-by H n E)
 
-  pub form-context : (E : ℕ) (out : List ℕ) → E < 2 ^ A → A + M + 1 ≤ length out
-      → left (answer (contextReply s E (length out)) s) (contextBytes s E out) ≡ left (answer Done s) (table (A + M + 1) (byteBy H E) ++ drop (A + M + 1) out)
+  pub form-context : (E : ℕ) (out : List ℕ) → E < 2 ^ A → A + M + 1 ≤ length out → readOf s (context E out) ≡ reads (context E out) Done s (table (A + M + 1) (byteBy H E) ++ drop (A + M + 1) out)
   form-context E out h k =
-      reads .context E out (set-in E h) (omega (arith, tops)) ∙ ap (λ (n : ℕ). left (answer Done s) (table (n + 1) (λ i. byteOf (standing (s .lists) i E)) ++ drop (n + 1) out)) tops
-      ∙ ap (λ (l : List ℕ). left (answer Done s) (l ++ drop (A + M + 1) out)) (bytes-by E h)
+      stand .reading (context E out) (passes ℕ _ _ 0 _ (in-set E h) (passes ℕ _ _ 0 _ (λ z. omega (arith, tops)) refl))
+      ∙ ap (λ (n : ℕ). reads (context E out) Done s (table (n + 1) (λ i. byteOf (standing (s .lists) i E)) ++ drop (n + 1) out)) tops
+      ∙ ap (λ (l : List ℕ). reads (context E out) Done s (l ++ drop (A + M + 1) out)) (bytes-by E h)
 
   -- ---- member
 
@@ -117,22 +123,29 @@ module _ {A M : ℕ} {H : List Justification} {s : Store} (f : Form A M H s) whe
   list-smallest zero h = form-nogoods f
   list-smallest (suc i) h = form-label f (suc i) h
 
+  -- at a place of the list the member, else 16
+  pub member-by : (n place : ℕ) → n ≤ A + M → memberOf s n place ≡ atPlace (listHeld (s .lists) n) place
+  unfolding memberOf memberAt
+  member-by n place h = let r = form-right f in let k = test-off (ltb (top (s .held)) n) (less-test (top (s .held)) n) (in-top n h) in rw (r, k)
+
   pub form-member : (n : ℕ) → n ≤ A + M → (l : List ℕ) × ListsSmallest A (listedFor H n) l × ((place : ℕ) → memberOf s n place ≡ atPlace l place)
-  unfolding memberAt
-  form-member n h = (listHeld (s .lists) n, list-smallest n h, λ place. ap (λ (a : Shown). a .answer) (reads .member n place (omega (arith, tops))))
+  form-member n h = (listHeld (s .lists) n, list-smallest n h, λ place. member-by n place h)
 
   -- ---- lines
 
-  pub form-line : (n : ℕ) → n ≤ A + M → (l : List ℕ) × ListsSmallest A (listedFor H n) l × ((out : List ℕ) → length (textOf n l) ≤ length out → handing s (lineOf s n out) ≡ writes s (textOf n l) out)
+  pub line-by : (n : ℕ) → n ≤ A + M → (out : List ℕ) → length (textOf n (listHeld (s .lists) n)) ≤ length out
+      → readOf s (line n out) ≡ reads (line n out) (written (textOf n (listHeld (s .lists) n))) s (over (textOf n (listHeld (s .lists) n)) out)
   unfolding lineText
-  form-line n h = (listHeld (s .lists) n, list-smallest n h, λ out k. reads .line n out (omega (arith, tops)) k)
+  line-by n h out k = stand .reading (line n out) (passes ℕ _ _ 0 _ (in-top n h) (passes ℕ _ _ 0 _ (λ z. omega arith) refl))
 
-  abbrev first : List ℕ
-  first = heading A M (length (inOrder H)) (s .lists .depth)
+  pub form-line : (n : ℕ) → n ≤ A + M → (l : List ℕ) × ListsSmallest A (listedFor H n) l
+      × ((out : List ℕ) → length (textOf n l) ≤ length out → readOf s (line n out) ≡ reads (line n out) (written (textOf n l)) s (over (textOf n l) out))
+  form-line n h = (listHeld (s .lists) n, list-smallest n h, line-by n h)
 
-  case-text : caseText s ≡ first
+  case-text : caseText s ≡ firstText A M H s
   unfolding caseText
   case-text = ap₂ (λ (a m : ℕ). heading a m (s .held .count) (s .lists .depth)) (form-a f) (form-m f) ∙ ap (λ (k : ℕ). heading A M k (s .lists .depth)) (form-count f)
 
-  pub form-heading : (out : List ℕ) → length first ≤ length out → handing s (headingOf s out) ≡ writes s first out
-  form-heading out h = reads .heading out (omega (arith, ap length case-text)) ∙ ap (λ (t : List ℕ). writes s t out) case-text
+  pub form-heading : (out : List ℕ) → length (firstText A M H s) ≤ length out → readOf s (caseLine out) ≡ reads (caseLine out) (written (firstText A M H s)) s (over (firstText A M H s) out)
+  form-heading out h =
+      stand .reading (caseLine out) (passes ℕ _ _ 0 _ (λ z. omega (arith, ap length case-text)) refl) ∙ ap (λ (t : List ℕ). reads (caseLine out) (written t) s (over t out)) case-text

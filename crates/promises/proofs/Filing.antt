@@ -7,7 +7,7 @@ use mathlib.Core.Path.{_∙_, _≡_, ap, ap₂, refl, subst, sym}
 use Prim.Native.Nat.{_*_, _+_, _-_, _<_, _≤_, suc, zero, ℕ}
 use native.Mathlib.Omega.{arith}
 use lib.Dec.{eqb, leb, ltb}
-use lib.ListN.{length}
+use lib.ListN.{drop, length}
 use borrow.Author.Tests.{leb-false, leb-true, ltb-false, ltb-true}
 use Rattle.casefile.proofs.Gathering.{meant}
 use Rattle.casefile.proofs.Whole.{Checked, Sound, case-checked}
@@ -17,13 +17,15 @@ use Rattle.casefile.specs.declared.Loaded.{Loaded}
 use Rattle.items.proofs.Taken.{Faultless}
 use Rattle.items.specs.Items.{Header, Item, headerFrom, numbersFrom, recordFrom, unless}
 use Rattle.numbers.proofs.Numbers.{chosen}
-use Rattle.numbers.specs.Numbers.{Taken, andThen, bad, got, numberFrom, secondFrom}
+use Rattle.numbers.specs.Numbers.{Taken, andThen, bad, got, numberAt, numberFrom, placed, secondFrom}
+use Rattle.promises.proofs.Form.{case-members, case-ranged}
 use Rattle.promises.proofs.Full.{says-same}
 use Rattle.promises.proofs.Loading.{case-judged}
 use Rattle.promises.proofs.Rows.{Names, by-choice, few-told, given-one, less-test, or-test, stages-name, stages-one, stages-told, unnamed}
 use Rattle.promises.specs.Made.{SameMembers, putIn}
-use Rattle.promises.specs.OneAnswer.{One}
-use Rattle.promises.specs.Table.{LoadNames, LoadRows, Next, NumberRows, NumbersRows, RecordRows, Reported, SecondRows, StageRows, given}
+use Rattle.promises.specs.Once.{One}
+use Rattle.promises.specs.Rows.{given}
+use Rattle.promises.specs.Table.{DecodeRows, LoadNames, LoadRows, Next, NumberRows, NumbersRows, RecordRows, Reported, SecondRows, StageRows, reported}
 use Rattle.replies.specs.Replies.{namedBy, numberOf}
 use Rattle.replies.specs.declared.Reply.{Reply}
 use Rattle.replies.specs.declared.Reply.the-variants.{After, Counts, Ends, Falsity, Form, Full, Number, Supports}
@@ -106,6 +108,17 @@ module _ (k : ℕ) where
   numbers-told (suc n) l next g e m =
       number-told l _ (λ t. g (andThen t (λ x l₁. andThen (numbersFrom n l₁) (λ xs l₂. got (x ∷ xs) l₂)))) e
       (λ x l₁. numbers-told n l₁ _ (λ t. g (andThen t (λ xs l₂. got (x ∷ xs) l₂))) e (λ xs l₂ h. m (x ∷ xs) l₂ (ap suc h)))
+
+-- the number at a place
+decode-next : (x : ℕ) (rest : List ℕ) → One (λ (a : Reported). a ≡ (0, x))
+decode-next x rest a b p q = p ∙ sym q
+
+pub decode-one : (bytes : List ℕ) (at : ℕ) → One (DecodeRows bytes at)
+decode-one bytes at = number-one 0 (drop at bytes) _ decode-next
+
+pub decode-told : (bytes : List ℕ) (at : ℕ) → DecodeRows bytes at (reported (numberAt bytes at))
+unfolding numberAt
+decode-told bytes at = number-told 0 (drop at bytes) _ (λ t. reported (placed bytes t)) (λ f. refl) (λ x rest. refl)
 
 -- ---- the records
 

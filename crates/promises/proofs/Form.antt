@@ -7,7 +7,7 @@ use Prim.Native.Nat.{_+_, _≤_, ℕ}
 use native.Mathlib.Omega.{arith}
 use lib.Dec.{eqb, leb, ltb}
 use lib.ListN.{length}
-use borrow.Author.Tests.{eqb-true, leb-false, ltb-false}
+use borrow.Author.Tests.{eqb-true, leb-false, ltb-false, not-false}
 use Rattle.casefile.proofs.Gathering.{meant}
 use Rattle.casefile.proofs.Whole.{Checked, Sound, case-checked, case-sure, held-item, held-only}
 use Rattle.casefile.specs.Case.{Case, caseOf, heldBy, whole}
@@ -15,14 +15,15 @@ use Rattle.casefile.specs.Load.{loadOf, loadedOf, recorded}
 use Rattle.casefile.specs.declared.Loaded.{Loaded}
 use Rattle.promises.proofs.InOrder.{in-order-dropped, in-order-from, in-order-is, in-order-members, in-order-new, in-order-ordered}
 use Rattle.promises.proofs.Opening.{judge-none}
-use Rattle.promises.proofs.Keeping.{add-keeps, withdraw-keeps}
+use Rattle.promises.proofs.Keeping.{add-keeps, read-store, withdraw-keeps}
 use Rattle.promises.specs.Calls.{ours}
-use Rattle.promises.specs.Made.{HoldsExactly, Made, SameMembers, added, asked, contexted, headed, inOrder, kept, lined, loaded, opened, putIn, refused, shown, withdrawn}
-use Rattle.replies.proofs.Numbers.{is-done}
+use Rattle.promises.specs.Made.{HoldsExactly, Made, SameMembers, added, asked, inOrder, judged, kept, loaded, opened, putIn, refused, withdrawn}
+use Rattle.replies.proofs.Laws.{zero-done}
 use Rattle.replies.specs.Replies.{numberOf}
 use Rattle.replies.specs.declared.Reply.{Reply}
 use Rattle.replies.specs.declared.Reply.the-variants.{Already, Counts, Done, Full, Shape, Unheld}
 use Rattle.rules.proofs.Dropping.{dropped-few, dropped-from}
+use Rattle.rules.proofs.Entries.{said-many}
 use Rattle.rules.proofs.Laws.{Ranged, faultless-ranged, held-said, right-range}
 use Rattle.rules.proofs.Putting.{put-length}
 use Rattle.rules.proofs.Scan.{right-elim}
@@ -30,8 +31,9 @@ use Rattle.rules.specs.Held.{dropped, heldOf, ordered, put, saidBy}
 use Rattle.rules.specs.Items.{faultOf, justificationOf, sameJustification}
 use Rattle.rules.specs.declared.Held.{Held}
 use Rattle.stages.specs.Lists.{listsOf}
-use Rattle.store.specs.Calls.{addOf, answer, isDone, joinedBy, noStore, ofVerdict, openOf, partedFrom, startStore, storeOf, withdrawOf}
-use Rattle.store.specs.Shape.{rightShape}
+use Rattle.store.proofs.Shapes.{fits-elim}
+use Rattle.store.specs.Calls.{addOf, answer, isDone, joinedBy, judgedOf, noStore, ofVerdict, openOf, partedFrom, startStore, storeOf, withdrawOf}
+use Rattle.store.specs.Shape.{heldFits, rightShape}
 use Rattle.store.specs.declared.Outcome.{Outcome}
 use Rattle.store.specs.declared.Store.{Store}
 use Rattle.theory.proofs.Lists.{clash}
@@ -149,7 +151,7 @@ fault-not r h e = let z : _≡_ {A = Bool} true false = sym (ap (λ (n : ℕ). e
     false-true z = let q : _≡_ {A = ℕ} 0 1 = cc in omega arith
 
 pass-fault : (s t : Store) (b : Bool) (x : Reply) {rest : Outcome} → isDone x ≡ b → choose (not b) (answer x s) rest ≡ answer Done t → (x ≡ Done) × (rest ≡ answer Done t)
-pass-fault s t true x h q = (is-done x (eqb-true (numberOf x) 0 h), q)
+pass-fault s t true x h q = (zero-done x (eqb-true (numberOf x) 0 h), q)
 pass-fault s t false x h q = absurd (fault-not x h (ap (λ (a : Outcome). numberOf (a .reply)) q))
 
 -- where the answer is 0, the store of the justifications held with this one, judged anew
@@ -326,6 +328,16 @@ module _ (bytes : List ℕ) (c : Case) (spells : caseOf bytes ≡ whole c) where
       let q = sym (ap (λ (x : Loaded). x .store) case-loaded) ∙ k in
       case-form c case-sound (ap₂ (λ (x : Reply) (t : Store). answer x t) p q)
 
+-- ---- judging
+
+judged-held : (h : Held) (s : Store) → judgedOf h ≡ answer Done s → Form (h .assumptions) (h .claims) (saidBy h) s
+unfolding judgedOf
+judged-held h s e =
+    let p = pass (not (heldFits h)) (answer Shape noStore) _ s (λ (z : _≡_ {A = ℕ} 2 0). omega arith) e in
+    let f = fits-elim h (not-false (heldFits h) (p .0)) in
+    judged-form (h .assumptions) (h .claims) (saidBy h) (saidBy h) s (f .few) (f .claims) (omega (arith, said-many h (f .right), right-elim h (f .right) .few)) (right-range h (f .right))
+    (right-elim h (f .right) .order) (λ j. (λ m. m, λ m. m)) (p .1)
+
 ap-form : {A A′ M M′ : ℕ} {H : List Justification} {s : Store} → A ≡ A′ → M ≡ M′ → Form A M H s → Form A′ M′ H s
 ap-form {A} {A′} {M} {M′} {H} {s} a m f = subst (λ (x : ℕ). Form A′ x H s) m (subst (λ (x : ℕ). Form x M H s) a f)
 
@@ -333,6 +345,7 @@ module _ {A M : ℕ} where
   pub made-form : {H : List Justification} {s : Store} → Made ours A M H s → Form A M H s
   made-form (opened {s = s} e) = open-form A M s e
   made-form (loaded {s = s} bytes c e a m r k) = ap-form a m (load-form bytes c e r k)
+  made-form (judged {s = s} h a m e) = ap-form a m (judged-held h s e)
   made-form (added c l m e) = form-next (made-form m) c l e
   made-form (refused {H = H} {s = s} {t = t} c l r m e n) =
       let k : addOf s c l .store ≡ s = add-keeps s c l (λ q. n (sym (ap (λ (a : Outcome). a .reply) e) ∙ q)) in
@@ -341,11 +354,7 @@ module _ {A M : ℕ} where
   made-form (kept {H = H} {s = s} {t = t} c l r m e n) =
       let k : withdrawOf s c l .store ≡ s = withdraw-keeps s c l (λ q. n (sym (ap (λ (a : Outcome). a .reply) e) ∙ q)) in
       subst (Form A M H) (sym k ∙ ap (λ (a : Outcome). a .store) e) (made-form m)
-  made-form (asked {H = H} n E m e) = subst (Form A M H) e (made-form m)
-  made-form (contexted {H = H} E out m e) = subst (Form A M H) e (made-form m)
-  made-form (shown {H = H} n place m e) = subst (Form A M H) e (made-form m)
-  made-form (lined {H = H} n out m e) = subst (Form A M H) e (made-form m)
-  made-form (headed {H = H} out m e) = subst (Form A M H) e (made-form m)
+  made-form (asked {H = H} {s = s} a m e) = subst (Form A M H) (sym (read-store s a) ∙ e) (made-form m)
 
   -- a made store holds exactly what was put in
   pub made-holds : {H : List Justification} {s : Store} → Made ours A M H s → HoldsExactly A M H s

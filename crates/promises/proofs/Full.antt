@@ -138,23 +138,6 @@ module _ (A N : ℕ) (J : List Justification) where
     judge-says nogoodsOver e = over-nogoods (rw e at (judge-told A N J limits))
     judge-says (labelOver n) e = over-label n (rw e at (judge-told A N J limits))
 
--- the other way round
-module _ {A N : ℕ} {H : List Justification} where
-  pub nogoods-verdict : (v : Verdict) → VerdictSays A N H v → NogoodsFull A N H → v ≡ nogoodsOver
-  nogoods-verdict (settled d s) r g = absurd (room-not-nogoods r g)
-  nogoods-verdict nogoodsOver r g = refl
-  nogoods-verdict (labelOver n) r g = absurd (nogoods-not-label g r)
-
-  pub label-verdict : (v : Verdict) {n : ℕ} → VerdictSays A N H v → LabelFull A N H n → v ≡ labelOver n
-  label-verdict (settled d s) r g = absurd (room-not-label r g)
-  label-verdict nogoodsOver r g = absurd (nogoods-not-label r g)
-  label-verdict (labelOver m) r g = ap labelOver (one-label r g)
-
-  pub room-verdict : (v : Verdict) → VerdictSays A N H v → AllInRoom A N H → (d : ℕ) × (s : Stage) × (v ≡ settled d s)
-  room-verdict (settled d s) r g = (d, s, refl)
-  room-verdict nogoodsOver r g = absurd (room-not-nogoods g r)
-  room-verdict (labelOver m) r g = absurd (room-not-label g r)
-
 -- ---- the same members need the same room
 
 module _ (A N : ℕ) {J H : List Justification} (f : SameMembers J H) where

@@ -1,24 +1,24 @@
 -- A refusal leaves the store and every lent byte as they were. Assumes nothing.
-use mathlib.Core.Bool.{Bool, false, not, true}
+use mathlib.Core.Bool.{Bool, _||_, false, not, true}
 use mathlib.Core.List.{List, _++_}
-use mathlib.Core.Option.{none}
-use mathlib.Core.Path.{_≡_, refl}
+use mathlib.Core.Path.{_∙_, _≡_, refl, sym}
 use Prim.Native.Nat.{_+_, ℕ}
-use native.Mathlib.Omega.{arith}
 use lib.Dec.{leb, ltb}
 use lib.ListN.{drop, length}
 use borrow.Author.Tests.{eqb-true}
 use Rattle.asking.specs.Asking.{contextBytes, contextOf, contextReply}
-use Rattle.lines.specs.Lines.{Wrote, caseText, fitted, headingOf, kept, lineOf, lineText, writtenLength}
-use Rattle.replies.proofs.Numbers.{is-done}
+use Rattle.casefile.specs.Case.{Case, Reading, caseOf, heldBy, refused as unread, whole}
+use Rattle.casefile.specs.Load.{loadOf, loadedOf}
+use Rattle.lines.specs.Lines.{Wrote, caseText, fitted, headingOf, kept, lineOf, lineText, refusalText, writtenNumber}
+use Rattle.promises.specs.Calls.{Ask, caseLine, context, lentTo, line, member, numberSaid, question, readOf}
 use Rattle.replies.specs.Replies.{numberOf}
 use Rattle.replies.specs.declared.Reply.{Reply}
-use Rattle.replies.specs.declared.Reply.the-variants.{Already, Done, Full, Number, Shape, Short, Unheld}
+use Rattle.replies.specs.declared.Reply.the-variants.{Already, Counts, Done, Full, Number, Shape, Short, Unheld}
 use Rattle.rules.specs.Held.{dropped, heldOf, put, saidBy}
 use Rattle.rules.specs.Items.{faultOf, justificationOf, sameJustification}
 use Rattle.rules.specs.declared.Held.{Held}
-use Rattle.store.specs.Calls.{addOf, answer, isDone, joinedBy, ofVerdict, partedFrom, storeOf, withdrawOf}
-use Rattle.store.specs.Shape.{rightShape, top}
+use Rattle.store.specs.Calls.{addOf, answer, isDone, joinedBy, judgedOf, noStore, ofVerdict, openOf, partedFrom, startStore, storeOf, withdrawOf}
+use Rattle.store.specs.Shape.{heldFits, rightShape, top}
 use Rattle.store.specs.declared.Outcome.{Outcome}
 use Rattle.store.specs.declared.Store.{Store}
 use Rattle.theory.specs.Judge.{Verdict, judge, labelOver, limits, nogoodsOver, settled}
@@ -69,33 +69,71 @@ module _ (s : Store) where
       keeps-choose (not (rightShape s)) (answer Shape s) _ refl
       (keeps-choose (not (isDone (faultOf N c l))) (answer (faultOf N c l) s) _ refl (keeps-part (justificationOf N c l)))
 
-  module _ (E : ℕ) (out : List ℕ) where
-    pub bytes-keep : (contextReply s E (length out) ≡ Done → ⊥) → contextBytes s E out ≡ out
-    unfolding contextBytes
-    bytes-keep n = go (isDone (contextReply s E (length out))) (contextOf s E ++ drop (top (s .held) + 1) out) refl
-      where
-        go : (b : Bool) (x : List ℕ) → isDone (contextReply s E (length out)) ≡ b → choose b x out ≡ out
-        go true x e = absurd (n (is-done (contextReply s E (length out)) (eqb-true (numberOf (contextReply s E (length out))) 0 e)))
-        go false x e = refl
+  -- ---- the calls that read
 
-  -- ---- lines
+  context-keeps : (E : ℕ) (out : List ℕ) → (numberOf (contextReply s E (length out)) ≡ 0 → ⊥) → contextBytes s E out ≡ out
+  unfolding contextBytes
+  context-keeps E out n = go (isDone (contextReply s E (length out))) (contextOf s E ++ drop (top (s .held) + 1) out) refl
+    where
+      go : (b : Bool) (x : List ℕ) → isDone (contextReply s E (length out)) ≡ b → choose b x out ≡ out
+      go true x e = absurd (n (eqb-true (numberOf (contextReply s E (length out))) 0 e))
+      go false x e = refl
 
-  -- w leaves the lent bytes where it reports no length
+  -- w leaves the lent bytes unless it is answered 0
   abbrev KeptBytes : List ℕ → Wrote → Type 0
-  KeptBytes out w = writtenLength (w .answer) ≡ none → w .bytes ≡ out
+  KeptBytes out w = (writtenNumber (w .answer) ≡ 0 → ⊥) → w .bytes ≡ out
 
   kept-choose : (out : List ℕ) (b : Bool) (x : Reply) (w : Wrote) → KeptBytes out w → KeptBytes out (choose b (kept x out) w)
-  kept-choose out true x w k e = refl
-  kept-choose out false x w k e = k e
+  kept-choose out true x w k n = refl
+  kept-choose out false x w k n = k n
 
   kept-fitted : (t out : List ℕ) → KeptBytes out (fitted t out)
   unfolding fitted
-  kept-fitted t out = kept-choose out (ltb (length out) (length t)) Short _ (λ e. let z : _≡_ {A = ℕ} 0 1 = cc in absurd (omega arith))
+  kept-fitted t out = kept-choose out (ltb (length out) (length t)) Short _ (λ n. absurd (n refl))
 
-  pub line-keeps : (n : ℕ) (out : List ℕ) → KeptBytes out (lineOf s n out)
+  line-keeps : (n : ℕ) (out : List ℕ) → KeptBytes out (lineOf s n out)
   unfolding lineOf
   line-keeps n out = kept-choose out (not (rightShape s)) Shape _ (kept-choose out (ltb (top (s .held)) n) Number _ (kept-fitted (lineText (s .lists) n) out))
 
-  pub heading-keeps : (out : List ℕ) → KeptBytes out (headingOf s out)
+  heading-keeps : (out : List ℕ) → KeptBytes out (headingOf s out)
   unfolding headingOf
   heading-keeps out = kept-choose out (not (rightShape s)) Shape _ (kept-fitted (caseText s) out)
+
+  pub read-store : (a : Ask) → readOf s a .store ≡ s
+  read-store (question n E) = refl
+  read-store (context E out) = refl
+  read-store (member n place) = refl
+  read-store (line n out) = refl
+  read-store (caseLine out) = refl
+
+  pub read-keeps : (a : Ask) → (numberSaid a (readOf s a .said) ≡ 0 → ⊥) → readOf s a .bytes ≡ lentTo a
+  read-keeps (question n E) k = refl
+  read-keeps (context E out) k = context-keeps E out k
+  read-keeps (member n place) k = refl
+  read-keeps (line n out) k = line-keeps n out k
+  read-keeps (caseLine out) k = heading-keeps out k
+
+-- ---- no store is returned
+
+none-opened : openOf 0 0 .store ≡ noStore
+unfolding openOf
+none-opened = refl
+
+pub open-keeps : (A M : ℕ) → (openOf A M .reply ≡ Done → ⊥) → openOf A M .store ≡ openOf 0 0 .store
+unfolding openOf
+open-keeps A M n = keeps-choose noStore (ltb 32 A || ltb 96 M) (answer Counts noStore) (answer Done (startStore A M)) refl (λ k. absurd (k refl)) n ∙ sym none-opened
+
+loaded-keeps : (R : Reading Case) → (loadedOf R .reply ≡ Done → ⊥) → loadedOf R .store ≡ noStore
+loaded-keeps (whole f) n = keeps-store noStore (f .header .assumptions) (f .header .claims) (heldBy f) n
+loaded-keeps (unread x r) n = refl
+
+pub load-keeps : (bytes : List ℕ) → (loadOf bytes .reply ≡ Done → ⊥) → loadOf bytes .store ≡ openOf 0 0 .store
+unfolding loadOf
+load-keeps bytes n = loaded-keeps (caseOf bytes) n ∙ sym none-opened
+
+pub judge-keeps : (h : Held) → (judgedOf h .reply ≡ Done → ⊥) → judgedOf h .store ≡ openOf 0 0 .store
+unfolding judgedOf
+judge-keeps h n = keeps-choose noStore (not (heldFits h)) (answer Shape noStore) _ refl (keeps-store noStore (h .assumptions) (h .claims) (saidBy h)) n ∙ sym none-opened
+
+pub refusal-keeps : (r : Reply) (k : ℕ) (out : List ℕ) → (writtenNumber (fitted (refusalText r k) out .answer) ≡ 0 → ⊥) → fitted (refusalText r k) out .bytes ≡ out
+refusal-keeps r k out = kept-fitted noStore (refusalText r k) out

@@ -1,4 +1,6 @@
-pub mod Cited
+pub mod Keeps
+pub mod Coded
+pub mod Once
 pub mod InOrder
 pub mod Opening
 pub mod Keeping
@@ -16,14 +18,9 @@ pub mod Rows
 pub mod Filing
 pub mod Table
 pub mod Refusals
+pub mod Counting
+pub mod Models
 pub mod Meaning
 pub mod OwnSupport
 pub mod Truth
 pub mod Promises
-pub mod OneAnswer
-pub mod Small
-pub mod Cases
-pub mod Prefixed
-pub mod Arrival
-pub mod Deducing
-pub mod Wrong

@@ -1,5 +1,5 @@
 -- The words of the demands mean what documents 002 and 003 say. Assumes nothing.
-use mathlib.Core.Bool.{Bool, true}
+use mathlib.Core.Bool.{true}
 use mathlib.Core.List.{List, List·Memᴰ as Mem, _∷_}
 use mathlib.Core.Logic.{_↔_}
 use mathlib.Core.Path.{_∙_, _≡_, ap, sym}
@@ -7,17 +7,20 @@ use Prim.Native.Nat.{_≤_, suc, ℕ}
 use native.Mathlib.Decide.{decLt}
 use native.Mathlib.Omega.{arith}
 use lib.ListN.{length}
+use Rattle.promises.proofs.Counting.{ones-members}
+use Rattle.promises.proofs.Models.{carries-models, contradicts-models}
 use Rattle.promises.specs.Demand2.{IsDepth}
-use Rattle.promises.specs.Meaning.{AtSomeStage, Meaning, ModelOf, Unrivalled}
+use Rattle.promises.specs.Meaning.{AtSomeStage, Meaning, Unrivalled}
+use Rattle.sets.proofs.Membership.{among-alone, among-union, among-without, range-members, within-members}
 use Rattle.theory.proofs.Demands.{carries-means, contradicts-means}
 use Rattle.theory.proofs.Depth.{consequents-less}
 use Rattle.theory.proofs.Judgement.{agree-at-last, agree-elim}
 use Rattle.theory.proofs.Lists.{clash, not-so}
-use Rattle.theory.proofs.Models.{carries-models, no-model}
 use Rattle.theory.proofs.SelfSupport.{self-follows, self-stage}
 use Rattle.theory.proofs.Step.{Least, label-step, nogood-step}
 use Rattle.theory.specs.Demands.{carries, contradicts}
 use Rattle.theory.specs.Judge.{consequents, stageAt}
+use Rattle.theory.specs.Sets.{alone}
 use Rattle.theory.specs.Stages.{Justification, labelAt, labelOf, nogoodsAt, nogoodsOf}
 use Rattle.theory.specs.Step.{candidates}
 
@@ -28,20 +31,6 @@ module _ (H : List Justification) (E : ℕ) where
   carries-stages n = (
     λ h. let r = carries-means H E n .0 h in (λ f. clash (contradicts-means H E .1 f) (r .0), r .1),
     λ p. carries-means H E n .1 (not-so (contradicts H E) (λ h. p .0 (contradicts-means H E .0 h)), p .1),
-  )
-
-  -- ---- models
-
-  contradicts-models : (contradicts H E ≡ true) ↔ ((S : ℕ → Bool) → ModelOf H E S → ⊥)
-  contradicts-models = (
-    λ h S m. no-model H E .1 (contradicts-means H E .0 h) S (m .model) (m .has),
-    λ f. contradicts-means H E .1 (no-model H E .0 (λ S m e. f S (record { model = m; has = e }))),
-  )
-
-  all-models : (n : ℕ) → (carries H E n ≡ true) ↔ (((S : ℕ → Bool) × ModelOf H E S) × ((S : ℕ → Bool) → ModelOf H E S → S n ≡ true))
-  all-models n = (
-    λ h. let r = carries-models H E n .0 h in ((r .0 .0, record { model = r .0 .1; has = r .0 .2 }), λ S m. r .1 S (m .model) (m .has)),
-    λ p. carries-models H E n .1 ((p .0 .0, p .0 .1 .model, p .0 .1 .has), λ S m e. p .1 S (record { model = m; has = e })),
   )
 
 -- ---- the step
@@ -74,12 +63,18 @@ depth-consequents A N H k f =
     ]
 
 pub meaning : Meaning
-unfolding candidates
+unfolding candidates alone
 meaning = record {
+  alone-members = λ i k h. among-alone (suc i) k (omega arith) h;
+  union-members = among-union;
+  without-members = among-without;
+  within-members = within-members;
+  range-members = range-members;
+  ones-members = ones-members;
   contradicts-stages = contradicts-means;
   carries-stages = carries-stages;
   contradicts-models = contradicts-models;
-  carries-models = all-models;
+  carries-models = carries-models;
   nogoods-step = λ A H k E. let s = nogood-step A H k E in let u = unrivalled _ E in (λ m. u .0 (s .0 m), λ r. s .1 (u .1 r));
   label-step = λ A H k n E. let s = label-step A H k n E in let u = unrivalled _ E in (λ m. let r = s .0 m in (r .0, u .0 (r .1)), λ r. s .1 (r .0, u .1 (r .1)));
   depth-consequents = depth-consequents;

@@ -6,7 +6,7 @@ use native.Mathlib.Omega.{arith}
 use lib.Dec.{eqb}
 use lib.ListN.{length}
 use borrow.Author.Tests.{eq-eqb}
-use Rattle.promises.proofs.Adding.{form-adding}
+use Rattle.promises.proofs.Adding.{form-adding, reached}
 use Rattle.promises.proofs.Form.{Form, form-lists, form-next, form-ranged, form-settled}
 use Rattle.promises.proofs.Full.{judge-says, says-same}
 use Rattle.promises.proofs.InOrder.{in-order-members}
@@ -72,7 +72,7 @@ module _ {A M : ℕ} {H : List Justification} {s : Store} (f : Form A M H s) whe
     }
 
     added : addOf s c l ≡ answer Done (addOf s c l .store)
-    added = ap (λ (x : Reply). answer x (addOf s c l .store)) (form-adding f c l Done .1 (r, still-room))
+    added = ap (λ (x : Reply). answer x (addOf s c l .store)) (form-adding f c l Done .1 (reached c l r still-room))
 
     pub form-self : (t : Store) × (addOf s c l ≡ answer Done t) × (t .lists ≡ s .lists)
     form-self = (addOf s c l .store, added, next-lists ∙ ap listsBy (self-judge j H self limits A (A + M)) ∙ sym (lists-by f))

@@ -1,5 +1,4 @@
 -- The product keeps its promises. Assumes nothing.
-use Rattle.promises.proofs.Cited.{cited}
 use Rattle.promises.proofs.Form.{made-holds}
 use Rattle.promises.proofs.Meaning.{meaning}
 use Rattle.promises.proofs.Refusals.{demand-1}
@@ -15,4 +14,4 @@ pub stores : Stores ours
 stores = record { holds = made-holds; right = made-right }
 
 pub promises : Promises ours
-promises = record { cited = cited; demand1 = demand-1; demand2 = demand-2; demand3 = demand-3; stores = stores; standing = as-they-stand; meaning = meaning }
+promises = record { demand1 = demand-1; demand2 = demand-2; demand3 = demand-3; stores = stores; standing = as-they-stand; meaning = meaning }

@@ -1,21 +1,22 @@
 -- Demand 1 of our calls. Assumes nothing.
-use mathlib.Core.Path.{refl}
-use Rattle.promises.proofs.Keeping.{add-keeps, bytes-keep, heading-keeps, line-keeps, withdraw-keeps}
+use Rattle.promises.proofs.Coded.{coded}
+use Rattle.promises.proofs.Keeping.{add-keeps, judge-keeps, load-keeps, open-keeps, read-keeps, read-store, refusal-keeps, withdraw-keeps}
 use Rattle.promises.proofs.Table.{reply-table}
 use Rattle.promises.specs.Calls.{ours}
-use Rattle.promises.specs.Demand1.{Demand1}
+use Rattle.promises.specs.Demand1.{Demand1, Refusals}
 
-pub demand-1 : Demand1 ours
-demand-1 = record {
+pub refusals : Refusals ours
+refusals = record {
   table = reply-table;
+  opening = open-keeps;
+  loading = load-keeps;
+  judging = judge-keeps;
   adding = add-keeps;
   withdrawing = withdraw-keeps;
-  question = λ s n E. refl;
-  context = λ s E out. refl;
-  member = λ s n place. refl;
-  line = λ s n out. refl;
-  heading = λ s out. refl;
-  bytes = bytes-keep;
-  line-bytes = line-keeps;
-  heading-bytes = heading-keeps;
+  reading = read-store;
+  bytes = read-keeps;
+  refusal-bytes = refusal-keeps;
 }
+
+pub demand-1 : Demand1 ours
+demand-1 = record { ends = coded; refusals = refusals }

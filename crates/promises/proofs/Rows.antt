@@ -4,15 +4,16 @@ use mathlib.Core.List.{List, List·Memᴰ as Mem}
 use mathlib.Core.Logic.{_↔_, _⊎_, inl, inr, ⊎-elim}
 use mathlib.Core.Option.{none, some}
 use mathlib.Core.Path.{_∙_, _≡_, ap, refl, subst, sym}
-use Prim.Native.Nat.{_<_, _≤_, ℕ}
+use Prim.Native.Nat.{_<_, _^_, _≤_, ℕ}
 use native.Mathlib.Omega.{arith}
 use lib.Dec.{eqb, leb, ltb}
 use lib.ListN.{length}
-use borrow.Author.Tests.{eq-eqb, eqb-true, le-ltb, leb-false, leb-true, lt-ltb, ltb-true, not-false, not-true}
+use borrow.Author.Tests.{eq-eqb, eqb-true, le-ltb, leb-false, leb-true, lt-ltb, ltb-false, ltb-true, not-false, not-true}
 use Rattle.promises.proofs.Full.{VerdictSays, nogoods-not-label, one-label, room-not-label, room-not-nogoods}
-use Rattle.promises.specs.OneAnswer.{One}
-use Rattle.promises.specs.Room.{LabelFull}
-use Rattle.promises.specs.Table.{Above, StageRows, given, noRow}
+use Rattle.promises.specs.Once.{One}
+use Rattle.promises.specs.Room.{Above, AllInRoom, LabelFull, StagesSay}
+use Rattle.promises.specs.Rows.{given, naming, noRow}
+use Rattle.promises.specs.Table.{Outside, StageRows}
 use Rattle.replies.specs.Replies.{namedBy, numberOf}
 use Rattle.replies.specs.declared.Reply.{Reply}
 use Rattle.replies.specs.declared.Reply.the-variants.{Done, Falsity, Nogoods, Number, Supports}
@@ -23,6 +24,7 @@ use Rattle.store.specs.declared.Store.{Store}
 use Rattle.theory.proofs.Lists.{clash, or-cases, some-elim, some-intro}
 use Rattle.theory.specs.Judge.{Verdict, labelOver, nogoodsOver, settled}
 use Rattle.theory.specs.Lists.{choose, someOf}
+use Rattle.theory.specs.Sets.{inRange}
 use Rattle.theory.specs.Stages.{Justification}
 
 -- ---- one answer at most
@@ -34,12 +36,29 @@ given-one P c next o a b (inl p) (inr q) = absurd (q .0 (p .0))
 given-one P c next o a b (inr p) (inl q) = absurd (p .0 (q .0))
 given-one P c next o a b (inr p) (inr q) = o a b (p .1) (q .1)
 
+pub naming-one : {X : Type 0} (P : ℕ → Type 0) (c : ℕ → X) (next : X → Type 0) → ((n m : ℕ) → P n → P m → n ≡ m) → One next → One (naming P c next)
+unfolding naming
+naming-one P c next k o a b (inl p) (inl q) = p .2 ∙ ap c (k (p .0) (q .0) (p .1) (q .1)) ∙ sym (q .2)
+naming-one P c next k o a b (inl p) (inr q) = absurd (q .0 (p .0) (p .1))
+naming-one P c next k o a b (inr p) (inl q) = absurd (p .0 (q .0) (q .1))
+naming-one P c next k o a b (inr p) (inr q) = o a b (p .1) (q .1)
+
 pub no-row-one : One noRow
 no-row-one a b p q = p ∙ sym q
 
 -- the answer that the rows decide is exactly theirs
 pub exactly : {X : Type 0} (R : X → Type 0) (x : X) → One R → R x → (a : X) → (x ≡ a) ↔ R a
 exactly R x o r a = (λ e. subst R e r, λ w. o x a r w)
+
+-- answered 0, the row did not hold
+pub passed : (P : Type 0) (c : ℕ) (next : ℕ → Type 0) → given P c next 0 → (_≡_ {A = ℕ} 0 c → ⊥) → (P → ⊥) × next 0
+unfolding given
+passed P c next (inl p) n = absurd (n (p .1))
+passed P c next (inr p) n = p
+
+pub passes : (X : Type 0) (P : Type 0) (c a : X) (next : X → Type 0) → (P → ⊥) → next a → given P c next a
+unfolding given
+passes X P c a next n r = inr (n, r)
 
 -- ---- tests
 
@@ -52,6 +71,11 @@ pub by-choice : {X Y : Type 0} {P : Type 0} {c : X} (next : X → Type 0) (f : Y
 unfolding given
 by-choice next f true x y t e k = inl (t .so refl, e)
 by-choice next f false x y t e k = inr (t .not-so refl, k refl)
+
+-- where P fails, so does the test
+pub test-off : (b : Bool) {P : Type 0} → Tests b P → (P → ⊥) → b ≡ false
+test-off true t n = absurd (n (t .so refl))
+test-off false t n = refl
 
 pub less-test : (a b : ℕ) → Tests (ltb a b) (a < b)
 less-test a b = record { so = λ h. ltb-true a b h; not-so = λ h p. clash (lt-ltb a b p) h }
@@ -82,6 +106,12 @@ zero-test l = record {
   so = λ h. let r = some-elim (eqb 0) l h in subst (λ (x : ℕ). Mem x l) (sym (eqb-true 0 (r .0) (r .2))) (r .1);
   not-so = λ h m. clash (some-intro (eqb 0) m (eq-eqb 0 0 refl)) h;
 }
+
+pub outside-test : (s : Store) (E : ℕ) → Tests (not (inRange (s .held .assumptions) E)) (Outside s E)
+unfolding inRange
+outside-test s E =
+    let w : ℕ = 2 ^ (s .held .assumptions) in
+    record { so = λ h. ltb-false E w (not-true (ltb E w) h); not-so = λ h p. clash (not-false (ltb E w) h) (le-ltb E w p) }
 
 -- ---- the faults of an item
 
@@ -115,6 +145,21 @@ module _ (A N : ℕ) (J : List Justification) where
   stages-told s h (settled d g) r = inr (λ x. room-not-nogoods r x, inr (λ x. room-not-label r (x .1), refl))
   stages-told s h nogoodsOver r = inl (r, refl)
   stages-told s h (labelOver n) r = inr (λ x. nogoods-not-label x r, inl ((n, r), refl))
+
+-- .. by their replies
+module _ (A N : ℕ) (J : List Justification) where
+  pub say-one : One (StagesSay A N J)
+  say-one = given-one _ _ _ (naming-one _ _ _ (λ n m p q. one-label p q) (λ a b p q. p .1 ∙ sym (q .1)))
+
+  pub room-says : AllInRoom A N J → StagesSay A N J Done
+  unfolding given naming
+  room-says r = inr (λ x. room-not-nogoods r x, inr (λ n x. room-not-label r x, (r, refl)))
+
+  pub stages-say : (s : Store) (h : Held) (v : Verdict) → VerdictSays A N J v → StagesSay A N J (ofVerdict s h v .reply)
+  unfolding given naming
+  stages-say s h (settled d g) r = room-says r
+  stages-say s h nogoodsOver r = inl (r, refl)
+  stages-say s h (labelOver n) r = inr (λ x. nogoods-not-label x r, inl (n, r, refl))
 
 -- ---- the number that is named
 

@@ -11,7 +11,7 @@ use Rattle.casefile.specs.declared.Loaded.{Loaded}
 use Rattle.promises.proofs.Form.{Form, case-held, case-loaded, case-sound, done-store, form-add, form-exactly, made-form, tried, tried-done}
 use Rattle.promises.proofs.InOrder.{in-order-same, in-order-to}
 use Rattle.promises.proofs.Right.{form-right}
-use Rattle.promises.proofs.Withdrawing.{form-withdrawing}
+use Rattle.promises.proofs.Withdrawing.{was-held}
 use Rattle.promises.specs.Calls.{Calls, ours}
 use Rattle.promises.specs.Demand3.{Demand3, Reordered, Same, further, swapped, unmoved}
 use Rattle.promises.specs.Made.{Made, SameMembers, added, inOrder, loaded, putIn, withdrawn}
@@ -42,11 +42,8 @@ one-store C e = record {
   depth = ap (λ (x : Store). x .lists .depth) e;
   adding = λ c l. ap (λ (x : Store). C .adding x c l) e;
   withdrawing = λ c l. ap (λ (x : Store). C .withdrawing x c l) e;
-  question = λ n E. ap (λ (x : Store). C .question x n E) e;
-  context = λ E out. ap (λ (x : Store). C .context x E out) e;
-  member = λ n place. ap (λ (x : Store). C .member x n place) e;
-  line = λ n out. ap (λ (x : Store). C .line x n out) e;
-  heading = λ out. ap (λ (x : Store). C .heading x out) e;
+  reading = λ a. ap (λ (x : Store). C .reading x a) e;
+  shape = ap (λ (x : Store). C .shape x) e;
   store = e;
 }
 
@@ -87,7 +84,7 @@ module _ {A M : ℕ} where
       → SameMembers (justificationOf (A + M) c l ∷ dropped (justificationOf (A + M) c l) H) H
   less-added {H} c l f e j =
       let i : Justification = justificationOf (A + M) c l in
-      let held : Mem i H = form-withdrawing f c l Done .0 (ap (λ (o : Outcome). o .reply) e) .0 .held in (
+      let held : Mem i H = was-held f c l e in (
         λ m. ⊎-elim (λ (q : j ≡ i). subst (λ (x : Justification). Mem x H) (sym q) held) (λ n. dropped-from i H n) (List·Memᴰ·cases-cons m),
         λ m. ⊎-elim (λ (q : j ≡ i). here q) (λ n. there n) (dropped-cases i H m),
       )

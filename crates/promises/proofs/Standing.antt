@@ -1,20 +1,23 @@
 -- Of a right shape, our calls read the lists as they stand, and add and withdraw from the justifications alone. Assumes nothing.
-use mathlib.Core.Bool.{true}
-use mathlib.Core.List.{List, _++_}
-use mathlib.Core.Path.{_∙_, _≡_, ap, sym}
-use Prim.Native.Nat.{_+_, _<_, _^_, _≤_, ℕ}
+use mathlib.Core.Bool.{_||_, false, not, true}
+use mathlib.Core.List.{List, [], _++_}
+use mathlib.Core.Path.{_∙_, _≡_, ap, ap₂, sym}
+use Prim.Native.Nat.{_+_, ℕ}
+use native.Mathlib.Omega.{arith}
+use lib.Dec.{ltb}
 use lib.ListN.{drop, length}
-use borrow.Author.Tests.{le-ltb, lt-ltb}
-use Rattle.asking.specs.Asking.{contextBytes, contextOf, contextReply, left, memberAt, memberOf, questionOf, standing}
+use borrow.Author.Tests.{le-ltb}
+use Rattle.asking.specs.Asking.{contextBytes, contextOf, contextReply, memberAt, memberOf, questionOf, standing}
 use Rattle.asking.specs.declared.Answer.{Answer}
 use Rattle.asking.specs.declared.Found.{Found}
-use Rattle.lines.specs.Lines.{caseText, fitted, headingOf, lineOf, lineText}
+use Rattle.lines.specs.Lines.{Wrote, caseText, fitted, headingOf, lineOf, lineText, refusalText}
 use Rattle.promises.proofs.Form.{add-tried, parted-done, tried-done, withdraw-parted}
 use Rattle.promises.proofs.InOrder.{in-order-is, in-order-put}
-use Rattle.promises.specs.Calls.{handing, ours, writes}
+use Rattle.promises.proofs.Rows.{less-test, or-test, outside-test, passed, test-off}
+use Rattle.promises.specs.Calls.{Ask, caseLine, context, line, member, ours, over, question, readOf, reads, written}
 use Rattle.promises.specs.Made.{inOrder}
-use Rattle.promises.specs.Standing.{AsTheyStand, Stands}
-use Rattle.promises.specs.Table.{enlarged, handed, lessened}
+use Rattle.promises.specs.Standing.{AsTheyStand, Stands, asRead}
+use Rattle.promises.specs.Table.{ShapedRows, enlarged, handed, lessened}
 use Rattle.replies.specs.declared.Reply.{Reply}
 use Rattle.replies.specs.declared.Reply.the-variants.{Done}
 use Rattle.rules.proofs.Dropping.{dropped-ordered}
@@ -28,6 +31,13 @@ use Rattle.theory.specs.Lists.{choose}
 use Rattle.theory.specs.Sets.{inRange}
 use Rattle.theory.specs.Stages.{Justification}
 
+abbrev wrote : List ℕ → List ℕ → Wrote
+wrote t out = record { answer = written t; bytes = over t out }
+
+fits : (t out : List ℕ) → ltb (length out) (length t) ≡ false → fitted t out ≡ wrote t out
+unfolding fitted
+fits t out h = rw h
+
 module _ (s : Store) (right : rightShape s ≡ true) where
   abbrev N : ℕ
   N = top (s .held)
@@ -35,40 +45,53 @@ module _ (s : Store) (right : rightShape s ≡ true) where
   abbrev A : ℕ
   A = s .held .assumptions
 
-  set-in : (E : ℕ) → E < 2 ^ A → inRange A E ≡ true
-  unfolding inRange
-  set-in E h = lt-ltb E (2 ^ A) h
-
   -- ---- the lists as they stand
 
-  question-stands : (n E : ℕ) → n ≤ N → E < 2 ^ A → questionOf s n E ≡ standing (s .lists) n E
+  question-stands : (n E : ℕ) → ltb N n || not (inRange A E) ≡ false → questionOf s n E ≡ standing (s .lists) n E
   unfolding questionOf
-  question-stands n E l h = rw (right, le-ltb N n l, set-in E h)
+  question-stands n E h = rw (right, h)
 
-  context-done : (E : ℕ) (out : List ℕ) → E < 2 ^ A → N + 1 ≤ length out → contextReply s E (length out) ≡ Done
+  context-done : (E : ℕ) (out : List ℕ) → not (inRange A E) ≡ false → ltb (length out) (N + 1) ≡ false → contextReply s E (length out) ≡ Done
   unfolding contextReply
-  context-done E out h k = rw (right, set-in E h, le-ltb (length out) (N + 1) k)
+  context-done E out h k = rw (right, h, k)
 
-  context-stands : (E : ℕ) (out : List ℕ) → E < 2 ^ A → N + 1 ≤ length out
-      → left (answer (contextReply s E (length out)) s) (contextBytes s E out) ≡ left (answer Done s) (contextOf s E ++ drop (N + 1) out)
+  context-stands : (E : ℕ) (out : List ℕ) → contextReply s E (length out) ≡ Done → contextBytes s E out ≡ contextOf s E ++ drop (N + 1) out
   unfolding contextBytes
-  context-stands E out h k = ap (λ (r : Reply). left (answer r s) (choose (isDone r) (contextOf s E ++ drop (N + 1) out) out)) (context-done E out h k)
+  context-stands E out e = ap (λ (r : Reply). choose (isDone r) (contextOf s E ++ drop (N + 1) out) out) e
 
-  member-stands : (n place : ℕ) → n ≤ N → memberOf s n place ≡ memberAt (s .lists) n place
+  member-stands : (n place : ℕ) → ltb N n ≡ false → memberOf s n place ≡ memberAt (s .lists) n place
   unfolding memberOf
-  member-stands n place l = rw (right, le-ltb N n l)
+  member-stands n place h = rw (right, h)
 
-  fits : (t out : List ℕ) → length t ≤ length out → handing s (fitted t out) ≡ writes s t out
-  unfolding fitted
-  fits t out h = rw (le-ltb (length out) (length t) h)
-
-  line-stands : (n : ℕ) (out : List ℕ) → n ≤ N → length (lineText (s .lists) n) ≤ length out → handing s (lineOf s n out) ≡ writes s (lineText (s .lists) n) out
+  line-stands : (n : ℕ) (out : List ℕ) → ltb N n ≡ false → ltb (length out) (length (lineText (s .lists) n)) ≡ false → lineOf s n out ≡ wrote (lineText (s .lists) n) out
   unfolding lineOf
-  line-stands n out l h = rw (right, le-ltb N n l) (fits (lineText (s .lists) n) out h)
+  line-stands n out h k = rw (right, h) (fits (lineText (s .lists) n) out k)
 
-  heading-stands : (out : List ℕ) → length (caseText s) ≤ length out → handing s (headingOf s out) ≡ writes s (caseText s) out
+  heading-stands : (out : List ℕ) → ltb (length out) (length (caseText s)) ≡ false → headingOf s out ≡ wrote (caseText s) out
   unfolding headingOf
   heading-stands out h = rw right (fits (caseText s) out h)
+
+  read-stands : (a : Ask) → ShapedRows s a 0 → readOf s a ≡ asRead s a
+  unfolding contextOf
+  read-stands (question n E) w =
+      let p = passed _ _ _ w (λ z. omega arith) in
+      ap (λ (x : Answer). reads (question n E) x s []) (question-stands n E (test-off (ltb N n || not (inRange A E)) (or-test (less-test N n) (outside-test s E)) (p .0)))
+  read-stands (context E out) w =
+      let p = passed _ _ _ w (λ z. omega arith) in
+      let q = passed _ _ _ (p .1) (λ z. omega arith) in
+      let d = context-done E out (test-off (not (inRange A E)) (outside-test s E) (p .0)) (test-off (ltb (length out) (N + 1)) (less-test (length out) (N + 1)) (q .0)) in
+      ap₂ (λ (x : Reply) (b : List ℕ). reads (context E out) x s b) d (context-stands E out d)
+  read-stands (member n place) w =
+      let p = passed _ _ _ w (λ z. omega arith) in
+      ap (λ (x : Found). reads (member n place) x s []) (member-stands n place (test-off (ltb N n) (less-test N n) (p .0)))
+  read-stands (line n out) w =
+      let p = passed _ _ _ w (λ z. omega arith) in
+      let q = passed _ _ _ (p .1) (λ z. omega arith) in
+      let t : List ℕ = lineText (s .lists) n in
+      ap (λ (x : Wrote). reads (line n out) (x .answer) s (x .bytes)) (line-stands n out (test-off (ltb N n) (less-test N n) (p .0)) (test-off (ltb (length out) (length t)) (less-test (length out) (length t)) (q .0)))
+  read-stands (caseLine out) w =
+      let p = passed _ _ _ w (λ z. omega arith) in
+      ap (λ (x : Wrote). reads (caseLine out) (x .answer) s (x .bytes)) (heading-stands out (test-off (ltb (length out) (length (caseText s))) (less-test (length out) (length (caseText s))) (p .0)))
 
   -- ---- the justifications alone
 
@@ -87,16 +110,10 @@ module _ (s : Store) (right : rightShape s ≡ true) where
       ap (storeOf noStore A (s .held .claims)) (sym o) ∙ p .store
 
   stands : Stands ours s
-  unfolding contextOf
-  stands = record {
-    question = λ n E l h. ap (λ (a : Answer). record { answer = a; store = s }) (question-stands n E l h);
-    context = context-stands;
-    member = λ n place l. ap (λ (a : Found). record { answer = a; store = s }) (member-stands n place l);
-    line = line-stands;
-    heading = heading-stands;
-    adding = adding-stands;
-    withdrawing = withdrawing-stands;
-  }
+  stands = record { reading = read-stands; adding = adding-stands; withdrawing = withdrawing-stands }
 
 pub as-they-stand : AsTheyStand ours
-as-they-stand = record { stands = stands }
+as-they-stand = record {
+  stands = stands;
+  refusal = λ r k out h. fits (refusalText r k) out (le-ltb (length out) (length (refusalText r k)) h);
+}

@@ -12,17 +12,19 @@ use Rattle.asking.specs.Asking.{answerNumber, contextReply, memberAt, memberNum
 use Rattle.asking.specs.declared.Answer.the-variants.{Inconsistent, Refused, Supported, Unsupported}
 use Rattle.asking.specs.declared.Found.the-variants.{Is, Not}
 use Rattle.casefile.specs.Load.{loadOf}
-use Rattle.lines.specs.Lines.{Wrote, caseText, fitted, headingOf, kept, lineOf, lineText, writtenNumber}
+use Rattle.lines.specs.Lines.{Wrote, caseText, fitted, headingOf, kept, lineOf, lineText, refusalText, writtenNumber}
 use Rattle.lines.specs.declared.Written.the-variants.{Length}
-use Rattle.promises.proofs.Filing.{load-names, load-one, load-told, reportOf}
+use Rattle.numbers.specs.Numbers.{numberAt}
+use Rattle.promises.proofs.Filing.{decode-one, decode-told, load-names, load-one, load-told, reportOf}
 use Rattle.promises.proofs.Full.{VerdictSays, judge-says}
-use Rattle.promises.proofs.Rows.{Names, Tests, by-choice, exactly, fault-told, given-one, less-test, most-test, names-choice, no-row-one, not-test, or-test, stages-name, stages-one, stages-told, unnamed}
+use Rattle.promises.proofs.Rows.{Names, Tests, by-choice, exactly, fault-told, given-one, less-test, most-test, names-choice, no-row-one, not-test, or-test, outside-test, stages-name, stages-one, stages-told, unnamed}
 use Rattle.promises.proofs.Telling.{covered}
-use Rattle.promises.specs.Calls.{ours}
-use Rattle.promises.specs.OneAnswer.{One}
+use Rattle.promises.specs.Calls.{Ask, caseLine, context, line, member, numberSaid, ours, question, readOf}
+use Rattle.promises.specs.Once.{One}
 use Rattle.promises.specs.Room.{LabelFull}
-use Rattle.promises.specs.Table.{AddRows, ContextRows, HeadingRows, LineRows, LoadRows, MemberRows, OpenRows, Outside, QuestionRows, ReplyTable, StageRows, WithdrawRows, enlarged, given, handed, lessened, noRow}
-use Rattle.replies.proofs.Numbers.{no-ten}
+use Rattle.promises.specs.Rows.{given, noRow}
+use Rattle.promises.specs.Table.{AddRows, AskRows, DecodeRows, JudgeRows, LoadRows, OpenRows, RefusalRows, ReplyTable, ShapedRows, StageRows, WithdrawRows, enlarged, handed, lessened, reported}
+use Rattle.replies.proofs.Laws.{no-ten}
 use Rattle.replies.specs.Replies.{numberOf}
 use Rattle.replies.specs.declared.Reply.{Reply}
 use Rattle.replies.specs.declared.Reply.the-variants.{Already, Counts, Done, Falsity, Full, Number, Place, Shape, Short, Supports, Unheld}
@@ -32,10 +34,11 @@ use Rattle.rules.proofs.Order.{mem-same, same-mem}
 use Rattle.rules.proofs.Putting.{put-cases, put-new, put-old}
 use Rattle.rules.specs.Held.{dropped, heldOf, put, saidBy}
 use Rattle.rules.specs.Items.{faultOf, sameJustification}
-use Rattle.store.proofs.Shapes.{shape-elim}
-use Rattle.store.specs.Calls.{addOf, answer, isDone, joinedBy, noStore, openOf, partedFrom, startStore, storeOf, withdrawOf}
+use Rattle.rules.specs.declared.Held.{Held}
+use Rattle.store.proofs.Shapes.{fits-elim, shape-elim}
+use Rattle.store.specs.Calls.{addOf, answer, isDone, joinedBy, judgedOf, noStore, openOf, partedFrom, startStore, storeOf, withdrawOf}
 use Rattle.store.specs.Reading.{labelHeld, listHeld, nogoodsHeld}
-use Rattle.store.specs.Shape.{rightShape, top}
+use Rattle.store.specs.Shape.{heldFits, rightShape, top}
 use Rattle.store.specs.declared.Outcome.{Outcome}
 use Rattle.store.specs.declared.Store.{Store}
 use Rattle.theory.proofs.Lists.{clash}
@@ -210,15 +213,41 @@ module _ (s : Store) (c : ℕ) (l : List ℕ) where
   withdraw-one : One (WithdrawRows s c l)
   withdraw-one = given-one _ _ _ (given-one _ _ _ (given-one _ _ _ (given-one _ _ _ (given-one _ _ _ (stages-one B most K)))))
 
+-- ---- judging what is held
+
+module _ (h : Held) where
+  module _ (fits : heldFits h ≡ true) where
+    judged-says : VerdictSays (h .assumptions) (top h) (saidBy h) (judge limits (h .assumptions) (top h) (saidBy h))
+    judged-says =
+        let f = fits-elim h fits in
+        judge-says (h .assumptions) (top h) (saidBy h) (λ j m t k. right-range h (f .right) j m .between t k .1) (judge limits (h .assumptions) (top h) (saidBy h)) refl
+
+    judged-told : StageRows (h .assumptions) (top h) (saidBy h) (replied (storeOf noStore (h .assumptions) (h .claims) (saidBy h)))
+    unfolding storeOf
+    judged-told =
+        stages-told (h .assumptions) (top h) (saidBy h) noStore (heldOf (h .assumptions) (h .claims) (saidBy h)) (judge limits (h .assumptions) (top h) (saidBy h)) judged-says
+
+    judged-named : Names (LabelFull (h .assumptions) (top h) (saidBy h)) (storeOf noStore (h .assumptions) (h .claims) (saidBy h) .reply)
+    unfolding storeOf
+    judged-named = stages-name (h .assumptions) (top h) (saidBy h) noStore (heldOf (h .assumptions) (h .claims) (saidBy h)) (judge limits (h .assumptions) (top h) (saidBy h)) judged-says
+
+  judge-told : JudgeRows h (replied (judgedOf h))
+  unfolding judgedOf
+  judge-told = by-choice _ replied (not (heldFits h)) (answer Shape noStore) (storeOf noStore (h .assumptions) (h .claims) (saidBy h)) (not-test (heldFits h)) refl (λ p. judged-told (not-false (heldFits h) p))
+
+  judge-names : Names (LabelFull (h .assumptions) (top h) (saidBy h)) (judgedOf h .reply)
+  unfolding judgedOf
+  judge-names =
+      names-choice _ (λ (o : Outcome). o .reply) (not (heldFits h)) (answer Shape noStore) (storeOf noStore (h .assumptions) (h .claims) (saidBy h)) (unnamed _ Shape refl (λ z. omega arith))
+      (λ p. judged-named (not-false (heldFits h) p))
+
 -- ---- the calls that read
 
-module _ (s : Store) where
-  outside-test : (E : ℕ) → Tests (not (inRange (s .held .assumptions) E)) (Outside s E)
-  unfolding inRange
-  outside-test E =
-      let w : ℕ = 2 ^ (s .held .assumptions) in
-      record { so = λ h. ltb-false E w (not-true (ltb E w) h); not-so = λ h p. clash (not-false (ltb E w) h) (le-ltb E w p) }
+fitted-told : (t out : List ℕ) → given (length out < length t) 15 noRow (wrote (fitted t out))
+unfolding fitted
+fitted-told t out = by-choice noRow wrote (ltb (length out) (length t)) (kept Short out) (record { answer = Length (length t); bytes = t ++ drop (length t) out }) (less-test (length out) (length t)) refl (λ z. refl)
 
+module _ (s : Store) where
   -- none of the three answers is a refusal
   standing-zero : (n E : ℕ) → answerNumber (standing (s .lists) n E) ≡ 0
   unfolding standing
@@ -229,42 +258,33 @@ module _ (s : Store) where
       go false true = refl
       go false false = refl
 
-  question-told : (n E : ℕ) → QuestionRows s n E (answerNumber (questionOf s n E))
-  unfolding questionOf
-  question-told n E =
+  read-told : (a : Ask) → AskRows s a (numberSaid a (readOf s a .said))
+  unfolding questionOf contextReply memberOf memberAt lineOf headingOf
+  read-told (question n E) =
       let out : Bool = ltb (top (s .held)) n || not (inRange (s .held .assumptions) E) in
       by-choice _ answerNumber (not (rightShape s)) (Refused Shape) (choose out (Refused Number) (standing (s .lists) n E)) (not-test (rightShape s)) refl
-      (λ p. by-choice noRow answerNumber out (Refused Number) (standing (s .lists) n E) (or-test (less-test (top (s .held)) n) (outside-test E)) refl (λ q. standing-zero n E))
-
-  context-told : (E : ℕ) (out : List ℕ) → ContextRows s E out (numberOf (contextReply s E (length out)))
-  unfolding contextReply
-  context-told E out =
+      (λ p. by-choice noRow answerNumber out (Refused Number) (standing (s .lists) n E) (or-test (less-test (top (s .held)) n) (outside-test s E)) refl (λ q. standing-zero n E))
+  read-told (context E out) =
       by-choice _ numberOf (not (rightShape s)) Shape (choose (not (inRange (s .held .assumptions) E)) Number (choose (ltb (length out) (top (s .held) + 1)) Short Done)) (not-test (rightShape s)) refl
-      (λ p. by-choice _ numberOf (not (inRange (s .held .assumptions) E)) Number (choose (ltb (length out) (top (s .held) + 1)) Short Done) (outside-test E) refl
+      (λ p. by-choice _ numberOf (not (inRange (s .held .assumptions) E)) Number (choose (ltb (length out) (top (s .held) + 1)) Short Done) (outside-test s E) refl
       (λ q. by-choice noRow numberOf (ltb (length out) (top (s .held) + 1)) Short Done (less-test (length out) (top (s .held) + 1)) refl (λ z. refl)))
-
-  member-told : (n place : ℕ) → MemberRows s n place (memberNumber (memberOf s n place))
-  unfolding memberOf memberAt
-  member-told n place =
+  read-told (member n place) =
       let l : List ℕ = listHeld (s .lists) n in
       by-choice _ memberNumber (not (rightShape s)) (Not Shape) (choose (ltb (top (s .held)) n) (Not Number) (choose (leb (length l) place) (Not Place) (Is (getD l place 0)))) (not-test (rightShape s)) refl
       (λ p. by-choice _ memberNumber (ltb (top (s .held)) n) (Not Number) (choose (leb (length l) place) (Not Place) (Is (getD l place 0))) (less-test (top (s .held)) n) refl
       (λ q. by-choice noRow memberNumber (leb (length l) place) (Not Place) (Is (getD l place 0)) (most-test (length l) place) refl (λ z. refl)))
-
-  fitted-told : (t out : List ℕ) → given (length out < length t) 15 noRow (wrote (fitted t out))
-  unfolding fitted
-  fitted-told t out = by-choice noRow wrote (ltb (length out) (length t)) (kept Short out) (record { answer = Length (length t); bytes = t ++ drop (length t) out }) (less-test (length out) (length t)) refl (λ z. refl)
-
-  line-told : (n : ℕ) (out : List ℕ) → LineRows s n out (wrote (lineOf s n out))
-  unfolding lineOf
-  line-told n out =
+  read-told (line n out) =
       let w : Wrote = fitted (lineText (s .lists) n) out in
       by-choice _ wrote (not (rightShape s)) (kept Shape out) (choose (ltb (top (s .held)) n) (kept Number out) w) (not-test (rightShape s)) refl
       (λ p. by-choice _ wrote (ltb (top (s .held)) n) (kept Number out) w (less-test (top (s .held)) n) refl (λ q. fitted-told (lineText (s .lists) n) out))
+  read-told (caseLine out) = by-choice _ wrote (not (rightShape s)) (kept Shape out) (fitted (caseText s) out) (not-test (rightShape s)) refl (λ p. fitted-told (caseText s) out)
 
-  heading-told : (out : List ℕ) → HeadingRows s out (wrote (headingOf s out))
-  unfolding headingOf
-  heading-told out = by-choice _ wrote (not (rightShape s)) (kept Shape out) (fitted (caseText s) out) (not-test (rightShape s)) refl (λ p. fitted-told (caseText s) out)
+  shaped-one : (a : Ask) → One (ShapedRows s a)
+  shaped-one (question n E) = given-one _ _ _ no-row-one
+  shaped-one (context E out) = given-one _ _ _ (given-one _ _ _ no-row-one)
+  shaped-one (member n place) = given-one _ _ _ (given-one _ _ _ no-row-one)
+  shaped-one (line n out) = given-one _ _ _ (given-one _ _ _ no-row-one)
+  shaped-one (caseLine out) = given-one _ _ _ no-row-one
 
 -- ---- all of it
 
@@ -273,14 +293,15 @@ reply-table = record {
   opening = λ A M. exactly (OpenRows A M) (replied (openOf A M)) (given-one _ _ _ no-row-one) (open-told A M);
   adding = λ s c l. exactly (AddRows s c l) (replied (addOf s c l)) (add-one s c l) (add-told s c l);
   withdrawing = λ s c l. exactly (WithdrawRows s c l) (replied (withdrawOf s c l)) (withdraw-one s c l) (withdraw-told s c l);
-  question = λ s n E. exactly (QuestionRows s n E) (answerNumber (questionOf s n E)) (given-one _ _ _ (given-one _ _ _ no-row-one)) (question-told s n E);
-  context = λ s E out. exactly (ContextRows s E out) (numberOf (contextReply s E (length out))) (given-one _ _ _ (given-one _ _ _ (given-one _ _ _ no-row-one))) (context-told s E out);
-  member = λ s n place. exactly (MemberRows s n place) (memberNumber (memberOf s n place)) (given-one _ _ _ (given-one _ _ _ (given-one _ _ _ no-row-one))) (member-told s n place);
-  line = λ s n out. exactly (LineRows s n out) (wrote (lineOf s n out)) (given-one _ _ _ (given-one _ _ _ (given-one _ _ _ no-row-one))) (line-told s n out);
-  heading = λ s out. exactly (HeadingRows s out) (wrote (headingOf s out)) (given-one _ _ _ (given-one _ _ _ no-row-one)) (heading-told s out);
+  reading = λ s a. exactly (AskRows s a) (numberSaid a (readOf s a .said)) (given-one _ _ _ (shaped-one s a)) (read-told s a);
   loading = λ bytes. exactly (LoadRows bytes) (reportOf (loadOf bytes)) (load-one bytes) (load-told bytes);
+  judging = λ h. exactly (JudgeRows h) (replied (judgedOf h)) (given-one _ _ _ (stages-one (h .assumptions) (top h) (saidBy h))) (judge-told h);
+  shape = λ s. refl;
+  refusal = λ r k out. exactly (RefusalRows r k out) (wrote (fitted (refusalText r k) out)) (given-one _ _ _ no-row-one) (fitted-told (refusalText r k) out);
+  decoding = λ bytes at. exactly (DecodeRows bytes at) (reported (numberAt bytes at)) (decode-one bytes at) (decode-told bytes at);
   adding-names = add-names;
   withdrawing-names = withdraw-names;
   loading-names = load-names;
+  judging-names = judge-names;
   no-ten = no-ten;
 }

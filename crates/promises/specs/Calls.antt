@@ -1,54 +1,116 @@
 -- The calls as one value, so that a demand can be said of any program. Assumes nothing.
-use mathlib.Core.List.{List, _++_}
+use mathlib.Core.Bool.{Bool}
+use mathlib.Core.List.{List, [], _++_}
 use Prim.Native.Nat.{ℕ}
 use lib.ListN.{drop, length}
-use Rattle.asking.specs.Asking.{Left, contextBytes, contextReply, left, memberOf, questionOf}
-use Rattle.asking.specs.declared.Asked.{Asked}
-use Rattle.asking.specs.declared.Shown.{Shown}
+use Rattle.asking.specs.Asking.{answerNumber, contextBytes, contextReply, memberNumber, memberOf, questionOf}
+use Rattle.asking.specs.declared.Answer.{Answer}
+use Rattle.asking.specs.declared.Found.{Found}
 use Rattle.casefile.specs.Load.{loadOf}
 use Rattle.casefile.specs.declared.Loaded.{Loaded}
-use Rattle.lines.specs.Lines.{Wrote, headingOf, lineOf}
-use Rattle.lines.specs.declared.Listed.{Listed}
+use Rattle.lines.specs.Lines.{Wrote, fitted, headingOf, lineOf, refusalText, writtenNumber}
+use Rattle.lines.specs.declared.Written.{Written}
 use Rattle.lines.specs.declared.Written.the-variants.{Length}
-use Rattle.store.specs.Calls.{addOf, answer, openOf, withdrawOf}
+use Rattle.numbers.specs.Numbers.{numberAt}
+use Rattle.numbers.specs.declared.Number.{Number}
+use Rattle.replies.specs.Replies.{numberOf}
+use Rattle.replies.specs.declared.Reply.{Reply}
+use Rattle.rules.specs.declared.Held.{Held}
+use Rattle.store.specs.Calls.{addOf, judgedOf, openOf, withdrawOf}
+use Rattle.store.specs.Shape.{rightShape}
 use Rattle.store.specs.declared.Outcome.{Outcome}
 use Rattle.store.specs.declared.Store.{Store}
 
--- what a call that writes a line leaves: its answer, with the store in it, and the lent bytes
-pub record Line : Type 0 where
-  pub listed : Listed
+-- ---- the calls that read
+
+-- what a store is asked
+pub data Ask : Type 0 where
+  -- of a number and a set
+  question : ℕ → ℕ → Ask
+  -- of a set, into lent bytes
+  context : ℕ → List ℕ → Ask
+  -- of a number and a place from 0
+  member : ℕ → ℕ → Ask
+  -- the text line of a number, and the first line of a listing, into lent bytes
+  line : ℕ → List ℕ → Ask
+  caseLine : List ℕ → Ask
+
+-- what is said to each
+abbrev pub Said : Ask → Type 0
+Said (question n E) = Answer
+Said (context E out) = Reply
+Said (member n place) = Found
+Said (line n out) = Written
+Said (caseLine out) = Written
+
+-- the document's number of it
+abbrev pub numberSaid : (a : Ask) → Said a → ℕ
+numberSaid (question n E) x = answerNumber x
+numberSaid (context E out) x = numberOf x
+numberSaid (member n place) x = memberNumber x
+numberSaid (line n out) x = writtenNumber x
+numberSaid (caseLine out) x = writtenNumber x
+
+-- the bytes lent to the call; none where it takes none
+abbrev pub lentTo : Ask → List ℕ
+lentTo (question n E) = []
+lentTo (context E out) = out
+lentTo (member n place) = []
+lentTo (line n out) = out
+lentTo (caseLine out) = out
+
+-- what a call that reads leaves: what it says, the store, and the lent bytes
+pub record Read (a : Ask) : Type 0 where
+  pub said : Said a
+  pub store : Store
   pub bytes : List ℕ
 
-abbrev pub handing : Store → Wrote → Line
-handing s w = record { listed = record { answer = w .answer; store = s }; bytes = w .bytes }
+abbrev pub reads : (a : Ask) → Said a → Store → List ℕ → Read a
+reads a x s b = record { said = x; store = s; bytes = b }
 
 -- the text t and its length, bytes after it kept
-abbrev pub writes : Store → List ℕ → List ℕ → Line
-writes s t out = record { listed = record { answer = Length (length t); store = s }; bytes = t ++ drop (length t) out }
+abbrev pub written : List ℕ → Written
+written t = Length (length t)
 
--- each call takes the store by value and hands one back; those that write also say what they leave in the lent bytes
+abbrev pub over : List ℕ → List ℕ → List ℕ
+over t out = t ++ drop (length t) out
+
+-- ---- all of them
+
+-- a call that has a store takes it by value and hands one back
 pub record Calls : Type 0 where
   pub opening : ℕ → ℕ → Outcome
+  pub loading : List ℕ → Loaded
+  -- the store of what is held, judged anew
+  pub judging : Held → Outcome
   pub adding : Store → ℕ → List ℕ → Outcome
   pub withdrawing : Store → ℕ → List ℕ → Outcome
-  pub question : Store → ℕ → ℕ → Asked
-  pub context : Store → ℕ → List ℕ → Left
-  pub member : Store → ℕ → ℕ → Shown
-  pub loading : List ℕ → Loaded
-  -- the text line of a number, and the first line of a listing
-  pub line : Store → ℕ → List ℕ → Line
-  pub heading : Store → List ℕ → Line
+  pub reading : Store → (a : Ask) → Read a
+  -- whether a store has the right shape
+  pub shape : Store → Bool
+  -- the line of a refusal with its record, into lent bytes
+  pub refusal : Reply → ℕ → List ℕ → Wrote
+  -- the number at a place of the bytes of a file
+  pub decoding : List ℕ → ℕ → Number
 
--- ours: what the contracts of the product's calls say of every answer (`Cited`)
+-- what the contracts of the product's calls that read say
+abbrev pub readOf : Store → (a : Ask) → Read a
+readOf s (question n E) = reads (question n E) (questionOf s n E) s []
+readOf s (context E out) = reads (context E out) (contextReply s E (length out)) s (contextBytes s E out)
+readOf s (member n place) = reads (member n place) (memberOf s n place) s []
+readOf s (line n out) = reads (line n out) (lineOf s n out .answer) s (lineOf s n out .bytes)
+readOf s (caseLine out) = reads (caseLine out) (headingOf s out .answer) s (headingOf s out .bytes)
+
+-- ours: what the contracts of the product's calls say of every answer (`Coded`)
 abbrev pub ours : Calls
 ours = record {
   opening = openOf;
+  loading = loadOf;
+  judging = judgedOf;
   adding = addOf;
   withdrawing = withdrawOf;
-  question = λ s n E. record { answer = questionOf s n E; store = s };
-  context = λ s E out. left (answer (contextReply s E (length out)) s) (contextBytes s E out);
-  member = λ s n place. record { answer = memberOf s n place; store = s };
-  loading = loadOf;
-  line = λ s n out. handing s (lineOf s n out);
-  heading = λ s out. handing s (headingOf s out);
+  reading = readOf;
+  shape = rightShape;
+  refusal = λ r k out. fitted (refusalText r k) out;
+  decoding = numberAt;
 }

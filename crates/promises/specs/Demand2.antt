@@ -6,15 +6,14 @@ use mathlib.Core.Path.{_≡_}
 use Prim.Native.Nat.{_+_, _<_, _^_, _≤_, suc, zero, ℕ}
 use lib.Dec.{leb}
 use lib.ListN.{drop, getD, length}
-use Rattle.asking.specs.Asking.{left}
 use Rattle.asking.specs.declared.Answer.{Answer}
 use Rattle.asking.specs.declared.Answer.the-variants.{Inconsistent, Refused, Supported, Unsupported}
 use Rattle.asking.specs.declared.Found.{Found}
 use Rattle.asking.specs.declared.Found.the-variants.{Is, Not}
 use Rattle.casefile.specs.Case.{Case, caseOf, whole}
 use Rattle.lines.specs.Lines.{wordOf}
-use Rattle.promises.specs.Calls.{Calls, writes}
-use Rattle.promises.specs.Made.{Made, inOrder, putIn}
+use Rattle.promises.specs.Calls.{Calls, caseLine, context, line, member, over, question, reads, written}
+use Rattle.promises.specs.Made.{Input, Made, inOrder, putIn}
 use Rattle.promises.specs.Room.{AddSays, Reaches, StagesSay, WithdrawSays}
 use Rattle.replies.specs.declared.Reply.{Reply}
 use Rattle.replies.specs.declared.Reply.the-variants.{Done, Place}
@@ -32,7 +31,7 @@ use Rattle.theory.specs.Stages.{Justification, labelAt, nogoodsAt}
 -- ---- questions
 
 -- when each answer is given, of a number n and a set E in range
-abbrev pub QuestionSays : List Justification → ℕ → ℕ → Answer → Type 0
+abbrev pub QuestionSays : Input → ℕ → ℕ → Answer → Type 0
 QuestionSays H n E Inconsistent = contradicts H E ≡ true
 -- the set contradicts nothing and n follows from it by the rules held
 QuestionSays H n E Supported = carries H E n ≡ true
@@ -40,7 +39,7 @@ QuestionSays H n E Unsupported = (contradicts H E ≡ false) × (carries H E n �
 QuestionSays H n E (Refused r) = ⊥
 
 -- 2 if E is inconsistent, else 1 if n is supported, else 0
-abbrev pub byteBy : List Justification → ℕ → ℕ → ℕ
+abbrev pub byteBy : Input → ℕ → ℕ → ℕ
 byteBy H E n = choose (contradicts H E) 2 (choose (carries H E n) 1 0)
 
 -- ---- lists
@@ -57,7 +56,7 @@ pub record ListsSmallest (A : ℕ) (P : ℕ → Bool) (l : List ℕ) : Type 0 wh
   pub order : sortedBy before l ≡ true
 
 -- what is listed for n: for 0 the sets that contradict themselves, else those that carry n
-abbrev pub listedFor : List Justification → ℕ → ℕ → Bool
+abbrev pub listedFor : Input → ℕ → ℕ → Bool
 listedFor H zero E = contradicts H E
 listedFor H (suc i) E = carries H E (suc i)
 
@@ -69,26 +68,30 @@ atPlace l place = choose (leb (length l) place) (Not Place) (Is (getD l place 0)
 abbrev pub textOf : ℕ → List ℕ → List ℕ
 textOf n l = row 32 n (wordOf n l) l
 
+-- line one: A, M, distinct justifications held, depth
+abbrev pub firstText : ℕ → ℕ → Input → Store → List ℕ
+firstText A M H s = heading A M (length (inOrder H)) (s .lists .depth)
+
 -- the least k for which all labels and nogoods at k and k + 1 agree
-pub record IsDepth (A N : ℕ) (H : List Justification) (k : ℕ) : Type 0 where
+pub record IsDepth (A N : ℕ) (H : Input) (k : ℕ) : Type 0 where
   pub agrees : stageAt A N H k ≡ stageAt A N H (suc k)
   pub least : (i : ℕ) → i < k → stageAt A N H i ≡ stageAt A N H (suc i) → ⊥
 
 -- ---- a store s with A assumptions and M claims, in which H was put
 
-pub record Tells (C : Calls) (A M : ℕ) (H : List Justification) (s : Store) : Type 0 where
+pub record Tells (C : Calls) (A M : ℕ) (H : Input) (s : Store) : Type 0 where
   -- for every number and every set of assumptions
-  pub question : (n E : ℕ) → n ≤ A + M → E < 2 ^ A → (a : Answer) → (C .question s n E .answer ≡ a) ↔ QuestionSays H n E a
+  pub question : (n E : ℕ) → n ≤ A + M → E < 2 ^ A → (a : Answer) → (C .reading s (question n E) .said ≡ a) ↔ QuestionSays H n E a
   -- byte n, for n from 0 to A + M; bytes from A + M + 1 on are kept
-  pub context : (E : ℕ) (out : List ℕ) → E < 2 ^ A → A + M + 1 ≤ length out → C .context s E out ≡ left (answer Done s) (table (A + M + 1) (byteBy H E) ++ drop (A + M + 1) out)
+  pub context : (E : ℕ) (out : List ℕ) → E < 2 ^ A → A + M + 1 ≤ length out → C .reading s (context E out) ≡ reads (context E out) Done s (table (A + M + 1) (byteBy H E) ++ drop (A + M + 1) out)
   -- each label lists the sets of this kind that have no smaller one inside them, all of them, once; so do the nogoods
   pub label : (n : ℕ) → n ≤ A + M → ListsSmallest A (λ E. carries H E n) (labelHeld (s .lists) n)
   pub nogoods : ListsSmallest A (contradicts H) (nogoodsHeld (s .lists))
   -- member reads them, place by place (only one list is so: the order is strict)
-  pub member : (n : ℕ) → n ≤ A + M → (l : List ℕ) × ListsSmallest A (listedFor H n) l × ((place : ℕ) → C .member s n place .answer ≡ atPlace l place)
-  -- so does the text line, of that one list; line one has A, M, distinct justifications held, depth
-  pub line : (n : ℕ) → n ≤ A + M → (l : List ℕ) × ListsSmallest A (listedFor H n) l × ((out : List ℕ) → length (textOf n l) ≤ length out → C .line s n out ≡ writes s (textOf n l) out)
-  pub heading : (out : List ℕ) → length (heading A M (length (inOrder H)) (s .lists .depth)) ≤ length out → C .heading s out ≡ writes s (heading A M (length (inOrder H)) (s .lists .depth)) out
+  pub member : (n : ℕ) → n ≤ A + M → (l : List ℕ) × ListsSmallest A (listedFor H n) l × ((place : ℕ) → C .reading s (member n place) .said ≡ atPlace l place)
+  -- so does the text line, of that one list; and line one
+  pub line : (n : ℕ) → n ≤ A + M → (l : List ℕ) × ListsSmallest A (listedFor H n) l × ((out : List ℕ) → length (textOf n l) ≤ length out → C .reading s (line n out) ≡ reads (line n out) (written (textOf n l)) s (over (textOf n l) out))
+  pub caseLine : (out : List ℕ) → length (firstText A M H s) ≤ length out → C .reading s (caseLine out) ≡ reads (caseLine out) (written (firstText A M H s)) s (over (firstText A M H s) out)
   -- the depth; the store's labels and nogoods are those at the depth, and every later stage agrees with them
   pub depth : IsDepth A (A + M) H (s .lists .depth)
   -- it never exceeds the number of different consequents, falsity counted
@@ -109,6 +112,6 @@ pub record Demand2 (C : Calls) : Type 0 where
   -- a file without fault: the stages of its whole set decide
   pub loads : (bytes : List ℕ) (f : Case) → caseOf bytes ≡ whole f → (r : Reply) → (C .loading bytes .reply ≡ r) ↔ StagesSay (f .header .assumptions) (f .header .assumptions + f .header .claims) (putIn f) r
   -- every store made by the calls tells the truth of what was put in
-  pub tells : {A M : ℕ} {H : List Justification} {s : Store} → Made C A M H s → Tells C A M H s
+  pub tells : {A M : ℕ} {H : Input} {s : Store} → Made C A M H s → Tells C A M H s
   -- a justification that names its own consequent as a support is held and changes no label
-  pub self-support : {A M : ℕ} {H : List Justification} {s : Store} (c : ℕ) (l : List ℕ) → Made C A M H s → Reaches A M H c l → Mem c l → (t : Store) × (C .adding s c l ≡ answer Done t) × (t .lists ≡ s .lists)
+  pub self-support : {A M : ℕ} {H : Input} {s : Store} (c : ℕ) (l : List ℕ) → Made C A M H s → Reaches A M H c l → Mem c l → (t : Store) × (C .adding s c l ≡ answer Done t) × (t .lists ≡ s .lists)

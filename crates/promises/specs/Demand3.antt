@@ -3,8 +3,8 @@ use mathlib.Core.List.{List, List·Memᴰ as Mem, _++_, _∷_}
 use mathlib.Core.Path.{_≡_}
 use Prim.Native.Nat.{_+_, ℕ}
 use Rattle.casefile.specs.Case.{Case, caseOf, whole}
-use Rattle.promises.specs.Calls.{Calls}
-use Rattle.promises.specs.Made.{Made, SameMembers, putIn}
+use Rattle.promises.specs.Calls.{Ask, Calls}
+use Rattle.promises.specs.Made.{Input, Made, SameMembers, putIn}
 use Rattle.replies.specs.declared.Reply.the-variants.{Already, Done}
 use Rattle.rules.specs.Held.{saidBy}
 use Rattle.rules.specs.Items.{faultOf, justificationOf}
@@ -20,43 +20,40 @@ pub record Same (C : Calls) (s t : Store) : Type 0 where
   pub depth : s .lists .depth ≡ t .lists .depth
   pub adding : (c : ℕ) (l : List ℕ) → C .adding s c l ≡ C .adding t c l
   pub withdrawing : (c : ℕ) (l : List ℕ) → C .withdrawing s c l ≡ C .withdrawing t c l
-  pub question : (n E : ℕ) → C .question s n E ≡ C .question t n E
-  pub context : (E : ℕ) (out : List ℕ) → C .context s E out ≡ C .context t E out
-  pub member : (n place : ℕ) → C .member s n place ≡ C .member t n place
-  pub line : (n : ℕ) (out : List ℕ) → C .line s n out ≡ C .line t n out
-  pub heading : (out : List ℕ) → C .heading s out ≡ C .heading t out
+  pub reading : (a : Ask) → C .reading s a ≡ C .reading t a
+  pub shape : C .shape s ≡ C .shape t
   -- they are one store, so whatever is made of them is the same
   pub store : s ≡ t
 
 -- K is H in another order: neighbours change places, as often as one likes
-pub data Reordered : List Justification → List Justification → Type 0 where
-  unmoved : {H : List Justification} → Reordered H H
-  swapped : (H : List Justification) (i j : Justification) (K : List Justification) → Reordered (H ++ i ∷ j ∷ K) (H ++ j ∷ i ∷ K)
-  further : {H K L : List Justification} → Reordered H K → Reordered K L → Reordered H L
+pub data Reordered : Input → Input → Type 0 where
+  unmoved : {H : Input} → Reordered H H
+  swapped : (H : Input) (i j : Justification) (K : Input) → Reordered (H ++ i ∷ j ∷ K) (H ++ j ∷ i ∷ K)
+  further : {H K L : Input} → Reordered H K → Reordered K L → Reordered H L
 
 pub record Demand3 (C : Calls) : Type 0 where
   -- the same was put in by the calls answered 0
-  pub put-in : {A M : ℕ} {H K : List Justification} {s t : Store} → Made C A M H s → Made C A M K t → SameMembers H K → Same C s t
+  pub put-in : {A M : ℕ} {H K : Input} {s t : Store} → Made C A M H s → Made C A M K t → SameMembers H K → Same C s t
   -- the same rules are held
-  pub held : {A M : ℕ} {H K : List Justification} {s t : Store} → Made C A M H s → Made C A M K t → SameMembers (saidBy (s .held)) (saidBy (t .held)) → Same C s t
+  pub held : {A M : ℕ} {H K : Input} {s t : Store} → Made C A M H s → Made C A M K t → SameMembers (saidBy (s .held)) (saidBy (t .held)) → Same C s t
   -- added in any order
-  pub any-order : {A M : ℕ} {H K : List Justification} {s t : Store} → Made C A M H s → Made C A M K t → Reordered H K → Same C s t
+  pub any-order : {A M : ℕ} {H K : Input} {s t : Store} → Made C A M H s → Made C A M K t → Reordered H K → Same C s t
   -- .. two in particular
-  pub two-orders : {A M : ℕ} {H : List Justification} {s s₁ s₂ t₁ t₂ : Store} (c d : ℕ) (l m : List ℕ) → Made C A M H s
+  pub two-orders : {A M : ℕ} {H : Input} {s s₁ s₂ t₁ t₂ : Store} (c d : ℕ) (l m : List ℕ) → Made C A M H s
       → C .adding s c l ≡ answer Done s₁ → C .adding s₁ d m ≡ answer Done s₂ → C .adding s d m ≡ answer Done t₁ → C .adding t₁ c l ≡ answer Done t₂ → Same C s₂ t₂
   -- repeated: what was put in, its supports handed over in any order and repeated, is held already
-  pub repeated : {A M : ℕ} {H : List Justification} {s : Store} (c : ℕ) (l : List ℕ) → Made C A M H s → faultOf (A + M) c l ≡ Done
+  pub repeated : {A M : ℕ} {H : Input} {s : Store} (c : ℕ) (l : List ℕ) → Made C A M H s → faultOf (A + M) c l ≡ Done
       → Mem (justificationOf (A + M) c l) H → C .adding s c l ≡ answer Already s
   -- loaded from a file: the store of a file answered 0 against one made by any other calls
-  pub from-file : (bytes : List ℕ) (f : Case) {K : List Justification} {t : Store} → caseOf bytes ≡ whole f → C .loading bytes .reply ≡ Done
+  pub from-file : (bytes : List ℕ) (f : Case) {K : Input} {t : Store} → caseOf bytes ≡ whole f → C .loading bytes .reply ≡ Done
       → Made C (f .header .assumptions) (f .header .claims) K t → SameMembers (putIn f) K → Same C (C .loading bytes .store) t
   -- .. two files with the same records in another order or repeated: the same reply, and the same store where it is 0
   pub two-files : (bytes others : List ℕ) (f g : Case) → caseOf bytes ≡ whole f → caseOf others ≡ whole g
       → f .header .assumptions ≡ g .header .assumptions → f .header .claims ≡ g .header .claims → SameMembers (putIn f) (putIn g)
       → (C .loading bytes .reply ≡ C .loading others .reply) × (C .loading bytes .reply ≡ Done → Same C (C .loading bytes .store) (C .loading others .store))
   -- with refused calls, and calls that read, in between
-  pub in-between : {A M : ℕ} {H : List Justification} {s t : Store} → Made C A M H s → Made C A M H t → Same C s t
+  pub in-between : {A M : ℕ} {H : Input} {s t : Store} → Made C A M H s → Made C A M H t → Same C s t
   -- adding a new one and at once withdrawing it, both answered 0, gives the earlier store back
-  pub undone : {A M : ℕ} {H : List Justification} {s t u : Store} (c : ℕ) (l : List ℕ) → Made C A M H s → C .adding s c l ≡ answer Done t → C .withdrawing t c l ≡ answer Done u → u ≡ s
+  pub undone : {A M : ℕ} {H : Input} {s t u : Store} (c : ℕ) (l : List ℕ) → Made C A M H s → C .adding s c l ≡ answer Done t → C .withdrawing t c l ≡ answer Done u → u ≡ s
   -- .. and withdrawing one and at once adding it again, both answered 0, does so too
-  pub redone : {A M : ℕ} {H : List Justification} {s t u : Store} (c : ℕ) (l : List ℕ) → Made C A M H s → C .withdrawing s c l ≡ answer Done t → C .adding t c l ≡ answer Done u → u ≡ s
+  pub redone : {A M : ℕ} {H : Input} {s t u : Store} (c : ℕ) (l : List ℕ) → Made C A M H s → C .withdrawing s c l ≡ answer Done t → C .adding t c l ≡ answer Done u → u ≡ s

@@ -1,6 +1,9 @@
 pub mod Calls
-pub mod Cited
+pub mod Keeps
+pub mod Coded
+pub mod Once
 pub mod Made
+pub mod Rows
 pub mod Room
 pub mod Table
 pub mod Standing
@@ -9,6 +12,3 @@ pub mod Demand2
 pub mod Demand3
 pub mod Meaning
 pub mod Promises
-pub mod OneAnswer
-pub mod Cases
-pub mod Wrong

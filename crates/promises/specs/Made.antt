@@ -5,11 +5,12 @@ use mathlib.Core.Logic.{_↔_}
 use mathlib.Core.Path.{_≡_}
 use Prim.Native.Nat.{_+_, ℕ}
 use Rattle.casefile.specs.Case.{Case, caseOf, whole}
-use Rattle.promises.specs.Calls.{Calls}
+use Rattle.promises.specs.Calls.{Ask, Calls}
 use Rattle.replies.specs.declared.Reply.{Reply}
 use Rattle.replies.specs.declared.Reply.the-variants.{Done}
 use Rattle.rules.specs.Held.{dropped, heldOf, ordered, put, saidBy}
 use Rattle.rules.specs.Items.{justificationOf, sameJustification}
+use Rattle.rules.specs.declared.Held.{Held}
 use Rattle.stages.specs.Lists.{listsOf}
 use Rattle.store.specs.Calls.{answer, noStore, storeOf}
 use Rattle.store.specs.Shape.{rightShape}
@@ -18,42 +19,50 @@ use Rattle.theory.specs.Judge.{Stage, judge, limits, settled}
 use Rattle.theory.specs.Lists.{choose, someOf}
 use Rattle.theory.specs.Stages.{Justification}
 
+-- what was put into a store and not taken out: the last first
+abbrev pub Input : Type 0
+Input = List Justification
+
+abbrev pub putting : Justification → Input → Input
+putting j H = j ∷ H
+
+abbrev pub taking : Justification → Input → Input
+taking j H = dropped j H
+
 -- what the items of a case put in, all of them
-abbrev pub putIn : Case → List Justification
+abbrev pub putIn : Case → Input
 putIn f = map (λ i. justificationOf (f .header .assumptions + f .header .claims) (i .consequent) (i .supports)) (f .items)
 
--- s came about by calls of C, with A assumptions and M claims; H is what the calls answered 0 put in and did not take out: what was added, the last first, then a loaded file's records as they stand in it
-pub data Made (C : Calls) (A M : ℕ) : List Justification → Store → Type 0 where
+-- s came about by calls of C, with A assumptions and M claims; H is what the calls answered 0 put in and did not take out
+pub data Made (C : Calls) (A M : ℕ) : Input → Store → Type 0 where
   -- by opening
   opened : {s : Store} → C .opening A M ≡ answer Done s → Made C A M [] s
   -- by loading a file that spells the case f, answered 0
   loaded : {s : Store} (bytes : List ℕ) (f : Case) → caseOf bytes ≡ whole f → f .header .assumptions ≡ A → f .header .claims ≡ M → C .loading bytes .reply ≡ Done → C .loading bytes .store ≡ s → Made C A M (putIn f) s
+  -- by judging what is held in its places, answered 0
+  judged : {s : Store} (h : Held) → h .assumptions ≡ A → h .claims ≡ M → C .judging h ≡ answer Done s → Made C A M (saidBy h) s
   -- by adding, answered 0
-  added : {H : List Justification} {s t : Store} (c : ℕ) (l : List ℕ) → Made C A M H s → C .adding s c l ≡ answer Done t → Made C A M (justificationOf (A + M) c l ∷ H) t
+  added : {H : Input} {s t : Store} (c : ℕ) (l : List ℕ) → Made C A M H s → C .adding s c l ≡ answer Done t → Made C A M (putting (justificationOf (A + M) c l) H) t
   -- a refused adding handed t back
-  refused : {H : List Justification} {s t : Store} (c : ℕ) (l : List ℕ) (r : Reply) → Made C A M H s → C .adding s c l ≡ answer r t → (r ≡ Done → ⊥) → Made C A M H t
+  refused : {H : Input} {s t : Store} (c : ℕ) (l : List ℕ) (r : Reply) → Made C A M H s → C .adding s c l ≡ answer r t → (r ≡ Done → ⊥) → Made C A M H t
   -- by withdrawing, answered 0: what was put in, without it
-  withdrawn : {H : List Justification} {s t : Store} (c : ℕ) (l : List ℕ) → Made C A M H s → C .withdrawing s c l ≡ answer Done t → Made C A M (dropped (justificationOf (A + M) c l) H) t
+  withdrawn : {H : Input} {s t : Store} (c : ℕ) (l : List ℕ) → Made C A M H s → C .withdrawing s c l ≡ answer Done t → Made C A M (taking (justificationOf (A + M) c l) H) t
   -- a refused withdrawing handed t back
-  kept : {H : List Justification} {s t : Store} (c : ℕ) (l : List ℕ) (r : Reply) → Made C A M H s → C .withdrawing s c l ≡ answer r t → (r ≡ Done → ⊥) → Made C A M H t
+  kept : {H : Input} {s t : Store} (c : ℕ) (l : List ℕ) (r : Reply) → Made C A M H s → C .withdrawing s c l ≡ answer r t → (r ≡ Done → ⊥) → Made C A M H t
   -- a call that reads handed t back
-  asked : {H : List Justification} {s t : Store} (n E : ℕ) → Made C A M H s → C .question s n E .store ≡ t → Made C A M H t
-  contexted : {H : List Justification} {s t : Store} (E : ℕ) (out : List ℕ) → Made C A M H s → C .context s E out .outcome .store ≡ t → Made C A M H t
-  shown : {H : List Justification} {s t : Store} (n place : ℕ) → Made C A M H s → C .member s n place .store ≡ t → Made C A M H t
-  lined : {H : List Justification} {s t : Store} (n : ℕ) (out : List ℕ) → Made C A M H s → C .line s n out .listed .store ≡ t → Made C A M H t
-  headed : {H : List Justification} {s t : Store} (out : List ℕ) → Made C A M H s → C .heading s out .listed .store ≡ t → Made C A M H t
+  asked : {H : Input} {s t : Store} (a : Ask) → Made C A M H s → C .reading s a .store ≡ t → Made C A M H t
 
 -- the same members, however often and in whatever order
-abbrev pub SameMembers : List Justification → List Justification → Type 0
+abbrev pub SameMembers : Input → Input → Type 0
 SameMembers H K = (j : Justification) → Mem j H ↔ Mem j K
 
 -- the justifications of H in held order, each once
-unfoldable pub inOrder : List Justification → List Justification
+unfoldable pub inOrder : Input → List Justification
 inOrder [] = []
 inOrder (j ∷ H) = let later : List Justification = inOrder H in choose (someOf (sameJustification j) later) later (put j later)
 
 -- s holds exactly H, as a set, in held order and each once, and its lists are those of the stages of that set
-pub record HoldsExactly (A M : ℕ) (H : List Justification) (s : Store) : Type 0 where
+pub record HoldsExactly (A M : ℕ) (H : Input) (s : Store) : Type 0 where
   pub members : SameMembers (saidBy (s .held)) H
   pub order : ordered (saidBy (s .held)) ≡ true
   pub held : s .held ≡ heldOf A M (saidBy (s .held))
@@ -66,6 +75,6 @@ pub record HoldsExactly (A M : ℕ) (H : List Justification) (s : Store) : Type 
 
 -- of every store made by the calls
 pub record Stores (C : Calls) : Type 0 where
-  pub holds : {A M : ℕ} {H : List Justification} {s : Store} → Made C A M H s → HoldsExactly A M H s
+  pub holds : {A M : ℕ} {H : Input} {s : Store} → Made C A M H s → HoldsExactly A M H s
   -- its shape is right: no call on it answers 2
-  pub right : {A M : ℕ} {H : List Justification} {s : Store} → Made C A M H s → rightShape s ≡ true
+  pub right : {A M : ℕ} {H : Input} {s : Store} → Made C A M H s → rightShape s ≡ true

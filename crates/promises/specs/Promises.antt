@@ -1,6 +1,5 @@
 -- What the product promises, all in one. Assumes nothing.
 use Rattle.promises.specs.Calls.{Calls}
-use Rattle.promises.specs.Cited.{Cited}
 use Rattle.promises.specs.Demand1.{Demand1}
 use Rattle.promises.specs.Demand2.{Demand2}
 use Rattle.promises.specs.Demand3.{Demand3}
@@ -8,9 +7,7 @@ use Rattle.promises.specs.Made.{Stores}
 use Rattle.promises.specs.Meaning.{Meaning}
 use Rattle.promises.specs.Standing.{AsTheyStand}
 
--- (that every call ends and does nothing undefined is what each function's proof shows)
-pub record Promises (C : Calls) : Type 0 where
-  pub cited : Cited C
+pub record Promises (C : Calls) : Type 2 where
   pub demand1 : Demand1 C
   pub demand2 : Demand2 C
   pub demand3 : Demand3 C

@@ -5,31 +5,24 @@ use mathlib.Core.Logic.{_↔_, _⊎_}
 use mathlib.Core.Option.{some}
 use mathlib.Core.Path.{_≡_}
 use Prim.Native.Nat.{_*_, _+_, _-_, _<_, _^_, _≤_, suc, zero, ℕ}
-use lib.ListN.{length}
-use Rattle.asking.specs.Asking.{answerNumber, memberNumber}
+use lib.ListN.{drop, length}
 use Rattle.casefile.specs.Case.{Case, Reading, caseOf, refused, whole}
-use Rattle.lines.specs.Lines.{caseText, lineText, writtenNumber}
-use Rattle.promises.specs.Calls.{Calls}
+use Rattle.lines.specs.Lines.{caseText, lineText, refusalText, writtenNumber}
+use Rattle.numbers.specs.declared.Number.{Number}
+use Rattle.numbers.specs.declared.Number.the-variants.{Bad, Value}
+use Rattle.promises.specs.Calls.{Ask, Calls, caseLine, context, line, member, numberSaid, question}
 use Rattle.promises.specs.Made.{putIn}
-use Rattle.promises.specs.Room.{LabelFull, NogoodsFull}
+use Rattle.promises.specs.Room.{Above, LabelFull, NogoodsFull}
+use Rattle.promises.specs.Rows.{given, noRow}
 use Rattle.replies.specs.Replies.{namedBy, numberOf}
 use Rattle.replies.specs.declared.Reply.{Reply}
 use Rattle.rules.specs.Held.{dropped, saidBy}
 use Rattle.rules.specs.Items.{justificationOf}
+use Rattle.rules.specs.declared.Held.{Held}
 use Rattle.store.specs.Reading.{listHeld}
-use Rattle.store.specs.Shape.{rightShape, top}
+use Rattle.store.specs.Shape.{heldFits, rightShape, top}
 use Rattle.store.specs.declared.Store.{Store}
 use Rattle.theory.specs.Stages.{Justification}
-
--- ---- rows, one after the other
-
--- the answer c where P holds, else what the next rows say
-unfoldable pub given : {X : Type 0} → Type 0 → X → (X → Type 0) → X → Type 0
-given P c next a = (P × (a ≡ c)) ⊎ ((P → ⊥) × next a)
-
--- 0 where no row holds
-abbrev pub noRow : ℕ → Type 0
-noRow a = a ≡ 0
 
 -- ---- open
 
@@ -48,10 +41,6 @@ StageRows A N J =
     given (NogoodsFull A N J) 9
     (given ((n : ℕ) × LabelFull A N J n) 8
     noRow)
-
--- a number above N: the consequent c, or one of the supports l
-abbrev pub Above : ℕ → ℕ → List ℕ → Type 0
-Above N c l = (N < c) ⊎ ((x : ℕ) × Mem x l × (N < x))
 
 -- consequent c with supports l, as s holds it
 abbrev pub handed : Store → ℕ → List ℕ → Justification
@@ -89,41 +78,32 @@ WithdrawRows s c l =
     (given (Mem (handed s c l) (saidBy (s .held)) → ⊥) 18
     (StageRows (s .held .assumptions) (top (s .held)) (lessened s c l)))
 
--- ---- question, context, member, the text line of a number, the first line
+-- ---- judging what is held in its places
+
+abbrev pub JudgeRows : Held → ℕ → Type 0
+JudgeRows h = given (heldFits h ≡ false) 2 (StageRows (h .assumptions) (top h) (saidBy h))
+
+-- ---- the calls that read
 
 -- an assumption above A in the set E
 abbrev pub Outside : Store → ℕ → Type 0
 Outside s E = 2 ^ (s .held .assumptions) ≤ E
 
-abbrev pub QuestionRows : Store → ℕ → ℕ → ℕ → Type 0
-QuestionRows s n E =
-    given (rightShape s ≡ false) 2
-    (given ((top (s .held) < n) ⊎ Outside s E) 4
-    noRow)
+-- of a store of right shape
+abbrev pub ShapedRows : Store → Ask → ℕ → Type 0
+ShapedRows s (question n E) = given ((top (s .held) < n) ⊎ Outside s E) 4 noRow
+ShapedRows s (context E out) = given (Outside s E) 4 (given (length out < top (s .held) + 1) 15 noRow)
+ShapedRows s (member n place) = given (top (s .held) < n) 4 (given (length (listHeld (s .lists) n) ≤ place) 16 noRow)
+ShapedRows s (line n out) = given (top (s .held) < n) 4 (given (length out < length (lineText (s .lists) n)) 15 noRow)
+ShapedRows s (caseLine out) = given (length out < length (caseText s)) 15 noRow
 
-abbrev pub ContextRows : Store → ℕ → List ℕ → ℕ → Type 0
-ContextRows s E out =
-    given (rightShape s ≡ false) 2
-    (given (Outside s E) 4
-    (given (length out < top (s .held) + 1) 15
-    noRow))
+abbrev pub AskRows : Store → Ask → ℕ → Type 0
+AskRows s a = given (rightShape s ≡ false) 2 (ShapedRows s a)
 
-abbrev pub MemberRows : Store → ℕ → ℕ → ℕ → Type 0
-MemberRows s n place =
-    given (rightShape s ≡ false) 2
-    (given (top (s .held) < n) 4
-    (given (length (listHeld (s .lists) n) ≤ place) 16
-    noRow))
+-- ---- the line of a refusal
 
-abbrev pub LineRows : Store → ℕ → List ℕ → ℕ → Type 0
-LineRows s n out =
-    given (rightShape s ≡ false) 2
-    (given (top (s .held) < n) 4
-    (given (length out < length (lineText (s .lists) n)) 15
-    noRow))
-
-abbrev pub HeadingRows : Store → List ℕ → ℕ → Type 0
-HeadingRows s out = given (rightShape s ≡ false) 2 (given (length out < length (caseText s)) 15 noRow)
+abbrev pub RefusalRows : Reply → ℕ → List ℕ → ℕ → Type 0
+RefusalRows r k out = given (length out < length (refusalText r k)) 15 noRow
 
 -- ---- load
 
@@ -162,6 +142,14 @@ RecordRows A N (suc n) r H l =
     (given (Mem 0 s) (5, suc r)
     (RecordRows A N n (suc r) (justificationOf N c s ∷ H) l₃))))))
 
+-- the number at a place of the bytes: 0 and the number, or the fault
+abbrev pub reported : Number → Reported
+reported (Value n next) = (0, n)
+reported (Bad f) = (numberOf f, 0)
+
+abbrev pub DecodeRows : List ℕ → ℕ → Reported → Type 0
+DecodeRows bytes at = NumberRows 0 (drop at bytes) (λ x rest a. a ≡ (0, x))
+
 -- A, M, count J; after the header: 3, then 7; then J records
 abbrev pub LoadRows : List ℕ → Reported → Type 0
 LoadRows l =
@@ -183,12 +171,12 @@ pub record ReplyTable (C : Calls) : Type 0 where
   pub opening : (A M a : ℕ) → (numberOf (C .opening A M .reply) ≡ a) ↔ OpenRows A M a
   pub adding : (s : Store) (c : ℕ) (l : List ℕ) (a : ℕ) → (numberOf (C .adding s c l .reply) ≡ a) ↔ AddRows s c l a
   pub withdrawing : (s : Store) (c : ℕ) (l : List ℕ) (a : ℕ) → (numberOf (C .withdrawing s c l .reply) ≡ a) ↔ WithdrawRows s c l a
-  pub question : (s : Store) (n E a : ℕ) → (answerNumber (C .question s n E .answer) ≡ a) ↔ QuestionRows s n E a
-  pub context : (s : Store) (E : ℕ) (out : List ℕ) (a : ℕ) → (numberOf (C .context s E out .outcome .reply) ≡ a) ↔ ContextRows s E out a
-  pub member : (s : Store) (n place a : ℕ) → (memberNumber (C .member s n place .answer) ≡ a) ↔ MemberRows s n place a
-  pub line : (s : Store) (n : ℕ) (out : List ℕ) (a : ℕ) → (writtenNumber (C .line s n out .listed .answer) ≡ a) ↔ LineRows s n out a
-  pub heading : (s : Store) (out : List ℕ) (a : ℕ) → (writtenNumber (C .heading s out .listed .answer) ≡ a) ↔ HeadingRows s out a
+  pub reading : (s : Store) (q : Ask) (a : ℕ) → (numberSaid q (C .reading s q .said) ≡ a) ↔ AskRows s q a
   pub loading : (bytes : List ℕ) (a : Reported) → ((numberOf (C .loading bytes .reply), C .loading bytes .«record») ≡ a) ↔ LoadRows bytes a
+  pub judging : (h : Held) (a : ℕ) → (numberOf (C .judging h .reply) ≡ a) ↔ JudgeRows h a
+  pub shape : (s : Store) → C .shape s ≡ rightShape s
+  pub refusal : (r : Reply) (k : ℕ) (out : List ℕ) (a : ℕ) → (writtenNumber (C .refusal r k out .answer) ≡ a) ↔ RefusalRows r k out a
+  pub decoding : (bytes : List ℕ) (at : ℕ) (a : Reported) → (reported (C .decoding bytes at) ≡ a) ↔ DecodeRows bytes at a
   -- 8 names the lowest such claim or assumption; no other reply names one
   pub adding-names : (s : Store) (c : ℕ) (l : List ℕ) (n : ℕ) → (namedBy (C .adding s c l .reply) ≡ some n)
       ↔ ((numberOf (C .adding s c l .reply) ≡ 8) × LabelFull (s .held .assumptions) (top (s .held)) (enlarged s c l) n)
@@ -197,3 +185,4 @@ pub record ReplyTable (C : Calls) : Type 0 where
   pub loading-names : (bytes : List ℕ) (n : ℕ) → (namedBy (C .loading bytes .reply) ≡ some n) ↔ ((numberOf (C .loading bytes .reply) ≡ 8) × LoadNames (caseOf bytes) n)
   -- the number 10 stays unused
   pub no-ten : (r : Reply) → numberOf r ≡ 10 → ⊥
+  pub judging-names : (h : Held) (n : ℕ) → (namedBy (C .judging h .reply) ≡ some n) ↔ ((numberOf (C .judging h .reply) ≡ 8) × LabelFull (h .assumptions) (top h) (saidBy h) n)

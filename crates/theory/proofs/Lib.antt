@@ -1,7 +1,6 @@
 pub mod CasesOfSets
 pub mod CasesOfStages
 pub mod Cases
-pub mod Readings
 pub mod Lists
 pub mod Places
 pub mod Sets

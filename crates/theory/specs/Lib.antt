@@ -6,4 +6,3 @@ pub mod Judge
 pub mod Demands
 pub mod Step
 pub mod Cases
-pub mod Readings

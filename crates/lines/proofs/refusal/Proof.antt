@@ -4,9 +4,9 @@ use Prim.Native.Nat.{_<_, _^_, _≤_, ℕ}
 use native.Mathlib.Omega.{arith}
 use lib.ListN.{length}
 use lib.Seq.{length-take-le}
+use Rattle.replies.proofs.Laws.{two-digits}
 use Rattle.lines.proofs.Fits.{refusal-rest}
 use Rattle.lines.specs.Lines.{refusalText}
-use Rattle.replies.proofs.Numbers.{few-replies}
 use Rattle.text.proofs.Lengths.{refusal-length}
 use Rattle.text.proofs.Writing.{blank-room, front-room, front-taken}
 use Rattle.text.specs.Texts.{refusal as textOf}
@@ -20,7 +20,7 @@ unfolding refusalText
 same c = ap (λ (r : ℕ). textOf r (c .before .before .args .«record»)) (c .number .ensures)
 
 refusing : (c : tie.After-number) (k : ℕ) → k < 2 ^ 32 → length (textOf (c .number .result) k) ≤ 22
-refusing c k h = refusal-length (c .number .result) k (omega (arith, c .number .ensures, few-replies (c .before .before .args .reply))) h
+refusing c k h = refusal-length (c .number .result) k (omega (arith, c .number .ensures, two-digits (c .before .before .args .reply))) h
 
 number-requires : tie.Need-number-requires
 number-requires c κs = search needs

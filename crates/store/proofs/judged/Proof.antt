@@ -7,7 +7,6 @@ use Rattle.store.proofs.Judging.{judged-done, judged-refused, judged-sh
 use Rattle.store.proofs.Shapes.{fits-a, fits-m, fits-rest}
 use Rattle.store.specs.Calls.{answer}
 use Rattle.store.specs.Shape.{heldFits}
-use Rattle.theory.specs.Readings.{right}
 use Rattle.store.proofs.judged.Statement.{statement}
 use Rattle.store.proofs.judged.Tie as tie
 use Rattle.store.proofs.judged.Reads as reads

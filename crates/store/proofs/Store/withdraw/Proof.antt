@@ -2,7 +2,7 @@
 use mathlib.Core.Path.{_∙_, ap, sym}
 use native.Mathlib.Omega.{arith}
 use borrow.Author.Needs.{needs}
-use Rattle.replies.proofs.Numbers.{is-done}
+use Rattle.replies.proofs.Laws.{zero-done}
 use Rattle.replies.specs.Replies.{numberOf}
 use Rattle.replies.specs.declared.Reply.{Reply}
 use Rattle.rules.proofs.Laws.{canonical-fits}
@@ -38,19 +38,19 @@ canonical-requires : tie.Need-canonical-requires
 canonical-requires c κs =
     let a = c .before .before .before .before .before .before .before .before .args in
     let f = shape-elim (a .self) (sym (c .before .before .before .before .before .before .shape .ensures) ∙ c .before .before .before .before .before .if1 .taken) .0 in
-    (omega (arith, f .few, f .claims), is-done (faultOf (top (a .self .held)) (a .consequent) (a .supports .now)) (ap numberOf (sym (c .before .before .fault .ensures)) ∙ sym (c .before .number .ensures) ∙ c .if2 .left))
+    (omega (arith, f .few, f .claims), zero-done (faultOf (top (a .self .held)) (a .consequent) (a .supports .now)) (ap numberOf (sym (c .before .before .fault .ensures)) ∙ sym (c .before .number .ensures) ∙ c .if2 .left))
 
 parting-requires : tie.Need-parting-requires
 parting-requires c κs =
     let a = c .before .before .before .before .before .before .before .before .before .args in
-    let d = is-done (faultOf (top (a .self .held)) (a .consequent) (a .supports .now)) (ap numberOf (sym (c .before .before .before .fault .ensures)) ∙ sym (c .before .before .number .ensures) ∙ c .before .if2 .left) in
+    let d = zero-done (faultOf (top (a .self .held)) (a .consequent) (a .supports .now)) (ap numberOf (sym (c .before .before .before .fault .ensures)) ∙ sym (c .before .before .number .ensures) ∙ c .before .if2 .left) in
     (sym (c .before .before .before .before .before .before .before .shape .ensures) ∙ c .before .before .before .before .before .before .if1 .taken, ap (fitting (top (a .self .held))) (c .canonical .ensures) ∙ canonical-fits (top (a .self .held)) (a .consequent) (a .supports .now) d .0)
 
 returns-2 : tie.Need-returns-2
 returns-2 c =
     let a = c .before .before .before .before .before .before .before .before .before .before .args in
     let z = ap numberOf (sym (c .before .before .before .before .fault .ensures)) ∙ sym (c .before .before .before .number .ensures) ∙ c .before .before .if2 .left in
-    let d = is-done (faultOf (top (a .self .held)) (a .consequent) (a .supports .now)) z in
+    let d = zero-done (faultOf (top (a .self .held)) (a .consequent) (a .supports .now)) z in
     c .parting .ensures
     ∙ ap (λ (e : Entry). partedFrom (a .self) (meaning e)) (c .before .canonical .ensures)
     ∙ ap (partedFrom (a .self)) (canonical-fits (top (a .self .held)) (a .consequent) (a .supports .now) d .1)

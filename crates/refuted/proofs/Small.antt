@@ -6,10 +6,11 @@ use Prim.Native.Nat.{_+_, _≤_, suc, zero, ℕ}
 use native.Mathlib.Omega.{arith}
 use lib.Count.{ones}
 use lib.ListN.{length}
+use Rattle.promises.proofs.Adding.{reached}
 use Rattle.promises.proofs.Truth.{demand-2}
 use Rattle.promises.specs.Calls.{ours}
 use Rattle.promises.specs.Made.{Made, added, inOrder, opened}
 use Rattle.promises.specs.Room.{AllInRoom, Reaches}
 use Rattle.replies.specs.declared.Reply.{Reply}
 use Rattle.replies.specs.declared.Reply.the-variants.{Done}
 use Rattle.rules.specs.Items.{faultOf, justificationOf}
@@ -61,7 +62,7 @@ made-open A M a m = opened (done-with (openOf A M) (ap (λ (o : Outcome). o .rep
 
 module _ {A M : ℕ} {H : List Justification} {s : Store} (m : Made ours A M H s) (c : ℕ) (l : List ℕ) (r : Reaches A M H c l) (few : A ≤ 3) where
   pub add-done : addOf s c l .reply ≡ Done
-  add-done = demand-2 .tells m .adding c l Done .1 (r, few-room A (A + M) (justificationOf (A + M) c l ∷ H) few)
+  add-done = demand-2 .tells m .adding c l Done .1 (reached c l r (few-room A (A + M) (justificationOf (A + M) c l ∷ H) few))
 
   pub made-add : Made ours A M (justificationOf (A + M) c l ∷ H) (addOf s c l .store)
   made-add = added c l m (done-with (addOf s c l) add-done)

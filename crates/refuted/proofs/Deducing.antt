@@ -9,41 +9,47 @@ use borrow.Author.Tests.{eqb-true}
 use Rattle.asking.specs.Asking.{answerNumber, questionOf}
 use Rattle.asking.specs.declared.Answer.{Answer}
 use Rattle.asking.specs.declared.Answer.the-variants.{Inconsistent, Supported, Unsupported}
 use Rattle.promises.proofs.Answers.{question-by}
 use Rattle.promises.proofs.Form.{made-form, made-holds}
-use Rattle.promises.proofs.Refusals.{demand-1}
+use Rattle.promises.proofs.Keeping.{read-store}
+use Rattle.promises.proofs.Refusals.{refusals}
 use Rattle.promises.proofs.Right.{made-right}
 use Rattle.promises.proofs.Sameness.{demand-3, one-store}
 use Rattle.promises.proofs.Table.{reply-table}
 use Rattle.promises.proofs.Telling.{carries-same, contradicts-same}
 use Rattle.promises.proofs.Truth.{demand-2}
-use Rattle.promises.specs.Calls.{ours}
-use Rattle.promises.specs.Demand1.{Demand1}
+use Rattle.promises.specs.Calls.{Ask, lentTo, numberSaid, ours, question, readOf}
+use Rattle.promises.specs.Demand1.{Refusals}
 use Rattle.promises.specs.Demand2.{Demand2, QuestionSays, Tells}
 use Rattle.promises.specs.Demand3.{Demand3}
-use Rattle.promises.specs.Made.{Made, SameMembers, Stores, added, asked, contexted, headed, kept, lined, loaded, opened, refused, shown, withdrawn}
-use Rattle.promises.specs.Table.{QuestionRows, ReplyTable}
-use Rattle.promises.specs.Wrong.{deducing, workedOut}
+use Rattle.promises.specs.Made.{Made, SameMembers, Stores, added, asked, judged, kept, loaded, opened, refused, withdrawn}
+use Rattle.promises.specs.Table.{AskRows, ReplyTable}
+use Rattle.refuted.proofs.Exchange.{by-question}
+use Rattle.refuted.specs.Wrong.{deducing, workedOut}
 use Rattle.rules.specs.Held.{saidBy}
 use Rattle.store.specs.declared.Store.{Store}
 use Rattle.theory.specs.Demands.{carries, contradicts}
 use Rattle.theory.specs.Lists.{choose}
 use Rattle.theory.specs.Stages.{Justification}
 
+-- the question of this program
+abbrev asks : Store → ℕ → ℕ → Answer
+asks s n E = choose (eqb (answerNumber (questionOf s n E)) 0) (workedOut (saidBy (s .held)) n E) (questionOf s n E)
+
+its-store : (s : Store) (a : Ask) → deducing .reading s a .store ≡ s
+its-store s = by-question asks readOf s (λ a x. x .store ≡ s) (read-store s) (λ n E. refl)
+
 -- the calls make the same stores
 module _ {A M : ℕ} where
   made-ours : {H : List Justification} {s : Store} → Made deducing A M H s → Made ours A M H s
   made-ours (opened e) = opened e
   made-ours (loaded bytes f e a m r k) = loaded bytes f e a m r k
+  made-ours (judged h a m e) = judged h a m e
   made-ours (added c l m e) = added c l (made-ours m) e
   made-ours (refused c l r m e n) = refused c l r (made-ours m) e n
   made-ours (withdrawn c l m e) = withdrawn c l (made-ours m) e
   made-ours (kept c l r m e n) = kept c l r (made-ours m) e n
-  made-ours (asked n E m e) = asked n E (made-ours m) e
-  made-ours (contexted E out m e) = contexted E out (made-ours m) e
-  made-ours (shown n place m e) = shown n place (made-ours m) e
-  made-ours (lined n out m e) = lined n out (made-ours m) e
-  made-ours (headed out m e) = headed out (made-ours m) e
+  made-ours (asked {s = s} a m e) = asked a (made-ours m) (read-store s a ∙ sym (its-store s a) ∙ e)
 
 -- ---- its refusals are ours
 
@@ -55,48 +61,47 @@ worked-zero H n E = go (contradicts H E) (carries H E n)
     go false true = refl
     go false false = refl
 
-same-number : (s : Store) (n E : ℕ) → answerNumber (deducing .question s n E .answer) ≡ answerNumber (questionOf s n E)
+same-number : (s : Store) (n E : ℕ) → answerNumber (asks s n E) ≡ answerNumber (questionOf s n E)
 same-number s n E = go (questionOf s n E) (eqb (answerNumber (questionOf s n E)) 0) refl
   where
     go : (q : Answer) (b : Bool) → eqb (answerNumber q) 0 ≡ b → answerNumber (choose b (workedOut (saidBy (s .held)) n E) q) ≡ answerNumber q
     go q true e = worked-zero (saidBy (s .held)) n E ∙ sym (eqb-true (answerNumber q) 0 e)
     go q false e = refl
 
-question-rows : (s : Store) (n E a : ℕ) → (answerNumber (deducing .question s n E .answer) ≡ a) ↔ QuestionRows s n E a
-question-rows s n E a =
-    let r = reply-table .question s n E a in
-    (λ e. r .0 (sym (same-number s n E) ∙ e), λ w. same-number s n E ∙ r .1 w)
+read-rows : (s : Store) (q : Ask) (a : ℕ) → (numberSaid q (deducing .reading s q .said) ≡ a) ↔ AskRows s q a
+read-rows s =
+    by-question asks readOf s (λ q x. (a : ℕ) → (numberSaid q (x .said) ≡ a) ↔ AskRows s q a) (reply-table .reading s)
+    (λ n E a. let r = reply-table .reading s (question n E) a in (λ e. r .0 (sym (same-number s n E) ∙ e), λ w. same-number s n E ∙ r .1 w))
 
 its-table : ReplyTable deducing
 its-table = record {
   opening = reply-table .opening;
   adding = reply-table .adding;
   withdrawing = reply-table .withdrawing;
-  question = question-rows;
-  context = reply-table .context;
-  member = reply-table .member;
-  line = reply-table .line;
-  heading = reply-table .heading;
+  reading = read-rows;
   loading = reply-table .loading;
+  judging = reply-table .judging;
+  shape = reply-table .shape;
+  refusal = reply-table .refusal;
+  decoding = reply-table .decoding;
   adding-names = reply-table .adding-names;
   withdrawing-names = reply-table .withdrawing-names;
   loading-names = reply-table .loading-names;
   no-ten = reply-table .no-ten;
+  judging-names = reply-table .judging-names;
 }
 
-pub demand-1-too : Demand1 deducing
-demand-1-too = record {
+pub refusals-too : Refusals deducing
+refusals-too = record {
   table = its-table;
-  adding = demand-1 .adding;
-  withdrawing = demand-1 .withdrawing;
-  question = λ s n E. refl;
-  context = demand-1 .context;
-  member = demand-1 .member;
-  line = demand-1 .line;
-  heading = demand-1 .heading;
-  bytes = demand-1 .bytes;
-  line-bytes = demand-1 .line-bytes;
-  heading-bytes = demand-1 .heading-bytes;
+  opening = refusals .opening;
+  loading = refusals .loading;
+  judging = refusals .judging;
+  adding = refusals .adding;
+  withdrawing = refusals .withdrawing;
+  reading = its-store;
+  bytes = λ s. by-question asks readOf s (λ a x. (numberSaid a (x .said) ≡ 0 → ⊥) → x .bytes ≡ lentTo a) (refusals .bytes s) (λ n E k. refl);
+  refusal-bytes = refusals .refusal-bytes;
 }
 
 -- ---- its answers on made stores are ours
@@ -104,7 +109,7 @@ demand-1-too = record {
 worked-same : (J H : List Justification) → SameMembers J H → (n E : ℕ) → workedOut J n E ≡ workedOut H n E
 worked-same J H f n E = ap₂ (λ (c k : Bool). choose c Inconsistent (choose k Supported Unsupported)) (contradicts-same J H f E) (carries-same J H f E n)
 
-same-answer : {A M : ℕ} {H : List Justification} {s : Store} → Made ours A M H s → (n E : ℕ) → n ≤ A + M → E < 2 ^ A → deducing .question s n E .answer ≡ questionOf s n E
+same-answer : {A M : ℕ} {H : List Justification} {s : Store} → Made ours A M H s → (n E : ℕ) → n ≤ A + M → E < 2 ^ A → asks s n E ≡ questionOf s n E
 same-answer {H = H} {s = s} m n E l h =
     ap (λ (x : Answer). choose (eqb (answerNumber (questionOf s n E)) 0) x (questionOf s n E)) (worked-same (saidBy (s .held)) H (made-holds m .members) n E ∙ sym (question-by (made-form m) n E l h))
     ∙ either-way (eqb (answerNumber (questionOf s n E)) 0) (questionOf s n E)
@@ -113,7 +118,7 @@ same-answer {H = H} {s = s} m n E l h =
     either-way true q = refl
     either-way false q = refl
 
-its-question : {A M : ℕ} {H : List Justification} {s : Store} → Made ours A M H s → (n E : ℕ) → n ≤ A + M → E < 2 ^ A → (a : Answer) → (deducing .question s n E .answer ≡ a) ↔ QuestionSays H n E a
+its-question : {A M : ℕ} {H : List Justification} {s : Store} → Made ours A M H s → (n E : ℕ) → n ≤ A + M → E < 2 ^ A → (a : Answer) → (asks s n E ≡ a) ↔ QuestionSays H n E a
 its-question m n E l h a =
     let r = demand-2 .tells m .question n E l h a in
     let e = same-answer m n E l h in
@@ -129,7 +134,7 @@ its-telling m =
       nogoods = t .nogoods;
       member = t .member;
       line = t .line;
-      heading = t .heading;
+      caseLine = t .caseLine;
       depth = t .depth;
       depth-most = t .depth-most;
       label-at = t .label-at;

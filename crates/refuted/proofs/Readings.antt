@@ -1,8 +1,8 @@
 -- Each wrong reading is told apart from the right one by a case that computes. Assumes nothing.
 use mathlib.Core.Path.{refl}
 use Rattle.theory.specs.Judge.{agree, sameSets}
 use Rattle.theory.specs.Lists.{alike}
-use Rattle.theory.specs.Readings.{Readings, halfBuilt, made, newNogoods, satisfying, stepBy}
+use Rattle.refuted.specs.Readings.{Readings, halfBuilt, made, newNogoods, satisfying, stepBy}
 
 pub readings : Readings
 unfolding made satisfying stepBy newNogoods agree alike sameSets halfBuilt

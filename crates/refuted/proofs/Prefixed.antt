@@ -8,10 +8,10 @@ use Rattle.casefile.specs.Load.{loadOf}
 use Rattle.casefile.specs.declared.Loaded.{Loaded}
 use Rattle.items.specs.Items.{Item, headerFrom, numbersFrom, recordFrom, unless}
 use Rattle.numbers.specs.Numbers.{numberFrom}
 use Rattle.promises.proofs.Form.{case-loaded}
 use Rattle.promises.proofs.Truth.{demand-2}
 use Rattle.promises.specs.Demand2.{Demand2}
-use Rattle.promises.specs.Wrong.{byPrefixes, prefixed, prefixesOf}
+use Rattle.refuted.specs.Wrong.{byPrefixes, prefixed, prefixesOf}
 use Rattle.replies.specs.declared.Reply.{Reply}
 use Rattle.replies.specs.declared.Reply.the-variants.{Done}
 use Rattle.rules.specs.Held.{heldOf, put}

@@ -1,39 +1,48 @@
 -- Every case of the table holds of our calls: the answers by the demands, the lists by computing the judgement of what was put in. Assumes nothing.
-use mathlib.Core.List.{List, List·Memᴰ·eq-of-singleton, List·Memᴰ as Mem, [], _∷_, List·Memᴰ·head as here, map, List·Memᴰ·tail as there}
+use mathlib.Core.Bool.{false}
+use mathlib.Core.List.{List, List·Memᴰ·eq-of-singleton, List·Memᴰ as Mem, [], _++_, _∷_, List·Memᴰ·head as here, map, List·Memᴰ·tail as there}
 use mathlib.Core.Path.{_∙_, _≡_, ap, ap₂, refl, sym}
-use Prim.Native.Nat.{_+_, suc, ℕ}
+use Prim.Native.Nat.{_+_, _<_, _≤_, suc, zero, ℕ}
 use native.Mathlib.Omega.{arith}
-use lib.ListN.{getD, length}
-use Rattle.asking.specs.Asking.{memberAt, memberNumber, memberOf, memberSet}
-use Rattle.asking.specs.declared.Shown.{Shown}
+use lib.ListN.{drop, getD, length}
+use Rattle.asking.specs.Asking.{memberNumber, memberOf, memberSet}
+use Rattle.asking.specs.declared.Answer.the-variants.{Unsupported}
 use Rattle.casefile.proofs.Cases.{listed as spells, listedCase}
 use Rattle.casefile.specs.Load.{loadOf}
-use Rattle.numbers.specs.Numbers.{numberAt, numberFrom, secondFrom}
-use Rattle.numbers.specs.declared.Number.the-variants.{Bad, Value}
+use Rattle.lines.specs.Lines.{wordOf}
+use Rattle.lines.specs.declared.Written.the-variants.{Length}
+use Rattle.numbers.specs.Numbers.{numberAt, numberFrom, replied, secondFrom}
+use Rattle.promises.proofs.Answers.{line-by, member-by}
 use Rattle.promises.proofs.Form.{Form, form-a, form-m, form-settled, made-form}
 use Rattle.promises.proofs.Right.{form-right, form-stage}
-use Rattle.promises.proofs.Small.{add-done, few-room, made-add, made-open, one-done, one-made}
-use Rattle.promises.proofs.Standing.{as-they-stand}
+use Rattle.refuted.proofs.Absurdity.{absurdity-depth, absurdity-done, absurdity-labels, absurdity-made, absurdity-nogoods}
+use Rattle.refuted.proofs.Small.{add-done, few-room, made-add, made-open, one-done, one-made}
+use Rattle.promises.proofs.Rows.{room-says}
+use Rattle.promises.proofs.Sameness.{demand-3}
 use Rattle.promises.proofs.Telling.{held-label-at, held-nogoods-at}
 use Rattle.promises.proofs.Truth.{demand-2}
-use Rattle.promises.specs.Calls.{ours}
-use Rattle.promises.specs.Cases.{ListsAre, PCases, absurdity, assumed, eachOther, listed, listedBytes, oneWay, struck, withOne}
-use Rattle.promises.specs.Demand2.{atPlace}
+use Rattle.promises.specs.Calls.{line, ours, readOf, reads}
+use Rattle.refuted.specs.Cases.{Decodes, ListsAre, PCases, assumed, eachOther, listed, listedBytes, oneWay, struck, withOne}
+use Rattle.promises.specs.Demand2.{atPlace, textOf}
 use Rattle.promises.specs.Made.{Made, inOrder, loaded, putIn}
 use Rattle.promises.specs.Room.{Reaches}
-use Rattle.replies.specs.declared.Reply.the-variants.{Already, Done, Form as BadForm}
+use Rattle.replies.specs.declared.Reply.the-variants.{Done}
 use Rattle.rules.specs.Held.{put}
 use Rattle.rules.specs.Items.{faultOf, justificationOf, sameJustification, setOf}
 use Rattle.stages.specs.Lists.{listsOf}
 use Rattle.stages.specs.declared.Lists.{Lists}
-use Rattle.store.specs.Reading.{labelHeld}
+use Rattle.store.specs.Reading.{labelHeld, listHeld}
+use Rattle.store.specs.declared.Outcome.{Outcome}
 use Rattle.store.specs.declared.Store.{Store}
+use Rattle.text.specs.Texts.{digits, digitsIn, row, spaced, word}
 use Rattle.theory.proofs.Judgement.{stage-length, stage-nogoods}
 use Rattle.theory.proofs.Listing.{below-elim}
 use Rattle.theory.specs.Cases.{at, from, verdict, worked}
+use Rattle.theory.specs.Demands.{carries, contradicts}
 use Rattle.theory.specs.Judge.{Stage, Verdict, judge, labelOver, limits, nogoodsOver, settled, stageAt, stageOf}
-use Rattle.theory.specs.Lists.{numbersBelow, numbersTo, someOf, those}
-use Rattle.theory.specs.Stages.{Justification, ahead, labelAt, lesser}
+use Rattle.theory.specs.Lists.{allOf, each, numbersBelow, numbersTo, someOf, those}
+use Rattle.theory.specs.Sets.{among, digit}
+use Rattle.theory.specs.Stages.{Justification, ahead, follows, gives, labelAt, lesser}
 
 -- ---- the lists of a made store are those of the judgement of what was put in
 
@@ -91,7 +100,7 @@ unfolding verdict inOrder put setOf sameJustification ahead lesser
 listed-verdict = refl
 
 listed-done : loadOf listedBytes .reply ≡ Done
-listed-done = demand-2 .loads listedBytes listedCase spells Done .1 (few-room 3 5 (putIn listedCase) (omega arith))
+listed-done = demand-2 .loads listedBytes listedCase spells Done .1 (room-says 3 5 (putIn listedCase) (few-room 3 5 (putIn listedCase) (omega arith)))
 
 made-listed : Made ours 3 2 worked (listed ours)
 unfolding setOf those numbersBelow someOf
@@ -109,10 +118,9 @@ five : labelHeld (listed ours .lists) 5 ≡ 6 ∷ []
 five = fifth (listed ours .lists) (1 ∷ []) (2 ∷ []) (4 ∷ []) (1 ∷ 6 ∷ []) (6 ∷ []) (listed-are .labels)
 
 member-five : (place : ℕ) → memberOf (listed ours) 5 place ≡ atPlace (6 ∷ []) place
-unfolding memberAt
 member-five place =
     let f : Form 3 2 worked (listed ours) = made-form made-listed in
-    ap (λ (a : Shown). a .answer) (as-they-stand .stands (listed ours) (form-right f) .member 5 place (omega (arith, form-a f, form-m f))) ∙ ap (λ (l : List ℕ). atPlace l place) five
+    member-by f 5 place (omega arith) ∙ ap (λ (l : List ℕ). atPlace l place) five
 
 -- ---- claims 2 and 3 support each other
 
@@ -140,19 +148,36 @@ each-other-verdict : judge limits 1 3 (inOrder (from 3 (2 ∷ []) ∷ from 2 (3 
 unfolding verdict inOrder put sameJustification ahead lesser
 each-other-verdict = refl
 
--- ---- a premise for falsity
+-- .. both unsupported
 
-absurdity-sound : faultOf 3 0 [] ≡ Done
-unfolding faultOf someOf
-absurdity-sound = refl
+each-other-carry : (n E : ℕ) → 2 ≤ n → n ≤ 3 → E < 2 → (contradicts (from 3 (2 ∷ []) ∷ from 2 (3 ∷ []) ∷ []) E ≡ false) × (carries (from 3 (2 ∷ []) ∷ from 2 (3 ∷ []) ∷ []) E n ≡ false)
+unfolding carries contradicts follows among digit someOf gives allOf
+each-other-carry zero E p q r = absurd (omega arith)
+each-other-carry (suc zero) E p q r = absurd (omega arith)
+each-other-carry (suc (suc zero)) zero p q r = (refl, refl)
+each-other-carry (suc (suc zero)) (suc zero) p q r = (refl, refl)
+each-other-carry (suc (suc (suc zero))) zero p q r = (refl, refl)
+each-other-carry (suc (suc (suc zero))) (suc zero) p q r = (refl, refl)
+each-other-carry (suc (suc zero)) (suc (suc E)) p q r = absurd (omega arith)
+each-other-carry (suc (suc (suc zero))) (suc (suc E)) p q r = absurd (omega arith)
+each-other-carry (suc (suc (suc (suc n)))) E p q r = absurd (omega arith)
 
-made-absurdity : Made ours 2 1 (from 0 [] ∷ []) (absurdity ours)
-unfolding setOf those numbersBelow someOf
-made-absurdity = one-made 2 1 0 [] (omega arith) (omega arith) absurdity-sound
+each-other-texts : (textOf 2 [] ≡ word "2 unsupported\n") × (textOf 3 [] ≡ word "3 unsupported\n") × (length (word "2 unsupported\n") ≡ 14) × (length (word "3 unsupported\n") ≡ 14)
+unfolding row wordOf digits digitsIn spaced each word
+each-other-texts = (refl, refl, refl, refl)
 
-absurdity-verdict : judge limits 2 3 (inOrder (from 0 [] ∷ [])) ≡ at 1 (0 ∷ []) ([] ∷ [] ∷ [] ∷ [])
-unfolding verdict inOrder put
-absurdity-verdict = refl
+-- the line of a number whose label is known
+line-known : {A M : ℕ} {H : List Justification} {s : Store} (f : Form A M H s) (n : ℕ) → n ≤ A + M → (l t : List ℕ) (k : ℕ) → listHeld (s .lists) n ≡ l → textOf n l ≡ t → length t ≡ k
+    → (out : List ℕ) → k ≤ length out → readOf s (line n out) ≡ reads (line n out) (Length k) s (t ++ drop k out)
+line-known {s = s} f n h l t k e u v out w =
+    let x : textOf n (listHeld (s .lists) n) ≡ t = ap (textOf n) e ∙ u in
+    line-by f n h out (omega (arith, ap length x)) ∙ ap (λ (y : List ℕ). reads (line n out) (Length (length y)) s (y ++ drop (length y) out)) x
+    ∙ ap (λ (i : ℕ). reads (line n out) (Length i) s (t ++ drop i out)) v
+
+-- the second and the third of three labels
+second-third : (l : Lists) (a b c : List ℕ) → map (labelHeld l) (numbersTo 3) ≡ a ∷ b ∷ c ∷ [] → (labelHeld l 2 ≡ b) × (labelHeld l 3 ≡ c)
+unfolding numbersTo numbersBelow
+second-third l a b c p = (ap (λ (x : List (List ℕ)). getD x 1 []) p, ap (λ (x : List (List ℕ)). getD x 2 []) p)
 
 -- ---- assumption 1 justified by assumption 2
 
@@ -198,10 +223,13 @@ struck-verdict = refl
 
 -- ---- numbers
 
-numbers : (numberAt (127 ∷ []) 0 ≡ Value 127 1) × (numberAt (128 ∷ 1 ∷ []) 0 ≡ Value 128 2) × (numberAt (255 ∷ 127 ∷ []) 0 ≡ Value 16383 2) × (numberAt (172 ∷ 2 ∷ []) 0 ≡ Value 300 2)
-    × (numberAt (128 ∷ 0 ∷ []) 0 ≡ Bad BadForm)
+decodes : Decodes ours (127 ∷ []) 127 1 × Decodes ours (128 ∷ 1 ∷ []) 128 2 × Decodes ours (255 ∷ 127 ∷ []) 16383 2 × Decodes ours (172 ∷ 2 ∷ []) 300 2
 unfolding numberAt numberFrom secondFrom
-numbers = (refl, refl, refl, refl, refl)
+decodes = (record { done = refl; value = refl; past = refl }, record { done = refl; value = refl; past = refl }, record { done = refl; value = refl; past = refl }, record { done = refl; value = refl; past = refl })
+
+undecoded : (replied (numberAt (128 ∷ 0 ∷ []) 0) ≡ 12) × (replied (numberAt (128 ∷ []) 0) ≡ 11)
+unfolding numberAt numberFrom secondFrom
+undecoded = (refl, refl)
 
 -- ---- the table
 
@@ -221,21 +249,30 @@ p-cases = record {
   each-other-done = add-done made-one-way 3 (2 ∷ []) reaches-other (omega arith);
   each-other-made = made-each-other;
   each-other-lists = made-are made-each-other each-other-verdict;
-  absurdity-done = one-done 2 1 0 [] (omega arith) (omega arith) absurdity-sound;
-  absurdity-made = made-absurdity;
-  absurdity-lists = made-are made-absurdity absurdity-verdict;
+  each-other-asked = λ n E p q r. demand-2 .tells made-each-other .question n E (omega arith) (omega arith) Unsupported .1 (each-other-carry n E p q r);
+  each-other-line = λ out h.
+      let f = made-form made-each-other in
+      let e = second-third (eachOther ours .lists) (1 ∷ []) [] [] (made-are made-each-other each-other-verdict .labels) in
+      let x = each-other-texts in
+      (line-known f 2 (omega arith) [] (word "2 unsupported\n") 14 (e .0) (x .0) (x .2) out h, line-known f 3 (omega arith) [] (word "3 unsupported\n") 14 (e .1) (x .1) (x .3) out h);
+  absurdity-done = absurdity-done;
+  absurdity-made = absurdity-made;
+  absurdity-nogoods = absurdity-nogoods;
+  absurdity-labels = absurdity-labels;
+  absurdity-depth = absurdity-depth;
   assumed-done = one-done 2 0 1 (2 ∷ []) (omega arith) (omega arith) assumed-sound;
   assumed-made = made-assumed;
   assumed-lists = made-are made-assumed assumed-verdict;
   with-one-done = one-done 2 1 3 (2 ∷ 1 ∷ 2 ∷ []) (omega arith) (omega arith) (one-sounds .0);
   with-one-made = made-with-one;
-  with-one-again = demand-2 .tells made-with-one .adding 3 (1 ∷ 2 ∷ []) Already .1 (one-sounds .1, here one-set);
+  with-one-again = ap (λ (o : Outcome). o .reply) (demand-3 .repeated 3 (1 ∷ 2 ∷ []) made-with-one (one-sounds .1) (here one-set));
   struck-done = one-done 1 0 0 (1 ∷ []) (omega arith) (omega arith) struck-sound;
   struck-made = made-struck;
   struck-lists = made-are made-struck struck-verdict;
-  number-127 = numbers .0;
-  number-128 = numbers .1;
-  number-16383 = numbers .2;
-  number-300 = numbers .3;
-  number-80-00 = numbers .4;
+  number-127 = decodes .0;
+  number-128 = decodes .1;
+  number-16383 = decodes .2;
+  number-300 = decodes .3;
+  number-80-00 = undecoded .0;
+  number-80 = undecoded .1;
 }

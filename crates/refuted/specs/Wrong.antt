@@ -1,10 +1,11 @@
 -- Wrong programs, each as a value of the calls and refuted by a demand: the five empty ones of document 01, then nine that go wrong in one call. Nothing else cites this file. Assumes nothing.
 use mathlib.Core.Bool.{not}
 use mathlib.Core.List.{List, [], _++_, _∷_, map}
+use mathlib.Core.Path.{_≡_}
 use Prim.Native.Nat.{_+_, _≤_, suc, ℕ}
 use lib.Dec.{eqb}
 use lib.ListN.{length}
-use Rattle.asking.specs.Asking.{answerNumber, left}
+use Rattle.asking.specs.Asking.{answerNumber, questionOf}
 use Rattle.asking.specs.declared.Answer.{Answer}
 use Rattle.asking.specs.declared.Answer.the-variants.{Inconsistent, Refused, Supported, Unsupported}
 use Rattle.asking.specs.declared.Found.the-variants.{Not}
@@ -12,14 +13,15 @@ use Rattle.casefile.specs.Case.{Case, Reading, caseOf, joined, refused, whole}
 use Rattle.casefile.specs.Load.{loadedOf, recorded}
 use Rattle.casefile.specs.declared.Loaded.{Loaded}
 use Rattle.items.specs.Items.{Item}
-use Rattle.lines.specs.Lines.{kept}
-use Rattle.promises.specs.Calls.{Calls, handing, ours}
-use Rattle.promises.specs.Demand1.{Demand1}
-use Rattle.promises.specs.Demand2.{Demand2}
+use Rattle.lines.specs.declared.Written.the-variants.{Refused as Unwritten}
+use Rattle.promises.specs.Calls.{Ask, Calls, Read, caseLine, context, line, member, ours, question, reads}
+use Rattle.promises.specs.Demand1.{Refusals}
+use Rattle.promises.specs.Demand2.{Demand2, IsDepth}
 use Rattle.promises.specs.Demand3.{Demand3}
-use Rattle.promises.specs.Made.{Made, Stores, inOrder}
+use Rattle.promises.specs.Made.{Input, Made, Stores, inOrder}
 use Rattle.promises.specs.Standing.{AsTheyStand}
 use Rattle.promises.specs.Table.{ReplyTable}
+use Rattle.refuted.specs.Exchange.{exchanged, withAdding, withLoading, withOpening, withQuestion, withWithdrawing}
 use Rattle.replies.specs.declared.Reply.the-variants.{Counts, Done, Ends, Nogoods, Shape}
 use Rattle.rules.specs.Held.{heldOf, saidBy}
 use Rattle.rules.specs.Items.{justificationOf}
@@ -39,63 +41,30 @@ use Rattle.theory.specs.Stages.{Justification, follows, minimal}
 -- ---- empty programs
 
 -- refuses each call
+abbrev pub refusingRead : Store → (a : Ask) → Read a
+refusingRead s (question n E) = reads (question n E) (Refused Shape) s []
+refusingRead s (context E out) = reads (context E out) Shape s out
+refusingRead s (member n place) = reads (member n place) (Not Shape) s []
+refusingRead s (line n out) = reads (line n out) (Unwritten Shape) s out
+refusingRead s (caseLine out) = reads (caseLine out) (Unwritten Shape) s out
+
 abbrev pub refusing : Calls
-refusing = record {
-  opening = λ A M. answer Counts noStore;
-  adding = λ s c l. answer Shape s;
-  withdrawing = λ s c l. answer Shape s;
-  question = λ s n E. record { answer = Refused Shape; store = s };
-  context = λ s E out. left (answer Shape s) out;
-  member = λ s n place. record { answer = Not Shape; store = s };
-  loading = λ bytes. record { reply = Ends; «record» = 0; store = noStore };
-  line = λ s n out. handing s (kept Shape out);
-  heading = λ s out. handing s (kept Shape out);
-}
+refusing = exchanged ours (λ A M. answer Counts noStore) (λ bytes. record { reply = Ends; «record» = 0; store = noStore }) (λ s c l. answer Shape s) (λ s c l. answer Shape s) refusingRead
 
 -- calls every set unsupported
 abbrev pub denying : Calls
-denying = record {
-  opening = ours .opening;
-  adding = ours .adding;
-  withdrawing = ours .withdrawing;
-  question = λ s n E. record { answer = Unsupported; store = s };
-  context = ours .context;
-  member = ours .member;
-  loading = ours .loading;
-  line = ours .line;
-  heading = ours .heading;
-}
+denying = withQuestion (λ s n E. Unsupported) ours
 
 -- adds nothing and reports 0
 abbrev pub idle : Calls
-idle = record {
-  opening = ours .opening;
-  adding = λ s c l. answer Done s;
-  withdrawing = ours .withdrawing;
-  question = ours .question;
-  context = ours .context;
-  member = ours .member;
-  loading = ours .loading;
-  line = ours .line;
-  heading = ours .heading;
-}
+idle = withAdding (λ s c l. answer Done s) ours
 
 -- does all stages in the first add and none later: the lists stay
 abbrev pub listsKept : Store → Outcome → Outcome
 listsKept s o = record { reply = o .reply; store = record { held = o .store .held; lists = s .lists } }
 
 abbrev pub once : Calls
-once = record {
-  opening = ours .opening;
-  adding = λ s c l. choose (eqb (s .held .count) 0) (ours .adding s c l) (listsKept s (ours .adding s c l));
-  withdrawing = ours .withdrawing;
-  question = ours .question;
-  context = ours .context;
-  member = ours .member;
-  loading = ours .loading;
-  line = ours .line;
-  heading = ours .heading;
-}
+once = withAdding (λ s c l. choose (eqb (s .held .count) 0) (ours .adding s c l) (listsKept s (ours .adding s c l))) ours
 
 -- a made-up depth: one too many
 abbrev pub deepened : Lists → Lists
@@ -105,17 +74,7 @@ abbrev pub deeper : Outcome → Outcome
 deeper o = record { reply = o .reply; store = record { held = o .store .held; lists = deepened (o .store .lists) } }
 
 abbrev pub deep : Calls
-deep = record {
-  opening = λ A M. deeper (ours .opening A M);
-  adding = λ s c l. deeper (ours .adding s c l);
-  withdrawing = ours .withdrawing;
-  question = ours .question;
-  context = ours .context;
-  member = ours .member;
-  loading = ours .loading;
-  line = ours .line;
-  heading = ours .heading;
-}
+deep = withOpening (λ A M. deeper (ours .opening A M)) ours
 
 -- ---- wrong in one call
 
@@ -130,17 +89,7 @@ abbrev pub arriving : Store → Justification → Outcome → Outcome
 arriving s j o = answer (o .reply) (choose (isDone (o .reply)) (atTheEnd s j (o .store .lists)) s)
 
 abbrev pub arrival : Calls
-arrival = record {
-  opening = ours .opening;
-  adding = λ s c l. arriving s (justificationOf (top (s .held)) c l) (ours .adding (putInOrder s) c l);
-  withdrawing = ours .withdrawing;
-  question = ours .question;
-  context = ours .context;
-  member = ours .member;
-  loading = ours .loading;
-  line = ours .line;
-  heading = ours .heading;
-}
+arrival = withAdding (λ s c l. arriving s (justificationOf (top (s .held)) c l) (ours .adding (putInOrder s) c l)) ours
 
 -- adds without striking: a label lists the smallest sets from which its number follows, whatever else follows from them
 abbrev pub unstruck : ℕ → ℕ → List Justification → ℕ → List ℕ → Stage
@@ -153,17 +102,7 @@ abbrev pub sparing : Outcome → Outcome
 sparing o = choose (isDone (o .reply)) (answer Done (record { held = o .store .held; lists = unstruckLists (o .store) })) o
 
 abbrev pub lenient : Calls
-lenient = record {
-  opening = ours .opening;
-  adding = λ s c l. sparing (ours .adding s c l);
-  withdrawing = ours .withdrawing;
-  question = ours .question;
-  context = ours .context;
-  member = ours .member;
-  loading = ours .loading;
-  line = ours .line;
-  heading = ours .heading;
-}
+lenient = withAdding (λ s c l. sparing (ours .adding s c l)) ours
 
 -- judges a file by its prefixes: the stages of nothing, of its first record, of its first two, and so on; the first refusal decides
 unfoldable pub byPrefixes : ℕ → ℕ → List Justification → List Item → Outcome
@@ -177,17 +116,7 @@ prefixesOf (whole f) = recorded (f .header .records) (byPrefixes (f .header .ass
 prefixesOf (refused x r) = loadedOf (refused x r)
 
 abbrev pub prefixed : Calls
-prefixed = record {
-  opening = ours .opening;
-  adding = ours .adding;
-  withdrawing = ours .withdrawing;
-  question = ours .question;
-  context = ours .context;
-  member = ours .member;
-  loading = λ bytes. prefixesOf (caseOf bytes);
-  line = ours .line;
-  heading = ours .heading;
-}
+prefixed = withLoading (λ bytes. prefixesOf (caseOf bytes)) ours
 
 -- a question that forgets the nogoods: supported if the set contains a member of the label, else unsupported
 abbrev pub forgetting : Lists → ℕ → ℕ → Answer → Answer
@@ -197,62 +126,22 @@ forgetting l n E Supported = Supported
 forgetting l n E Unsupported = Unsupported
 
 abbrev pub forgetful : Calls
-forgetful = record {
-  opening = ours .opening;
-  adding = ours .adding;
-  withdrawing = ours .withdrawing;
-  question = λ s n E. record { answer = forgetting (s .lists) n E (ours .question s n E .answer); store = s };
-  context = ours .context;
-  member = ours .member;
-  loading = ours .loading;
-  line = ours .line;
-  heading = ours .heading;
-}
+forgetful = withQuestion (λ s n E. forgetting (s .lists) n E (questionOf s n E)) ours
 
 -- opens and loads, but answers every adding that the nogoods are full
 abbrev pub alwaysFull : Calls
-alwaysFull = record {
-  opening = ours .opening;
-  adding = λ s c l. answer Nogoods s;
-  withdrawing = ours .withdrawing;
-  question = ours .question;
-  context = ours .context;
-  member = ours .member;
-  loading = ours .loading;
-  line = ours .line;
-  heading = ours .heading;
-}
+alwaysFull = withAdding (λ s c l. answer Nogoods s) ours
 
 -- withdraws the rule and keeps the lists
 abbrev pub emptying : Calls
-emptying = record {
-  opening = ours .opening;
-  adding = ours .adding;
-  withdrawing = λ s c l. listsKept s (ours .withdrawing s c l);
-  question = ours .question;
-  context = ours .context;
-  member = ours .member;
-  loading = ours .loading;
-  line = ours .line;
-  heading = ours .heading;
-}
+emptying = withWithdrawing (λ s c l. listsKept s (ours .withdrawing s c l)) ours
 
 -- withdraws every rule of the consequent
 abbrev pub othersThan : ℕ → List Justification → List Justification
 othersThan c J = those (λ j. not (eqb c (j .consequent))) J
 
 abbrev pub clearing : Calls
-clearing = record {
-  opening = ours .opening;
-  adding = ours .adding;
-  withdrawing = λ s c l. choose (isDone (ours .withdrawing s c l .reply)) (storeOf s (s .held .assumptions) (s .held .claims) (othersThan c (saidBy (s .held)))) (ours .withdrawing s c l);
-  question = ours .question;
-  context = ours .context;
-  member = ours .member;
-  loading = ours .loading;
-  line = ours .line;
-  heading = ours .heading;
-}
+clearing = withWithdrawing (λ s c l. choose (isDone (ours .withdrawing s c l .reply)) (storeOf s (s .held .assumptions) (s .held .claims) (othersThan c (saidBy (s .held)))) (ours .withdrawing s c l)) ours
 
 -- withdraws the rule and keeps the count: the place is not freed
 abbrev pub countKept : Store → Outcome → Outcome
@@ -262,43 +151,42 @@ countKept s o = record {
 }
 
 abbrev pub notFreed : Calls
-notFreed = record {
-  opening = ours .opening;
-  adding = ours .adding;
-  withdrawing = λ s c l. countKept s (ours .withdrawing s c l);
-  question = ours .question;
-  context = ours .context;
-  member = ours .member;
-  loading = ours .loading;
-  line = ours .line;
-  heading = ours .heading;
-}
+notFreed = withWithdrawing (λ s c l. countKept s (ours .withdrawing s c l)) ours
 
 -- a question that works from the justifications and reads no list: right of every made store, wrong of a forged one
 abbrev pub workedOut : List Justification → ℕ → ℕ → Answer
 workedOut H n E = choose (contradicts H E) Inconsistent (choose (carries H E n) Supported Unsupported)
 
 abbrev pub deducing : Calls
-deducing = record {
-  opening = ours .opening;
-  adding = ours .adding;
-  withdrawing = ours .withdrawing;
-  question = λ s n E. record { answer = choose (eqb (answerNumber (ours .question s n E .answer)) 0) (workedOut (saidBy (s .held)) n E) (ours .question s n E .answer); store = s };
-  context = ours .context;
-  member = ours .member;
-  loading = ours .loading;
-  line = ours .line;
-  heading = ours .heading;
-}
+deducing = withQuestion (λ s n E. choose (eqb (answerNumber (questionOf s n E)) 0) (workedOut (saidBy (s .held)) n E) (questionOf s n E)) ours
+
+-- ---- classes
+
+-- answers no adding with 0
+abbrev pub AddsNone : Calls → Type 0
+AddsNone C = (s : Store) (c : ℕ) (l : List ℕ) → C .adding s c l .reply ≡ Done → ⊥
+
+-- answers no loading with 0
+abbrev pub LoadsNone : Calls → Type 0
+LoadsNone C = (bytes : List ℕ) → C .loading bytes .reply ≡ Done → ⊥
+
+-- what demand 2 says of the depth
+pub record Depths (C : Calls) : Type 0 where
+  pub depth : {A M : ℕ} {H : Input} {s : Store} → Made C A M H s → IsDepth A (A + M) H (s .lists .depth)
 
 pub record Refuted : Type 0 where
   pub refuses : Demand2 refusing → ⊥
   pub refuses-table : ReplyTable refusing → ⊥
+  -- .. and any program that answers no adding with 0, or no loading
+  pub adds-none : (C : Calls) → AddsNone C → Demand2 C → ⊥
+  pub loads-none : (C : Calls) → LoadsNone C → Demand2 C → ⊥
   pub denies : Demand2 denying → ⊥
   pub adds-nothing : Demand2 idle → ⊥
   pub stages-once : Demand2 once → ⊥
-  pub made-up-depth : Demand2 deep → ⊥
-  pub too-deep : ((A M : ℕ) (H : List Justification) (s : Store) → Made deep A M H s → s .lists .depth ≤ length (consequents H)) → ⊥
+  -- .. by the depth of its stores alone; so does any program with a made store whose depth is not the depth
+  pub made-up-depth : Depths deep → ⊥
+  pub any-made-up : (C : Calls) {A M : ℕ} {H : Input} {s : Store} → Made C A M H s → (IsDepth A (A + M) H (s .lists .depth) → ⊥) → Demand2 C → ⊥
+  pub too-deep : ((A M : ℕ) (H : Input) (s : Store) → Made deep A M H s → s .lists .depth ≤ length (consequents H)) → ⊥
   pub keeps-arrival : Demand3 arrival → ⊥
   pub strikes-nothing : Demand2 lenient → ⊥
   pub judges-prefixes : Demand2 prefixed → ⊥
@@ -309,4 +197,4 @@ pub record Refuted : Type 0 where
   pub frees-no-place : Stores notFreed → ⊥
   pub reads-no-list : AsTheyStand deducing → ⊥
   -- .. of which no other demand can tell
-  pub reads-no-list-untold : Demand1 deducing × Demand2 deducing × Demand3 deducing × Stores deducing
+  pub reads-no-list-untold : Refusals deducing × Demand2 deducing × Demand3 deducing × Stores deducing

@@ -12,26 +12,31 @@ use lib.ListN.{length}
 use Rattle.asking.specs.Asking.{answerNumber, byteOf, questionOf, standing}
 use Rattle.asking.specs.declared.Answer.{Answer}
 use Rattle.asking.specs.declared.Answer.the-variants.{Inconsistent, Refused, Supported, Unsupported}
-use Rattle.asking.specs.declared.Asked.{Asked}
-use Rattle.promises.proofs.Arrival.{keeps-arrival}
-use Rattle.promises.proofs.Cases.{p-cases}
-use Rattle.promises.proofs.Deducing.{demand-1-too, demand-2-too, demand-3-too, stores-too}
+use Rattle.refuted.proofs.Arrival.{keeps-arrival}
+use Rattle.refuted.proofs.Cases.{p-cases}
+use Rattle.refuted.proofs.Deducing.{refusals-too, demand-2-too, demand-3-too, stores-too}
+use Rattle.casefile.proofs.Cases.{listed as spells, listedCase}
+use Rattle.promises.proofs.Adding.{reached}
+use Rattle.promises.proofs.Answers.{in-set}
 use Rattle.promises.proofs.Form.{Form, done-by, done-store, form-a, form-count, form-m, form-said, made-form, none-store}
-use Rattle.promises.proofs.Full.{room-not-nogoods}
-use Rattle.promises.proofs.Prefixed.{judges-prefixes}
+use Rattle.refuted.proofs.Prefixed.{judges-prefixes}
 use Rattle.promises.proofs.Right.{made-right}
-use Rattle.promises.proofs.Small.{add-done, done-with, few-room, made-add, made-open, one-done, one-made, opens-at}
+use Rattle.refuted.proofs.Small.{add-done, done-with, few-room, made-add, made-open, one-done, one-made, opens-at}
+use Rattle.promises.proofs.Rows.{passes, room-says}
 use Rattle.promises.proofs.Standing.{as-they-stand}
 use Rattle.promises.proofs.Truth.{demand-2}
-use Rattle.promises.specs.Calls.{ours}
-use Rattle.promises.specs.Demand2.{Demand2, Smallest}
-use Rattle.promises.specs.Made.{Made, Stores, added, inOrder, opened, withdrawn}
+use Rattle.promises.proofs.Withdrawing.{lets-go}
+use Rattle.promises.specs.Calls.{Calls, Read, ours, question}
+use Rattle.promises.specs.Demand2.{Demand2, IsDepth, Smallest}
+use Rattle.promises.specs.Made.{Made, Stores, added, inOrder, opened, putIn, withdrawn}
 use Rattle.promises.specs.Room.{Reaches}
+use Rattle.promises.specs.Rows.{given}
 use Rattle.promises.specs.Standing.{AsTheyStand}
-use Rattle.promises.specs.Table.{OverCounts, ReplyTable, given}
-use Rattle.promises.specs.Wrong.{Refuted, alwaysFull, clearing, countKept, deducing, deep, deeper, denying, emptying, forgetful, forgetting, idle, lenient, listsKept, notFreed, once, othersThan, refusing, sparing, unstruck, unstruckLists, workedOut}
+use Rattle.promises.specs.Table.{OverCounts, ReplyTable, ShapedRows}
+use Rattle.refuted.specs.Cases.{listedBytes}
+use Rattle.refuted.specs.Wrong.{AddsNone, Depths, LoadsNone, Refuted, alwaysFull, clearing, countKept, deducing, deep, deeper, denying, emptying, forgetful, forgetting, idle, lenient, listsKept, notFreed, once, othersThan, refusing, sparing, unstruck, unstruckLists, workedOut}
 use Rattle.replies.specs.Replies.{numberOf}
-use Rattle.replies.specs.declared.Reply.the-variants.{Done, Nogoods}
+use Rattle.replies.specs.declared.Reply.the-variants.{Done}
 use Rattle.replies.specs.declared.Reply.{Reply}
 use Rattle.rules.specs.Held.{dropped, heldOf, put, saidBy}
 use Rattle.rules.specs.Items.{faultOf, justificationOf, sameJustification, setOf}
@@ -66,6 +71,19 @@ unfolding given
 refuses-table t =
     let fits : OverCounts 0 0 → ⊥ = ⊎-elim (λ (p : 32 < 0). omega arith) (λ (p : 96 < 0). omega arith) in
     let z : _≡_ {A = ℕ} 3 0 = t .opening 0 0 0 .1 (inr (fits, refl)) in omega arith
+
+-- .. so does every program that answers no adding, or no loading, with 0
+fits : Reaches 1 1 [] 2 (1 ∷ [])
+unfolding faultOf someOf inOrder
+fits = record { sound = refl; new = λ m. elim m [ ]; room = omega arith }
+
+adds-none : (C : Calls) → AddsNone C → Demand2 C → ⊥
+adds-none C none d =
+    let o : C .opening 1 1 ≡ answer Done (C .opening 1 1 .store) = done-with (C .opening 1 1) (d .opens 1 1 (omega arith) (omega arith)) in
+    none (C .opening 1 1 .store) 2 (1 ∷ []) (d .tells (opened o) .adding 2 (1 ∷ []) Done .1 (reached 2 (1 ∷ []) fits (few-room 1 2 (justificationOf 2 2 (1 ∷ []) ∷ []) (omega arith))))
+
+loads-none : (C : Calls) → LoadsNone C → Demand2 C → ⊥
+loads-none C none d = none listedBytes (d .loads listedBytes listedCase spells Done .1 (room-says 3 5 (putIn listedCase) (few-room 3 5 (putIn listedCase) (omega arith))))
 
 -- ---- calls every set unsupported: assumption 1 is supported by itself
 one-carries : carries [] 1 1 ≡ true
@@ -152,23 +170,26 @@ stages-once d =
     let o : openOf 1 2 ≡ answer Done s₀ = opens-at 1 2 (omega arith) (omega arith) in
     let m₀ : Made ours 1 2 [] s₀ = opened o in
     let out₁ : Outcome = addOf s₀ 2 (1 ∷ []) in
-    let e₁ : out₁ ≡ answer Done (out₁ .store) = done-with out₁ (demand-2 .tells m₀ .adding 2 (1 ∷ []) Done .1 (first-reaches, few-room 1 3 (first 2 ∷ []) (omega arith))) in
+    let e₁ : out₁ ≡ answer Done (out₁ .store) = done-with out₁ (demand-2 .tells m₀ .adding 2 (1 ∷ []) Done .1 (reached 2 (1 ∷ []) first-reaches (few-room 1 3 (first 2 ∷ []) (omega arith)))) in
     let m₁ : Made ours 1 2 (first 2 ∷ []) (out₁ .store) = added 2 (1 ∷ []) m₀ e₁ in
     let w₁ : Made once 1 2 (first 2 ∷ []) (out₁ .store) = added 2 (1 ∷ []) (opened o) (ap (λ (n : ℕ). choose (eqb n 0) out₁ (listsKept s₀ out₁)) none-yet ∙ e₁) in
     let out₂ : Outcome = addOf (out₁ .store) 3 (2 ∷ []) in
     let kept : Outcome = listsKept (out₁ .store) out₂ in
-    let r₂ : out₂ .reply ≡ Done = demand-2 .tells m₁ .adding 3 (2 ∷ []) Done .1 (second-reaches, few-room 1 3 (second 2 ∷ first 2 ∷ []) (omega arith)) in
+    let r₂ : out₂ .reply ≡ Done = demand-2 .tells m₁ .adding 3 (2 ∷ []) Done .1 (reached 3 (2 ∷ []) second-reaches (few-room 1 3 (second 2 ∷ first 2 ∷ []) (omega arith))) in
     let w₂ : Made once 1 2 (second 2 ∷ first 2 ∷ []) (kept .store) =
     added 3 (2 ∷ []) w₁ (ap (λ (n : ℕ). choose (eqb n 0) out₂ kept) (form-count (made-form m₁) ∙ one-held) ∙ done-with kept r₂) in
     clash (demand-2 .tells m₁ .label 3 (omega arith) .exactly 1 .0 (d .tells w₂ .label 3 (omega arith) .exactly 1 .1 one-smallest) .has) first-carries-not
 
 -- ---- a made-up depth
-made-up-depth : Demand2 deep → ⊥
+made-up-depth : Depths deep → ⊥
 made-up-depth d =
     let o : openOf 0 0 ≡ answer Done (startStore 0 0) = opens-at 0 0 zero-le zero-le in
     let m : Made deep 0 0 [] (deeper (answer Done (startStore 0 0)) .store) = opened (ap deeper o) in
     let k : ℕ = startStore 0 0 .lists .depth in
-    d .tells m .depth .least k (omega arith) (demand-2 .tells (opened o) .depth .agrees)
+    d .depth m .least k (omega arith) (demand-2 .tells (opened o) .depth .agrees)
+
+any-made-up : (C : Calls) {A M : ℕ} {H : List Justification} {s : Store} → Made C A M H s → (IsDepth A (A + M) H (s .lists .depth) → ⊥) → Demand2 C → ⊥
+any-made-up C m n d = n (d .tells m .depth)
 
 too-deep : ((A M : ℕ) (H : List Justification) (s : Store) → Made deep A M H s → s .lists .depth ≤ length (consequents H)) → ⊥
 too-deep f =
@@ -240,9 +261,7 @@ forgets-nogoods d =
 -- ---- calls every table full: claim 2 from assumption 1 fits
 
 calls-all-full : Demand2 alwaysFull → ⊥
-calls-all-full d =
-    let m : Made alwaysFull 1 1 [] (startStore 1 1) = opened (opens-at 1 1 (omega arith) (omega arith)) in
-    room-not-nogoods (few-room 1 2 (first 1 ∷ []) (omega arith)) (d .tells m .adding 2 (1 ∷ []) Nogoods .0 refl .1)
+calls-all-full = adds-none alwaysFull (λ s c l e. let z : _≡_ {A = ℕ} 9 0 = ap numberOf e in omega arith)
 
 -- ---- reads no list: the justifications of one made store with the lists of another. Nothing is held, yet the label of 2 has {1}
 
@@ -277,10 +296,14 @@ forged-right =
     and-intro (and-left (heldFits (bare .held)) _ (made-right made-bare))
     (sym (ap₂ (listsRight (listed .lists)) (same-counts .0) (same-counts .1)) ∙ and-right (heldFits (listed .held)) _ (made-right made-listed))
 
+-- 2 and {1} are in range
+unrefused : {H : List Justification} {s : Store} → Form 1 1 H s → ShapedRows s (question 2 1) 0
+unrefused {s = s} f = passes ℕ _ _ 0 _ (⊎-elim (λ (p : top (s .held) < 2). omega (arith, form-a f, form-m f)) (in-set f 1 (omega arith))) refl
+
 supported-as-listed : standing (listed .lists) 2 1 ≡ Supported
 supported-as-listed =
     let f = made-form made-listed in
-    sym (ap (λ (a : Asked). a .answer) (as-they-stand .stands listed (made-right made-listed) .question 2 1 (omega (arith, form-a f, form-m f)) (subst (λ (A : ℕ). 1 < 2 ^ A) (sym (form-a f)) (omega arith))))
+    sym (ap (λ (a : Read (question 2 1)). a .said) (as-they-stand .stands listed (made-right made-listed) .reading (question 2 1) (unrefused f)))
     ∙ demand-2 .tells made-listed .question 2 1 (omega arith) (omega arith) Supported .1 first-carries
 
 -- ---- withdraws the rule and keeps the lists, or the count
@@ -313,7 +336,7 @@ bare-done : openOf 1 1 ≡ answer Done bare
 bare-done = done-with (openOf 1 1) (ap (λ (o : Outcome). o .reply) (opens-at 1 1 (omega arith) (omega arith)))
 
 withdrawn-done : withdrawOf listed 2 (1 ∷ []) .reply ≡ Done
-withdrawn-done = demand-2 .tells made-listed .withdrawing 2 (1 ∷ []) Done .1 (record { sound = first-sound; held = here refl }, few-room 1 2 rest (omega arith))
+withdrawn-done = demand-2 .tells made-listed .withdrawing 2 (1 ∷ []) Done .1 (lets-go 1 1 2 (1 ∷ []) first-sound (here refl) (few-room 1 2 rest (omega arith)))
 
 withdraws-no-list : Demand2 emptying → ⊥
 withdraws-no-list d =
@@ -378,7 +401,7 @@ unfolding dropped those sameJustification sameSets alike setOf someOf numbersBel
 cleared = refl
 
 single-done : withdrawOf double 2 [] .reply ≡ Done
-single-done = demand-2 .tells made-double .withdrawing 2 [] Done .1 (record { sound = premise-reaches .sound; held = here refl }, few-room 1 2 single (omega arith))
+single-done = demand-2 .tells made-double .withdrawing 2 [] Done .1 (lets-go 1 1 2 [] (premise-reaches .sound) (here refl) (few-room 1 2 single (omega arith)))
 
 none-stored : (s : Store) → storeOf s 1 1 [] ≡ answer Done (startStore 1 1)
 unfolding storeOf
@@ -405,13 +428,12 @@ reads-no-list : AsTheyStand deducing → ⊥
 unfolding inOrder
 reads-no-list d =
     let f = made-form made-bare in
-    let n : 2 ≤ top (forged .held) = omega (arith, form-a f, form-m f) in
-    let h : 1 < 2 ^ (forged .held .assumptions) = subst (λ (A : ℕ). 1 < 2 ^ A) (sym (form-a f)) (omega arith) in
-    let asked : ours .question forged 2 1 .answer ≡ Supported = ap (λ (a : Asked). a .answer) (as-they-stand .stands forged forged-right .question 2 1 n h) ∙ supported-as-listed in
-    let said : deducing .question forged 2 1 .answer ≡ Supported = ap (λ (a : Asked). a .answer) (d .stands forged forged-right .question 2 1 n h) ∙ supported-as-listed in
-    let worked : deducing .question forged 2 1 .answer ≡ Unsupported =
+    let w : ShapedRows forged (question 2 1) 0 = unrefused (made-form made-bare) in
+    let asked : ours .reading forged (question 2 1) .said ≡ Supported = ap (λ (a : Read (question 2 1)). a .said) (as-they-stand .stands forged forged-right .reading (question 2 1) w) ∙ supported-as-listed in
+    let said : deducing .reading forged (question 2 1) .said ≡ Supported = ap (λ (a : Read (question 2 1)). a .said) (d .stands forged forged-right .reading (question 2 1) w) ∙ supported-as-listed in
+    let worked : deducing .reading forged (question 2 1) .said ≡ Unsupported =
     ap₂ (λ (a : Answer) (H : List Justification). choose (eqb (answerNumber a) 0) (workedOut H 2 1) a) asked (form-said f) ∙ unsupported-by-none in
-    not-both (deducing .question forged 2 1 .answer) said worked
+    not-both (deducing .reading forged (question 2 1) .said) said worked
   where
     unsupported-by-none : workedOut [] 2 1 ≡ Unsupported
     unsupported-by-none = let c = none-carries .0 in let k = none-carries .1 in rw (c, k)
@@ -420,11 +442,14 @@ pub refuted : Refuted
 refuted = record {
   refuses = refuses;
   refuses-table = refuses-table;
+  adds-none = adds-none;
+  loads-none = loads-none;
   denies = denies;
   adds-nothing = adds-nothing;
   stages-once = stages-once;
   made-up-depth = made-up-depth;
   too-deep = too-deep;
+  any-made-up = any-made-up;
   keeps-arrival = keeps-arrival;
   strikes-nothing = strikes-nothing;
   judges-prefixes = judges-prefixes;
@@ -434,5 +459,5 @@ refuted = record {
   clears-a-consequent = clears-a-consequent;
   frees-no-place = frees-no-place;
   reads-no-list = reads-no-list;
-  reads-no-list-untold = (demand-1-too, demand-2-too, demand-3-too, stores-too);
+  reads-no-list-untold = (refusals-too, demand-2-too, demand-3-too, stores-too);
 }

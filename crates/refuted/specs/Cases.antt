@@ -1,17 +1,19 @@
 -- The cases of document 01 that are proved (P), all eight in one table: over the calls, at the product's limits. Assumes nothing.
-use mathlib.Core.List.{List, [], _∷_, map}
+use mathlib.Core.List.{List, [], _++_, _∷_, map}
 use mathlib.Core.Option.{some}
 use mathlib.Core.Path.{_≡_}
-use Prim.Native.Nat.{ℕ}
-use lib.ListN.{length}
+use Prim.Native.Nat.{_+_, _<_, _≤_, ℕ}
+use lib.ListN.{drop, length}
 use Rattle.asking.specs.Asking.{memberNumber, memberSet}
-use Rattle.numbers.specs.Numbers.{numberAt}
-use Rattle.numbers.specs.declared.Number.the-variants.{Bad, Value}
-use Rattle.promises.specs.Calls.{Calls}
+use Rattle.asking.specs.declared.Answer.the-variants.{Unsupported}
+use Rattle.lines.specs.declared.Written.the-variants.{Length}
+use Rattle.numbers.specs.Numbers.{pastOf, replied, valued}
+use Rattle.promises.specs.Calls.{Calls, line, member, question, reads}
 use Rattle.promises.specs.Made.{Made}
-use Rattle.replies.specs.declared.Reply.the-variants.{Already, Done, Form}
+use Rattle.replies.specs.declared.Reply.the-variants.{Already, Done}
 use Rattle.store.specs.Reading.{labelHeld, nogoodsHeld}
 use Rattle.store.specs.declared.Store.{Store}
+use Rattle.text.specs.Texts.{word}
 use Rattle.theory.specs.Cases.{from, worked}
 use Rattle.theory.specs.Lists.{numbersTo}
 
@@ -35,9 +37,9 @@ oneWay C = C .adding (C .opening 1 2 .store) 2 (3 ∷ []) .store
 abbrev pub eachOther : Calls → Store
 eachOther C = C .adding (oneWay C) 3 (2 ∷ []) .store
 
--- A=2, M=1: falsity from no supports
-abbrev pub absurdity : Calls → Store
-absurdity C = C .adding (C .opening 2 1 .store) 0 [] .store
+-- A assumptions, M claims: falsity from no supports
+abbrev pub absurdity : Calls → ℕ → ℕ → Store
+absurdity C A M = C .adding (C .opening A M .store) 0 [] .store
 
 -- A=2, M=0: assumption 1 from assumption 2
 abbrev pub assumed : Calls → Store
@@ -59,6 +61,12 @@ pub record ListsAre (s : Store) (d : ℕ) (bad : List ℕ) (ls : List (List ℕ)
   pub nogoods : nogoodsHeld (s .lists) ≡ bad
   pub labels : map (labelHeld (s .lists)) (numbersTo (length ls)) ≡ ls
 
+-- the bytes give the number n, and the place next after it
+pub record Decodes (C : Calls) (bytes : List ℕ) (n next : ℕ) : Type 0 where
+  pub done : replied (C .decoding bytes 0) ≡ 0
+  pub value : valued (C .decoding bytes 0) ≡ some n
+  pub past : pastOf (C .decoding bytes 0) 0 ≡ next
+
 -- each row: the answer, what was put in, the lists
 pub record PCases (C : Calls) : Type 0 where
   -- A=0, M=0, nothing held: depth 0, no nogoods
@@ -71,18 +79,24 @@ pub record PCases (C : Calls) : Type 0 where
   pub listed-lists : ListsAre (listed C) 2 (3 ∷ []) ((1 ∷ []) ∷ (2 ∷ []) ∷ (4 ∷ []) ∷ (1 ∷ 6 ∷ []) ∷ (6 ∷ []) ∷ [])
   -- {2,3} is 6
   pub listed-5 : labelHeld (listed C .lists) 5 ≡ 6 ∷ []
-  pub listed-member : memberSet (C .member (listed C) 5 0 .answer) ≡ some 6
-  pub listed-last : memberNumber (C .member (listed C) 5 1 .answer) ≡ 16
+  pub listed-member : memberSet (C .reading (listed C) (member 5 0) .said) ≡ some 6
+  pub listed-last : memberNumber (C .reading (listed C) (member 5 1) .said) ≡ 16
   -- A=1, claims 2 and 3 supporting each other: both unsupported, depth 0
   pub one-way-done : C .adding (C .opening 1 2 .store) 2 (3 ∷ []) .reply ≡ Done
   pub one-way-made : Made C 1 2 (from 2 (3 ∷ []) ∷ []) (oneWay C)
   pub each-other-done : C .adding (oneWay C) 3 (2 ∷ []) .reply ≡ Done
   pub each-other-made : Made C 1 2 (from 3 (2 ∷ []) ∷ from 2 (3 ∷ []) ∷ []) (eachOther C)
   pub each-other-lists : ListsAre (eachOther C) 0 [] ((1 ∷ []) ∷ [] ∷ [] ∷ [])
-  -- a premise for falsity: one nogood, the empty set; all labels empty; depth 1. Not refused
-  pub absurdity-done : C .adding (C .opening 2 1 .store) 0 [] .reply ≡ Done
-  pub absurdity-made : Made C 2 1 (from 0 [] ∷ []) (absurdity C)
-  pub absurdity-lists : ListsAre (absurdity C) 1 (0 ∷ []) ([] ∷ [] ∷ [] ∷ [])
+  pub each-other-asked : (n E : ℕ) → 2 ≤ n → n ≤ 3 → E < 2 → C .reading (eachOther C) (question n E) .said ≡ Unsupported
+  pub each-other-line : (out : List ℕ) → 14 ≤ length out
+      → (C .reading (eachOther C) (line 2 out) ≡ reads (line 2 out) (Length 14) (eachOther C) (word "2 unsupported\n" ++ drop 14 out))
+      × (C .reading (eachOther C) (line 3 out) ≡ reads (line 3 out) (Length 14) (eachOther C) (word "3 unsupported\n" ++ drop 14 out))
+  -- a premise for falsity, whatever A and M: one nogood, the empty set; all labels empty; depth 1. Not refused
+  pub absurdity-done : (A M : ℕ) → A ≤ 32 → M ≤ 96 → C .adding (C .opening A M .store) 0 [] .reply ≡ Done
+  pub absurdity-made : (A M : ℕ) → A ≤ 32 → M ≤ 96 → Made C A M (from 0 [] ∷ []) (absurdity C A M)
+  pub absurdity-nogoods : (A M : ℕ) → A ≤ 32 → M ≤ 96 → nogoodsHeld (absurdity C A M .lists) ≡ 0 ∷ []
+  pub absurdity-labels : (A M : ℕ) → A ≤ 32 → M ≤ 96 → (n : ℕ) → n ≤ A + M → labelHeld (absurdity C A M .lists) n ≡ []
+  pub absurdity-depth : (A M : ℕ) → A ≤ 32 → M ≤ 96 → absurdity C A M .lists .depth ≡ 1
   -- assumption 1 justified by assumption 2: label of 1 is {1} {2}
   pub assumed-done : C .adding (C .opening 2 0 .store) 1 (2 ∷ []) .reply ≡ Done
   pub assumed-made : Made C 2 0 (from 1 (2 ∷ []) ∷ []) (assumed C)
@@ -95,9 +109,10 @@ pub record PCases (C : Calls) : Type 0 where
   pub struck-done : C .adding (C .opening 1 0 .store) 0 (1 ∷ []) .reply ≡ Done
   pub struck-made : Made C 1 0 (from 0 (1 ∷ []) ∷ []) (struck C)
   pub struck-lists : ListsAre (struck C) 1 (1 ∷ []) ([] ∷ [])
-  -- numbers in seven-bit groups: 127, 128 and 16,383, with the place after each; 300; 80 00 is refused
-  pub number-127 : numberAt (127 ∷ []) 0 ≡ Value 127 1
-  pub number-128 : numberAt (128 ∷ 1 ∷ []) 0 ≡ Value 128 2
-  pub number-16383 : numberAt (255 ∷ 127 ∷ []) 0 ≡ Value 16383 2
-  pub number-300 : numberAt (172 ∷ 2 ∷ []) 0 ≡ Value 300 2
-  pub number-80-00 : numberAt (128 ∷ 0 ∷ []) 0 ≡ Bad Form
+  -- numbers in seven-bit groups: 127, 128 and 16,383, with the place after each; 300; 80 00 is refused, and so is 80 alone
+  pub number-127 : Decodes C (127 ∷ []) 127 1
+  pub number-128 : Decodes C (128 ∷ 1 ∷ []) 128 2
+  pub number-16383 : Decodes C (255 ∷ 127 ∷ []) 16383 2
+  pub number-300 : Decodes C (172 ∷ 2 ∷ []) 300 2
+  pub number-80-00 : replied (C .decoding (128 ∷ 0 ∷ []) 0) ≡ 12
+  pub number-80 : replied (C .decoding (128 ∷ []) 0) ≡ 11

@@ -4,15 +4,15 @@ use mathlib.Core.Path.{_∙_, _≡_, ap, ap₂, refl, sym}
 use Prim.Native.Nat.{_+_, ℕ}
 use native.Mathlib.Omega.{arith}
 use lib.ListN.{getD, length}
 use Rattle.promises.proofs.Form.{Form, form-a, form-held, form-m, form-said, made-form}
 use Rattle.promises.proofs.InOrder.{in-order-is, in-order-ordered}
-use Rattle.promises.proofs.Small.{add-done, done-with, made-open, one-done, one-made}
+use Rattle.refuted.proofs.Small.{add-done, done-with, made-open, one-done, one-made}
 use Rattle.promises.proofs.Truth.{demand-2}
 use Rattle.promises.specs.Calls.{ours}
 use Rattle.promises.specs.Demand3.{Demand3}
 use Rattle.promises.specs.Made.{Made, inOrder, opened}
 use Rattle.promises.specs.Room.{Reaches}
-use Rattle.promises.specs.Wrong.{arrival, arriving, atTheEnd, putInOrder}
+use Rattle.refuted.specs.Wrong.{arrival, arriving, atTheEnd, putInOrder}
 use Rattle.replies.specs.declared.Reply.the-variants.{Done}
 use Rattle.rules.specs.Held.{heldOf, put, saidBy, vacant}
 use Rattle.rules.specs.Items.{faultOf, justificationOf}

@@ -1,0 +1,103 @@
+-- The calls held to the compiled code: of any arguments, each of the functions ends, is safe, and answers and leaves in the lent bytes what C says. Assumes nothing.
+use mathlib.Core.List.{List}
+use mathlib.Core.Path.{_≡_}
+use Prim.Native.Nat.{ℕ}
+use denote.Ref.{now}
+use Rattle.asking.proofs.context as context-at
+use Rattle.asking.proofs.context.Reads as context-reads
+use Rattle.asking.proofs.context.Symbol as context-code
+use Rattle.asking.proofs.member as member-at
+use Rattle.asking.proofs.member.Reads as member-reads
+use Rattle.asking.proofs.member.Symbol as member-code
+use Rattle.asking.proofs.question as question-at
+use Rattle.asking.proofs.question.Reads as question-reads
+use Rattle.asking.proofs.question.Symbol as question-code
+use Rattle.asking.specs.Asking.{Left, left}
+use Rattle.asking.specs.declared.Asked.{Asked}
+use Rattle.asking.specs.declared.Shown.{Shown}
+use Rattle.casefile.proofs.load as load-at
+use Rattle.casefile.proofs.load.Reads as load-reads
+use Rattle.casefile.proofs.load.Symbol as load-code
+use Rattle.lines.proofs.case_line as case-line-at
+use Rattle.lines.proofs.case_line.Reads as case-line-reads
+use Rattle.lines.proofs.case_line.Symbol as case-line-code
+use Rattle.lines.proofs.line as line-at
+use Rattle.lines.proofs.line.Reads as line-reads
+use Rattle.lines.proofs.line.Symbol as line-code
+use Rattle.lines.proofs.refusal as refusal-at
+use Rattle.lines.proofs.refusal.Reads as refusal-reads
+use Rattle.lines.proofs.refusal.Symbol as refusal-code
+use Rattle.lines.specs.Lines.{Wrote}
+use Rattle.lines.specs.declared.Listed.{Listed}
+use Rattle.lines.specs.declared.Written.{Written}
+use Rattle.numbers.proofs.read as read-at
+use Rattle.numbers.proofs.read.Reads as read-reads
+use Rattle.numbers.proofs.read.Symbol as read-code
+use Rattle.promises.specs.Calls.{Calls, Read, caseLine, context, line, member, question}
+use Rattle.promises.specs.Keeps.{Tied}
+use Rattle.store.proofs.Store.add as add-at
+use Rattle.store.proofs.Store.add.Reads as add-reads
+use Rattle.store.proofs.Store.add.Symbol as add-code
+use Rattle.store.proofs.Store.open as open-at
+use Rattle.store.proofs.Store.open.Reads as open-reads
+use Rattle.store.proofs.Store.open.Symbol as open-code
+use Rattle.store.proofs.Store.shape as shape-at
+use Rattle.store.proofs.Store.shape.Reads as shape-reads
+use Rattle.store.proofs.Store.shape.Symbol as shape-code
+use Rattle.store.proofs.Store.withdraw as withdraw-at
+use Rattle.store.proofs.Store.withdraw.Reads as withdraw-reads
+use Rattle.store.proofs.Store.withdraw.Symbol as withdraw-code
+use Rattle.store.proofs.judged as judged-at
+use Rattle.store.proofs.judged.Reads as judged-reads
+use Rattle.store.proofs.judged.Symbol as judged-code
+use Rattle.store.specs.Calls.{answer}
+
+-- ---- the structs in which the code hands over what a call leaves
+
+abbrev pub asked : {n E : ℕ} → Read (question n E) → Asked
+asked x = record { answer = x .said; store = x .store }
+
+abbrev pub contexted : {E : ℕ} {out : List ℕ} → Read (context E out) → Left
+contexted x = left (answer (x .said) (x .store)) (x .bytes)
+
+abbrev pub shown : {n place : ℕ} → Read (member n place) → Shown
+shown x = record { answer = x .said; store = x .store }
+
+abbrev pub lined : {n : ℕ} {out : List ℕ} → Read (line n out) → Listed
+lined x = record { answer = x .said; store = x .store }
+
+abbrev pub headed : {out : List ℕ} → Read (caseLine out) → Listed
+headed x = record { answer = x .said; store = x .store }
+
+abbrev pub wrote : Written → List ℕ → Wrote
+wrote r b = record { answer = r; bytes = b }
+
+-- ---- the functions: a the arguments, r the result, e the parameters at exit
+
+pub record Coded (C : Calls) : Type 2 where
+  pub opening : Tied open-at.ended open-code.routine open-reads.Asked open-reads.Learnt
+      (λ κs a r e. r ≡ C .opening (a .0) (a .1 .0))
+  pub loading : Tied load-at.ended load-code.routine load-reads.Asked load-reads.Learnt
+      (λ κs a r e. r ≡ C .loading (now (a .0)))
+  pub adding : Tied add-at.ended add-code.routine add-reads.Asked add-reads.Learnt
+      (λ κs a r e. r ≡ C .adding (a .0) (a .1 .0) (now (a .1 .1 .0)))
+  pub withdrawing : Tied withdraw-at.ended withdraw-code.routine withdraw-reads.Asked withdraw-reads.Learnt
+      (λ κs a r e. r ≡ C .withdrawing (a .0) (a .1 .0) (now (a .1 .1 .0)))
+  pub question : Tied question-at.ended question-code.routine question-reads.Asked question-reads.Learnt
+      (λ κs a r e. r ≡ asked (C .reading (a .0) (question (a .1 .0) (a .1 .1 .0))))
+  pub context : Tied context-at.ended context-code.routine context-reads.Asked context-reads.Learnt
+      (λ κs a r e. left r (now (e .1 .1 .0)) ≡ contexted (C .reading (a .0) (context (a .1 .0) (now (a .1 .1 .0)))))
+  pub member : Tied member-at.ended member-code.routine member-reads.Asked member-reads.Learnt
+      (λ κs a r e. r ≡ shown (C .reading (a .0) (member (a .1 .0) (a .1 .1 .0))))
+  pub line : Tied line-at.ended line-code.routine line-reads.Asked line-reads.Learnt
+      (λ κs a r e. (r ≡ lined (C .reading (a .0) (line (a .1 .0) (now (a .1 .1 .0))))) × (now (e .1 .1 .0) ≡ C .reading (a .0) (line (a .1 .0) (now (a .1 .1 .0))) .bytes))
+  pub caseLine : Tied case-line-at.ended case-line-code.routine case-line-reads.Asked case-line-reads.Learnt
+      (λ κs a r e. (r ≡ headed (C .reading (a .0) (caseLine (now (a .1 .0))))) × (now (e .1 .0) ≡ C .reading (a .0) (caseLine (now (a .1 .0))) .bytes))
+  pub judging : Tied judged-at.ended judged-code.routine judged-reads.Asked judged-reads.Learnt
+      (λ κs a r e. r ≡ C .judging (a .0))
+  pub shape : Tied shape-at.ended shape-code.routine shape-reads.Asked shape-reads.Learnt
+      (λ κs a r e. r ≡ C .shape (a .0))
+  pub refusal : Tied refusal-at.ended refusal-code.routine refusal-reads.Asked refusal-reads.Learnt
+      (λ κs a r e. wrote r (now (e .1 .1 .0)) ≡ C .refusal (a .0) (a .1 .0) (now (a .1 .1 .0)))
+  pub decoding : Tied read-at.ended read-code.routine read-reads.Asked read-reads.Learnt
+      (λ κs a r e. r ≡ C .decoding (now (a .0)) (a .1 .0))

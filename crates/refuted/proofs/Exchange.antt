@@ -1,0 +1,15 @@
+-- What holds of a reading and of an exchanged question holds of the reading with the question exchanged. Assumes nothing.
+use mathlib.Core.List.{[]}
+use Prim.Native.Nat.{ℕ}
+use Rattle.asking.specs.declared.Answer.{Answer}
+use Rattle.promises.specs.Calls.{Ask, Read, caseLine, context, line, member, question, reads}
+use Rattle.refuted.specs.Exchange.{answering}
+use Rattle.store.specs.declared.Store.{Store}
+
+module _ (f : Store → ℕ → ℕ → Answer) (r : Store → (a : Ask) → Read a) (s : Store) (P : (a : Ask) → Read a → Type 0) where
+  pub by-question : ((a : Ask) → P a (r s a)) → ((n E : ℕ) → P (question n E) (reads (question n E) (f s n E) s [])) → (a : Ask) → P a (answering f r s a)
+  by-question p q (question n E) = q n E
+  by-question p q (context E out) = p (context E out)
+  by-question p q (member n place) = p (member n place)
+  by-question p q (line n out) = p (line n out)
+  by-question p q (caseLine out) = p (caseLine out)

@@ -1,0 +1,9 @@
+pub mod Exchange
+pub mod Small
+pub mod Absurdity
+pub mod Cases
+pub mod Prefixed
+pub mod Arrival
+pub mod Deducing
+pub mod Readings
+pub mod Wrong

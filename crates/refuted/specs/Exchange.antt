@@ -1,0 +1,48 @@
+-- A program with one of its calls exchanged for another. Assumes nothing.
+use mathlib.Core.List.{List, []}
+use Prim.Native.Nat.{ℕ}
+use Rattle.asking.specs.declared.Answer.{Answer}
+use Rattle.casefile.specs.declared.Loaded.{Loaded}
+use Rattle.promises.specs.Calls.{Ask, Calls, Read, caseLine, context, line, member, question, reads}
+use Rattle.store.specs.declared.Outcome.{Outcome}
+use Rattle.store.specs.declared.Store.{Store}
+
+-- C with these five calls for its own
+abbrev pub exchanged : Calls → (ℕ → ℕ → Outcome) → (List ℕ → Loaded) → (Store → ℕ → List ℕ → Outcome) → (Store → ℕ → List ℕ → Outcome) → (Store → (a : Ask) → Read a) → Calls
+exchanged C opening loading adding withdrawing reading = record {
+  opening = opening;
+  loading = loading;
+  judging = C .judging;
+  adding = adding;
+  withdrawing = withdrawing;
+  reading = reading;
+  shape = C .shape;
+  refusal = C .refusal;
+  decoding = C .decoding;
+}
+
+abbrev pub withOpening : (ℕ → ℕ → Outcome) → Calls → Calls
+withOpening f C = exchanged C f (C .loading) (C .adding) (C .withdrawing) (C .reading)
+
+abbrev pub withLoading : (List ℕ → Loaded) → Calls → Calls
+withLoading f C = exchanged C (C .opening) f (C .adding) (C .withdrawing) (C .reading)
+
+abbrev pub withAdding : (Store → ℕ → List ℕ → Outcome) → Calls → Calls
+withAdding f C = exchanged C (C .opening) (C .loading) f (C .withdrawing) (C .reading)
+
+abbrev pub withWithdrawing : (Store → ℕ → List ℕ → Outcome) → Calls → Calls
+withWithdrawing f C = exchanged C (C .opening) (C .loading) (C .adding) f (C .reading)
+
+abbrev pub withReading : (Store → (a : Ask) → Read a) → Calls → Calls
+withReading f C = exchanged C (C .opening) (C .loading) (C .adding) (C .withdrawing) f
+
+-- a question answered by f, what else is read by r
+abbrev pub answering : (Store → ℕ → ℕ → Answer) → (Store → (a : Ask) → Read a) → Store → (a : Ask) → Read a
+answering f r s (question n E) = reads (question n E) (f s n E) s []
+answering f r s (context E out) = r s (context E out)
+answering f r s (member n place) = r s (member n place)
+answering f r s (line n out) = r s (line n out)
+answering f r s (caseLine out) = r s (caseLine out)
+
+abbrev pub withQuestion : (Store → ℕ → ℕ → Answer) → Calls → Calls
+withQuestion f C = withReading (answering f (C .reading)) C

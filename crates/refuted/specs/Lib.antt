@@ -1,0 +1,4 @@
+pub mod Cases
+pub mod Exchange
+pub mod Readings
+pub mod Wrong
