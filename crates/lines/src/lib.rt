@@ -51,8 +51,8 @@ fn worded(n: u32, list: &[Set], out: &mut [u8]) -> usize
     text::line(n, b" supported", list, out)
 }
 
-// The text of the line of n.
-fn lined(store: Store, n: u32, out: &mut [u8]) -> usize
+// The text of the line of n; the shape was looked at.
+pub fn lined(store: Store, n: u32, out: &mut [u8]) -> usize
     requires { ⌜ (rightShape store ≡ true) × (n ≤ 128) × Room (lineText (store .lists) n) 0 (now out) ⌝ }
     ensures { λ r. ⌜ Put (lineText (store .lists) n) 0 (now (out .entry)) (now (out .exit)) r ⌝ }
 {

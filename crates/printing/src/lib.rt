@@ -1,10 +1,9 @@
-// The listing and its lines on standard output; what failed on standard error.
+// Text on standard output; what failed on standard error.
 use libc::STDERR_FILENO;
 use libc::STDIN_FILENO;
 use libc::STDOUT_FILENO;
 use lines::Written;
 use replies::Reply;
-use store::Store;
 
 // What a failure says of itself, where the output may be what failed.
 pub fn complain(text: &[u8]) {
@@ -20,17 +19,11 @@ pub fn at_end() -> bool {
     libc::read(STDIN_FILENO, &mut one) == 0
 }
 
-// Whether the text was written.
-fn said(text: &[u8]) -> bool {
-    let whole = io::write_all(STDOUT_FILENO, text);
-    if !whole {
+// A text; what could not be written is told on standard error.
+pub fn say(text: &[u8]) {
+    if !io::write_all(STDOUT_FILENO, text) {
         complain(b"the output could not be written\n");
     }
-    whole
-}
-
-pub fn say(text: &[u8]) {
-    said(text);
 }
 
 // A number in decimal digits.
@@ -38,14 +31,13 @@ pub fn decimal(n: u32) {
     io::print_decimal(STDOUT_FILENO, n as u64);
 }
 
-// Whether the text that a call wrote, if it wrote one, was written.
-fn written(answer: Written, text: &[u8]) -> bool {
+// The text that a call wrote, if it wrote one.
+pub fn written(answer: Written, text: &[u8]) {
     if let Written::Length(n) = answer {
         if n <= text.len() {
-            return said(&text[..n]);
+            say(&text[..n]);
         }
     }
-    false
 }
 
 // The line of a refusal and of the record being read.
@@ -53,31 +45,6 @@ pub fn refused(reply: Reply, record: u32) {
     let mut text = [0u8; lines::LONGEST];
     let answer = lines::refusal(reply, record, &mut text);
     written(answer, &text);
-}
-
-// Whether the line of n was written.
-fn line(store: Store, n: u32) -> bool {
-    let mut text = [0u8; lines::LONGEST];
-    let out = lines::line(store, n, &mut text);
-    let answer = out.answer;
-    written(answer, &text)
-}
-
-// The whole listing, as far as it can be written.
-pub fn listing(store: Store) {
-    let mut text = [0u8; lines::LONGEST];
-    let out = lines::case_line(store, &mut text);
-    let answer = out.answer;
-    if !written(answer, &text) {
-        return;
-    }
-    let held = store.held;
-    let top = held.assumptions as u32 + held.claims as u32;
-    for n in 0..top + 1 {
-        if !line(store, n) {
-            return;
-        }
-    }
 }
 
 // A set as the listing prints it.

@@ -8,9 +8,10 @@ use native.Mathlib.Omega.{arith}
 use Rattle.labels.specs.Layout.{lying}
 use Rattle.promises.proofs.Form.{Form, form-lists, form-ranged, form-settled}
 use Rattle.promises.proofs.InOrder.{in-order-from, in-order-to}
-use Rattle.promises.proofs.Right.{Antichain, form-room, form-stage, label-antichain, nogoods-antichain}
+use Rattle.promises.proofs.Right.{form-room, form-stage}
 use Rattle.promises.specs.Demand2.{IsDepth, ListsSmallest}
 use Rattle.promises.specs.Made.{SameMembers, inOrder}
+use Rattle.shape.proofs.Stage.{Antichain, label-antichain, nogoods-antichain}
 use Rattle.stages.proofs.Stages.{lies, nogoods-lie}
 use Rattle.stages.specs.Lists.{listsOf}
 use Rattle.stages.specs.declared.Lists.{Lists}

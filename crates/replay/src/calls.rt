@@ -205,19 +205,32 @@ fn member(n: u32, place: u32, store: Store) {
     }
 }
 
-// line N
-fn line(n: u32, store: Store) {
-    let mut text = [0u8; lines::LONGEST];
-    let out = lines::line(store, n, &mut text);
-    let answer = out.answer;
+// The text that a call wrote, or its refusal.
+fn told(answer: Written, text: &[u8]) {
     match answer {
         Written::Length(length) => {
-            if length <= lines::LONGEST {
+            if length <= text.len() {
                 say(&text[..length]);
             }
         }
         Written::Refused(reply) => refused(reply),
     }
+}
+
+// line N
+fn line(n: u32, store: Store) {
+    let mut text = [0u8; lines::LONGEST];
+    let out = lines::line(store, n, &mut text);
+    let answer = out.answer;
+    told(answer, &text);
+}
+
+// list
+fn list(store: Store) {
+    let mut text = [0u8; listing::LONGEST];
+    let out = listing::listing(store, &mut text);
+    let answer = out.answer;
+    told(answer, &text);
 }
 
 // The calls that read.
@@ -236,7 +249,7 @@ pub fn read(word: &[u8], rest: &[u8], number: u32, store: Store) {
     }
     if script::same(word, b"list") {
         if n == 0 {
-            return printing::listing(store);
+            return list(store);
         }
         return bad(number);
     }

@@ -9,17 +9,17 @@ use Rattle.printing.proofs.written.Tie as tie
 enum-known-answer : tie.Need-enum-known-answer
 enum-known-answer c = search needs
 
-slice-aggregate-said : tie.Need-slice-aggregate-said
-slice-aggregate-said c = sym (length-take-le _ _ (omega arith))
+slice-aggregate-say : tie.Need-slice-aggregate-say
+slice-aggregate-say c = sym (length-take-le _ _ (omega arith))
 
-said-requires : tie.Need-said-requires
-said-requires c κs = search needs
-
-returns : tie.Need-returns
-returns c = search needs
+say-requires : tie.Need-say-requires
+say-requires c κs = search needs
 
 enum-told : tie.Need-enum-told
 enum-told c = search needs
+
+returns : tie.Need-returns
+returns c = search needs
 
 returns-2 : tie.Need-returns-2
 returns-2 c = search needs
@@ -32,9 +32,9 @@ written-spec =
     tie.close
     (tie.spec
     enum-known-answer
-    slice-aggregate-said
-    said-requires
-    returns
+    slice-aggregate-say
+    say-requires
     enum-told
+    returns
     returns-2
     returns-3)

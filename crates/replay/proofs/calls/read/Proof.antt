@@ -50,8 +50,8 @@ slice-aggregate-same-2 c = search needs
 same-requires-2 : tie.Need-same-requires-2
 same-requires-2 c κs = search needs
 
-listing-requires : tie.Need-listing-requires
-listing-requires c κs = search needs
+list-requires : tie.Need-list-requires
+list-requires c κs = search needs
 
 returns-4 : tie.Need-returns-4
 returns-4 c = search needs
@@ -120,7 +120,7 @@ read-spec =
     returns-3
     slice-aggregate-same-2
     same-requires-2
-    listing-requires
+    list-requires
     returns-4
     bad-requires-2
     returns-5

@@ -1,21 +1,13 @@
+-- `told` is safe and ends. Assumes nothing.
 use lib.Seq.{length-take-le}
 use mathlib.Core.Path.{sym}
 use native.Mathlib.Omega.{arith}
 use borrow.Author.Needs.{needs}
-use Rattle.replay.proofs.calls.line.Statement.{statement}
-use Rattle.replay.proofs.calls.line.Tie as tie
-
-slice-aggregate-line : tie.Need-slice-aggregate-line
-slice-aggregate-line c = search needs
-
-line-requires : tie.Need-line-requires
-line-requires c κs = search needs
+use Rattle.replay.proofs.calls.told.Statement.{statement}
+use Rattle.replay.proofs.calls.told.Tie as tie
 
 enum-known-answer : tie.Need-enum-known-answer
 enum-known-answer c = search needs
-
-array-share-prefix-text : tie.Need-array-share-prefix-text
-array-share-prefix-text c = search needs
 
 slice-aggregate-say : tie.Need-slice-aggregate-say
 slice-aggregate-say c = sym (length-take-le _ _ (omega arith))
@@ -38,14 +30,11 @@ returns-2 c = search needs
 returns-3 : tie.Need-returns-3
 returns-3 c = search needs
 
-pub line-spec : {M : Type 1} → statement M
-line-spec =
+pub told-spec : {M : Type 1} → statement M
+told-spec =
     tie.close
     (tie.spec
-    slice-aggregate-line
-    line-requires
     enum-known-answer
-    array-share-prefix-text
     slice-aggregate-say
     say-requires
     enum-known-answer-2
