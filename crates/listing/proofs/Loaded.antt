@@ -7,7 +7,7 @@ use Rattle.casefile.proofs.Whole.{case-sure}
 use Rattle.casefile.specs.Case.{Case, heldBy}
 use Rattle.casefile.specs.Load.{loadOf}
 use Rattle.casefile.specs.declared.Loaded.{Loaded}
-use Rattle.items.proofs.Taken.{zero-done}
+use Rattle.replies.proofs.Laws.{zero-done}
 use Rattle.replies.specs.Replies.{numberOf}
 use Rattle.replies.specs.declared.Reply.the-variants.{Done}
 use Rattle.store.proofs.Right.{Whole, stored-right}
@@ -21,5 +21,5 @@ loaded-right l z =
     let s : Case = c .0 in
     let e = load-store l s (c .1) in
     subst (λ (r : Loaded). Whole (r .store)) (sym e)
-    (stored-right (s .header .assumptions) (s .header .claims) (heldBy s) (c .2 .limited .assumptions) (c .2 .limited .claims) (case-sure s (c .2) .right) noStore
+    (stored-right (s .header .assumptions) (s .header .claims) (heldBy s) (c .2 .limited .assumptions) (c .2 .limited .claims) (case-sure s (c .2) .right) (case-sure s (c .2) .said) noStore
     (sym (ap (λ (r : Loaded). r .reply) e) ∙ done))

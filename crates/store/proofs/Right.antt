@@ -27,13 +27,18 @@ pub record Whole (s : Store) : Type 0 where
   pub right : rightShape s ≡ true
   pub places : length (s .lists .nogoods) ≡ 32
 
-module _ (A M : ℕ) (J : List Justification) (few : A ≤ 32) (claims : M ≤ 96) (fits : heldRight (heldOf A M J) ≡ true) where
+module _ (A M : ℕ) (J : List Justification) (few : A ≤ 32) (claims : M ≤ 96) (fits : heldRight (heldOf A M J) ≡ true)
+    (said : saidBy (heldOf A M J) ≡ J) where
+  in-range : Within (A + M) J
+  unfolding heldOf
+  in-range j m = right-range (heldOf A M J) fits j (subst (Mem j) (sym said) m) .low
+
   settled-right : (d : ℕ) (g : Stage) → judge limits A (A + M) J ≡ settled d g → Whole (record { held = heldOf A M J; lists = listsOf d g })
   unfolding rightShape heldFits heldOf listsOf
   settled-right d g e =
       let t = settled-told limits A (A + M) J d g e in
       let same : g ≡ stageAt A (A + M) J d = settled-stage limits A (A + M) J d g e in
-      let low : d ≤ 129 = omega (arith, t .1) in
+      let low : d ≤ 129 = omega (arith, t .1, consequents-few (A + M) J in-range, few, claims) in
       let room : Room (stageAt A (A + M) J d) = record { few = t .4; short = t .5 } in
       record {
         right =
