@@ -19,6 +19,7 @@ pub enum Reply {
     Long,
     Short,
     Place,
+    Itself,
     Unheld,
 }
 
@@ -44,6 +45,7 @@ pub fn number(reply: Reply) -> u8
         Reply::Long => 14,
         Reply::Short => 15,
         Reply::Place => 16,
+        Reply::Itself => 17,
         Reply::Unheld => 18,
     }
 }
