@@ -14,20 +14,21 @@ use Rattle.promises.proofs.InOrder.{in-order-ordered}
 use Rattle.promises.specs.Calls.{ours}
 use Rattle.promises.specs.Made.{Made, inOrder}
 use Rattle.rules.proofs.Entries.{length-padded, padded-spare, unpadded}
-use Rattle.rules.proofs.Laws.{held-right}
-use Rattle.rules.specs.Held.{heldRight}
+use Rattle.rules.proofs.Laws.{held-right, right-range}
+use Rattle.rules.specs.Held.{heldRight, saidBy}
 use Rattle.shape.proofs.Elim.{Listed, lists-intro}
 use Rattle.shape.specs.Shape.{apart, listsRight}
 use Rattle.stages.proofs.Stages.{room-few, room-short}
 use Rattle.stages.specs.Lists.{listsOf}
 use Rattle.stages.specs.Steps.{Room}
 use Rattle.stages.specs.declared.Lists.{Lists}
+use Rattle.store.proofs.Shapes.{shape-elim}
 use Rattle.store.specs.Shape.{heldFits, rightShape}
 use Rattle.store.specs.declared.Store.{Store}
 use Rattle.theory.proofs.Depth.{consequents-few}
 use Rattle.theory.proofs.Judgement.{settled-stage, settled-told, stage-label, stage-label-none, stage-nogoods}
 use Rattle.theory.proofs.Label.{label-elim, nogood-elim}
-use Rattle.theory.proofs.Lists.{all-intro, and-intro, not-so}
+use Rattle.theory.proofs.Lists.{all-intro, and-intro, clash, not-so, some-intro}
 use Rattle.theory.proofs.Order.{before-irrefl, label-sorted, nogoods-sorted, sorted-imply}
 use Rattle.theory.proofs.Places.{getD-table, is-table, length-table}
 use Rattle.theory.specs.Judge.{Stage, limits, stageAt}
@@ -173,3 +174,12 @@ module _ {A M : ℕ} {H : List Justification} {s : Store} (f : Form A M H s) whe
 -- a made store has the right shape
 pub made-right : {A M : ℕ} {H : List Justification} {s : Store} → Made ours A M H s → rightShape s ≡ true
 made-right m = form-right (made-form m)
+
+-- a store that holds a justification that names its own consequent as a support has the wrong shape, so no made store holds one
+pub own-shape : (s : Store) (j : Justification) → Mem j (saidBy (s .held)) → Mem (j .consequent) (j .supports) → rightShape s ≡ false
+own-shape s j m own =
+    not-so (rightShape s)
+    (λ (r : rightShape s ≡ true). clash (some-intro (eqb (j .consequent)) own (eq-eqb (j .consequent) (j .consequent) refl)) (right-range (s .held) (shape-elim s r .0 .right) j m .foreign))
+
+pub made-no-own : {A M : ℕ} {H : List Justification} {s : Store} → Made ours A M H s → (j : Justification) → Mem j (saidBy (s .held)) → Mem (j .consequent) (j .supports) → ⊥
+made-no-own m j k own = clash (made-right m) (own-shape _ j k own)
