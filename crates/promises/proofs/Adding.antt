@@ -17,7 +17,7 @@ use Rattle.promises.specs.Once.{One}
 use Rattle.promises.specs.Room.{AddSays, AllInRoom, Reaches, StagesSay}
 use Rattle.promises.specs.Rows.{given}
 use Rattle.replies.specs.declared.Reply.{Reply}
-use Rattle.replies.specs.declared.Reply.the-variants.{Already, Done, Falsity, Full, Number, Supports}
+use Rattle.replies.specs.declared.Reply.the-variants.{Already, Done, Falsity, Full, Itself, Number, Supports}
 use Rattle.rules.proofs.Laws.{Ranged, faultless-ranged}
 use Rattle.rules.proofs.Order.{mem-same, same-mem}
 use Rattle.rules.specs.Held.{heldOf, put}
@@ -80,10 +80,10 @@ module _ {A M : ℕ} {H : List Justification} {s : Store} (f : Form A M H s) (c 
         (λ q. subst (λ (K : List Justification). StagesSay A N (i ∷ H) (storeOf s A M K .reply)) (in-order-new i H p) larger-says))
 
   add-says : AddSays A M H c l (addOf s c l .reply)
-  add-says = subst (AddSays A M H c l) (sym reply-is) (fault-told N c l unless _ Number Falsity refl refl joined-says Supports refl)
+  add-says = subst (AddSays A M H c l) (sym reply-is) (fault-told N c l unless _ Number Falsity Itself refl refl refl joined-says Supports refl)
 
   one-reply : One (AddSays A M H c l)
-  one-reply = given-one _ _ _ (given-one _ _ _ (given-one _ _ _ (given-one _ _ _ (given-one _ _ _ (say-one A N (i ∷ H))))))
+  one-reply = given-one _ _ _ (given-one _ _ _ (given-one _ _ _ (given-one _ _ _ (given-one _ _ _ (given-one _ _ _ (say-one A N (i ∷ H)))))))
 
   -- adding gives r exactly when the rows say
   pub form-adding : (r : Reply) → (addOf s c l .reply ≡ r) ↔ AddSays A M H c l r
@@ -94,5 +94,5 @@ pub reached : {A M : ℕ} {H : List Justification} (c : ℕ) (l : List ℕ) → 
 reached {A} {M} {H} c l r w =
     let K : List Justification = justificationOf (A + M) c l ∷ H in
     subst (AddSays A M H c l) (r .sound)
-    (fault-told (A + M) c l (λ (x : Reply). x) _ Number Falsity refl refl
+    (fault-told (A + M) c l (λ (x : Reply). x) _ Number Falsity Itself refl refl refl
     (λ d. passes Reply _ _ Done _ (r .new) (passes Reply _ _ Done _ (λ (z : 256 ≤ length (inOrder H)). omega (arith, r .room)) (room-says A (A + M) K w))) Supports refl)

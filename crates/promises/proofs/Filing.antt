@@ -28,7 +28,7 @@ use Rattle.promises.specs.Rows.{given}
 use Rattle.promises.specs.Table.{DecodeRows, LoadNames, LoadRows, Next, NumberRows, NumbersRows, RecordRows, Reported, SecondRows, StageRows, reported}
 use Rattle.replies.specs.Replies.{namedBy, numberOf}
 use Rattle.replies.specs.declared.Reply.{Reply}
-use Rattle.replies.specs.declared.Reply.the-variants.{After, Counts, Ends, Falsity, Form, Full, Number, Supports}
+use Rattle.replies.specs.declared.Reply.the-variants.{After, Counts, Ends, Falsity, Form, Full, Itself, Number, Supports}
 use Rattle.rules.specs.Held.{heldOf}
 use Rattle.rules.specs.Items.{faultOf, justificationOf}
 use Rattle.store.specs.Calls.{noStore, storeOf}
@@ -173,7 +173,7 @@ module _ (A N t : ℕ) where
       number-told (suc r) l₁ _ (λ t. h (andThen t (counted c))) b (λ k l₂.
       by-choice _ h (ltb 4 k) (bad Supports) (andThen (numbersFrom k l₂) (sound c)) (less-test 4 k) (b Supports)
       (λ (p : ltb 4 k ≡ false). numbers-told (suc r) k l₂ _ (λ t. h (andThen t (sound c))) b (λ s l₃ q.
-      few-told N c s (λ x. h (unless x (item c s) l₃)) _ (4, suc r) (5, suc r) (b Number) (b Falsity)
+      few-told N c s (λ x. h (unless x (item c s) l₃)) _ (4, suc r) (5, suc r) (17, suc r) (b Number) (b Falsity) (b Itself)
       (λ d. records-told n (suc r) (justificationOf N c s ∷ H) l₃ (λ R. g (withItem (item c s) R)) e (omega arith) (ended-next H n g (item c s) d f))
       (omega (arith, ltb-false 4 k p))))))
 

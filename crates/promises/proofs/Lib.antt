@@ -21,6 +21,5 @@ pub mod Refusals
 pub mod Counting
 pub mod Models
 pub mod Meaning
-pub mod OwnSupport
 pub mod Truth
 pub mod Promises

@@ -16,7 +16,6 @@ use Rattle.theory.proofs.Demands.{carries-means, contradicts-means}
 use Rattle.theory.proofs.Depth.{consequents-less}
 use Rattle.theory.proofs.Judgement.{agree-at-last, agree-elim}
 use Rattle.theory.proofs.Lists.{clash, not-so}
-use Rattle.theory.proofs.SelfSupport.{self-follows, self-stage}
 use Rattle.theory.proofs.Step.{Least, label-step, nogood-step}
 use Rattle.theory.specs.Demands.{carries, contradicts}
 use Rattle.theory.specs.Judge.{consequents, stageAt}
@@ -37,21 +36,6 @@ module _ (H : List Justification) (E : ℕ) where
 
 unrivalled : (l : List ℕ) (E : ℕ) → Least l E ↔ Unrivalled l E
 unrivalled l E = (λ u. record { listed = u .mem; alone = u .alone }, λ u. record { mem = u .listed; alone = u .alone })
-
--- ---- a justification that names its own consequent
-
-module _ (j : Justification) (H : List Justification) (self : Mem (j .consequent) (j .supports)) (A : ℕ) where
-  pub self-label : (k n : ℕ) → labelAt A (j ∷ H) k n ≡ labelAt A H k n
-  unfolding labelAt
-  self-label k n = ap (λ S. labelOf A (S k) n) (self-follows j H self)
-
-  pub self-nogoods : (k : ℕ) → nogoodsAt A (j ∷ H) k ≡ nogoodsAt A H k
-  unfolding nogoodsAt
-  self-nogoods k = ap (λ S. nogoodsOf A (S k)) (self-follows j H self)
-
--- the stages alone decide the depth
-depth-by : (A N d : ℕ) (H K : List Justification) → ((k : ℕ) → stageAt A N H k ≡ stageAt A N K k) → IsDepth A N H d → IsDepth A N K d
-depth-by A N d H K e f = record { agrees = sym (e d) ∙ f .agrees ∙ e (suc d); least = λ i h q. f .least i h (e i ∙ q ∙ sym (e (suc i))) }
 
 -- the depth and the different consequents
 pub depth-consequents : (A N : ℕ) (H : List Justification) (k : ℕ) → IsDepth A N H k → k ≤ length (consequents H)
@@ -79,9 +63,4 @@ meaning = record {
   label-step = λ A H k n E. let s = label-step A H k n E in let u = unrivalled _ E in (λ m. let r = s .0 m in (r .0, u .0 (r .1)), λ r. s .1 (r .0, u .1 (r .1)));
   depth-consequents = depth-consequents;
   consequents-same = λ H K f. omega (arith, consequents-less H K (λ j. f j .0), consequents-less K H (λ j. f j .1));
-  self-label = self-label;
-  self-nogoods = self-nogoods;
-  self-depth = λ j H self A N d.
-      let e : (k : ℕ) → stageAt A N (j ∷ H) k ≡ stageAt A N H k = self-stage j H self A N in
-      (depth-by A N d (j ∷ H) H e, depth-by A N d H (j ∷ H) (λ k. sym (e k)));
 }

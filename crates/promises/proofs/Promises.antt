@@ -2,7 +2,7 @@
 use Rattle.promises.proofs.Form.{made-holds}
 use Rattle.promises.proofs.Meaning.{meaning}
 use Rattle.promises.proofs.Refusals.{demand-1}
-use Rattle.promises.proofs.Right.{made-right}
+use Rattle.promises.proofs.Right.{made-no-own, made-right, own-shape}
 use Rattle.promises.proofs.Sameness.{demand-3}
 use Rattle.promises.proofs.Standing.{as-they-stand}
 use Rattle.promises.proofs.Truth.{demand-2}
@@ -11,7 +11,7 @@ use Rattle.promises.specs.Made.{Stores}
 use Rattle.promises.specs.Promises.{Promises}
 
 pub stores : Stores ours
-stores = record { holds = made-holds; right = made-right }
+stores = record { holds = made-holds; no-own = made-no-own; own-wrong = own-shape; right = made-right }
 
 pub promises : Promises ours
 promises = record { demand1 = demand-1; demand2 = demand-2; demand3 = demand-3; stores = stores; standing = as-they-stand; meaning = meaning }

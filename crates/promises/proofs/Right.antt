@@ -9,18 +9,19 @@ use Rattle.promises.proofs.Form.{Form, form-a, form-held, form-lists, f
 use Rattle.promises.proofs.InOrder.{in-order-ordered}
 use Rattle.promises.specs.Calls.{ours}
 use Rattle.promises.specs.Made.{Made, inOrder}
-use Rattle.rules.proofs.Laws.{held-right}
-use Rattle.rules.specs.Held.{heldRight}
+use Rattle.rules.proofs.Laws.{held-right, right-range}
+use Rattle.rules.specs.Held.{heldRight, saidBy}
 use Rattle.shape.proofs.Stage.{stage-right}
 use Rattle.shape.specs.Shape.{listsRight}
 use Rattle.stages.specs.Lists.{listsOf}
 use Rattle.stages.specs.Steps.{Room}
 use Rattle.stages.specs.declared.Lists.{Lists}
+use Rattle.store.proofs.Shapes.{shape-elim}
 use Rattle.store.specs.Shape.{heldFits, rightShape}
 use Rattle.store.specs.declared.Store.{Store}
 use Rattle.theory.proofs.Depth.{consequents-few}
 use Rattle.theory.proofs.Judgement.{settled-stage, settled-told}
-use Rattle.theory.proofs.Lists.{and-intro}
+use Rattle.theory.proofs.Lists.{and-intro, clash, not-so, some-intro}
 use Rattle.theory.specs.Judge.{limits, stageAt}
 use Rattle.theory.specs.Stages.{Justification}
 
@@ -61,3 +62,12 @@ module _ {A M : ℕ} {H : List Justification} {s : Store} (f : Form A M H s) whe
 -- a made store has the right shape
 pub made-right : {A M : ℕ} {H : List Justification} {s : Store} → Made ours A M H s → rightShape s ≡ true
 made-right m = form-right (made-form m)
+
+-- a store that holds a justification that names its own consequent as a support has the wrong shape, so no made store holds one
+pub own-shape : (s : Store) (j : Justification) → Mem j (saidBy (s .held)) → Mem (j .consequent) (j .supports) → rightShape s ≡ false
+own-shape s j m own =
+    not-so (rightShape s)
+    (λ (r : rightShape s ≡ true). clash (some-intro (eqb (j .consequent)) own (eq-eqb (j .consequent) (j .consequent) refl)) (right-range (s .held) (shape-elim s r .0 .right) j m .foreign))
+
+pub made-no-own : {A M : ℕ} {H : List Justification} {s : Store} → Made ours A M H s → (j : Justification) → Mem j (saidBy (s .held)) → Mem (j .consequent) (j .supports) → ⊥
+made-no-own m j k own = clash (made-right m) (own-shape _ j k own)

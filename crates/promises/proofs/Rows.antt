@@ -16,7 +16,7 @@ use Rattle.promises.specs.Rows.{given, naming, noRow}
 use Rattle.promises.specs.Table.{Outside, StageRows}
 use Rattle.replies.specs.Replies.{namedBy, numberOf}
 use Rattle.replies.specs.declared.Reply.{Reply}
-use Rattle.replies.specs.declared.Reply.the-variants.{Done, Falsity, Nogoods, Number, Supports}
+use Rattle.replies.specs.declared.Reply.the-variants.{Done, Falsity, Itself, Nogoods, Number, Supports}
 use Rattle.rules.specs.Items.{faultOf}
 use Rattle.rules.specs.declared.Held.{Held}
 use Rattle.store.specs.Calls.{ofVerdict}
@@ -101,10 +101,10 @@ above-test N c l =
       not-so = λ h r. clash (some-intro (ltb N) (r .1) (lt-ltb N (r .0) (r .2))) h;
     })
 
-pub zero-test : (l : List ℕ) → Tests (someOf (eqb 0) l) (Mem 0 l)
-zero-test l = record {
-  so = λ h. let r = some-elim (eqb 0) l h in subst (λ (x : ℕ). Mem x l) (sym (eqb-true 0 (r .0) (r .2))) (r .1);
-  not-so = λ h m. clash (some-intro (eqb 0) m (eq-eqb 0 0 refl)) h;
+pub has-test : (n : ℕ) (l : List ℕ) → Tests (someOf (eqb n) l) (Mem n l)
+has-test n l = record {
+  so = λ h. let r = some-elim (eqb n) l h in subst (λ (x : ℕ). Mem x l) (sym (eqb-true n (r .0) (r .2))) (r .1);
+  not-so = λ h m. clash (some-intro (eqb n) m (eq-eqb n n refl)) h;
 }
 
 pub outside-test : (s : Store) (E : ℕ) → Tests (not (inRange (s .held .assumptions) E)) (Outside s E)
@@ -115,16 +115,18 @@ outside-test s E =
 
 -- ---- the faults of an item
 
-module _ (N c : ℕ) (l : List ℕ) {X : Type 0} (f : Reply → X) (next : X → Type 0) (x₄ x₅ : X) (e₄ : f Number ≡ x₄) (e₅ : f Falsity ≡ x₅) (k : faultOf N c l ≡ Done → next (f Done)) where
+module _ (N c : ℕ) (l : List ℕ) {X : Type 0} (f : Reply → X) (next : X → Type 0) (x₄ x₅ x₁₇ : X) (e₄ : f Number ≡ x₄) (e₅ : f Falsity ≡ x₅) (e₁₇ : f Itself ≡ x₁₇)
+    (k : faultOf N c l ≡ Done → next (f Done)) where
   abbrev LowRows : X → Type 0
-  LowRows = given (Above N c l) x₄ (given (Mem 0 l) x₅ next)
+  LowRows = given (Above N c l) x₄ (given (Mem 0 l) x₅ (given (Mem c l) x₁₇ next))
 
   -- at most 4 supports
-  low-told : ltb 4 (length l) ≡ false → LowRows (f (choose (ltb N c || someOf (ltb N) l) Number (choose (someOf (eqb 0) l) Falsity Done)))
+  low-told : ltb 4 (length l) ≡ false → LowRows (f (choose (ltb N c || someOf (ltb N) l) Number (choose (someOf (eqb 0) l) Falsity (choose (someOf (eqb c) l) Itself Done))))
   unfolding faultOf
   low-told h =
       by-choice _ f (ltb N c || someOf (ltb N) l) _ _ (above-test N c l) e₄
-      (λ (p : ltb N c || someOf (ltb N) l ≡ false). by-choice next f (someOf (eqb 0) l) _ _ (zero-test l) e₅ (λ (q : someOf (eqb 0) l ≡ false). k (rw (h, p, q))))
+      (λ (p : ltb N c || someOf (ltb N) l ≡ false). by-choice _ f (someOf (eqb 0) l) _ _ (has-test 0 l) e₅
+      (λ (q : someOf (eqb 0) l ≡ false). by-choice next f (someOf (eqb c) l) _ _ (has-test c l) e₁₇ (λ (r : someOf (eqb c) l ≡ false). k (rw (h, p, q, r)))))
 
   pub few-told : length l ≤ 4 → LowRows (f (faultOf N c l))
   unfolding faultOf

@@ -27,7 +27,7 @@ use Rattle.promises.specs.Table.{AddRows, AskRows, DecodeRows, JudgeRows
 use Rattle.replies.proofs.Laws.{no-ten}
 use Rattle.replies.specs.Replies.{numberOf}
 use Rattle.replies.specs.declared.Reply.{Reply}
-use Rattle.replies.specs.declared.Reply.the-variants.{Already, Counts, Done, Falsity, Full, Number, Place, Shape, Short, Supports, Unheld}
+use Rattle.replies.specs.declared.Reply.the-variants.{Already, Counts, Done, Falsity, Full, Itself, Number, Place, Shape, Short, Supports, Unheld}
 use Rattle.rules.proofs.Dropping.{dropped-from}
 use Rattle.rules.proofs.Laws.{Ranged, faultless-ranged, right-range}
 use Rattle.rules.proofs.Order.{mem-same, same-mem}
@@ -126,7 +126,7 @@ module _ (s : Store) (c : ℕ) (l : List ℕ) where
   unfolding addOf
   add-told =
       by-choice _ replied (not (rightShape s)) (answer Shape s) (unlessFault (faultOf N c l)) (not-test (rightShape s)) refl
-      (λ p. fault-told N c l (λ x. replied (unlessFault x)) _ 4 5 refl refl (λ d. join-told (not-false (rightShape s) p) d) 6 refl)
+      (λ p. fault-told N c l (λ x. replied (unlessFault x)) _ 4 5 17 refl refl refl (λ d. join-told (not-false (rightShape s) p) d) 6 refl)
 
   add-names : Names (LabelFull A N (enlarged s c l)) (addOf s c l .reply)
   unfolding addOf faultOf
@@ -135,11 +135,12 @@ module _ (s : Store) (c : ℕ) (l : List ℕ) where
       names-choice _ (λ (o : Outcome). o .reply) (not (rightShape s)) (answer Shape s) (unlessFault (faultOf N c l)) (unnamed _ Shape refl (λ z. omega arith))
       (λ p. names-choice _ f (ltb 4 (length l)) Supports _ (unnamed _ Supports refl (λ z. omega arith))
       (λ (q₁ : ltb 4 (length l) ≡ false). names-choice _ f (ltb N c || someOf (ltb N) l) Number _ (unnamed _ Number refl (λ z. omega arith))
-      (λ (q₂ : ltb N c || someOf (ltb N) l ≡ false). names-choice _ f (someOf (eqb 0) l) Falsity Done (unnamed _ Falsity refl (λ z. omega arith))
-      (λ (q₃ : someOf (eqb 0) l ≡ false). join-names (not-false (rightShape s) p) (rw (q₁, q₂, q₃))))))
+      (λ (q₂ : ltb N c || someOf (ltb N) l ≡ false). names-choice _ f (someOf (eqb 0) l) Falsity _ (unnamed _ Falsity refl (λ z. omega arith))
+      (λ (q₃ : someOf (eqb 0) l ≡ false). names-choice _ f (someOf (eqb c) l) Itself Done (unnamed _ Itself refl (λ z. omega arith))
+      (λ (q₄ : someOf (eqb c) l ≡ false). join-names (not-false (rightShape s) p) (rw (q₁, q₂, q₃, q₄)))))))
 
   add-one : One (AddRows s c l)
-  add-one = given-one _ _ _ (given-one _ _ _ (given-one _ _ _ (given-one _ _ _ (given-one _ _ _ (given-one _ _ _ (stages-one A N (enlarged s c l)))))))
+  add-one = given-one _ _ _ (given-one _ _ _ (given-one _ _ _ (given-one _ _ _ (given-one _ _ _ (given-one _ _ _ (given-one _ _ _ (stages-one A N (enlarged s c l))))))))
 
 -- ---- withdraw
 
@@ -198,7 +199,7 @@ module _ (s : Store) (c : ℕ) (l : List ℕ) where
   unfolding withdrawOf
   withdraw-told =
       by-choice _ replied (not (rightShape s)) (answer Shape s) (faultElse (faultOf most c l)) (not-test (rightShape s)) refl
-      (λ p. fault-told most c l (λ x. replied (faultElse x)) _ 4 5 refl refl (λ d. part-told (not-false (rightShape s) p)) 6 refl)
+      (λ p. fault-told most c l (λ x. replied (faultElse x)) _ 4 5 17 refl refl refl (λ d. part-told (not-false (rightShape s) p)) 6 refl)
 
   withdraw-names : Names (LabelFull B most K) (withdrawOf s c l .reply)
   unfolding withdrawOf faultOf
@@ -207,11 +208,12 @@ module _ (s : Store) (c : ℕ) (l : List ℕ) where
       names-choice _ (λ (o : Outcome). o .reply) (not (rightShape s)) (answer Shape s) (faultElse (faultOf most c l)) (unnamed _ Shape refl (λ z. omega arith))
       (λ p. names-choice _ f (ltb 4 (length l)) Supports _ (unnamed _ Supports refl (λ z. omega arith))
       (λ q₁. names-choice _ f (ltb most c || someOf (ltb most) l) Number _ (unnamed _ Number refl (λ z. omega arith))
-      (λ q₂. names-choice _ f (someOf (eqb 0) l) Falsity Done (unnamed _ Falsity refl (λ z. omega arith))
-      (λ q₃. part-names (not-false (rightShape s) p)))))
+      (λ q₂. names-choice _ f (someOf (eqb 0) l) Falsity _ (unnamed _ Falsity refl (λ z. omega arith))
+      (λ q₃. names-choice _ f (someOf (eqb c) l) Itself Done (unnamed _ Itself refl (λ z. omega arith))
+      (λ q₄. part-names (not-false (rightShape s) p))))))
 
   withdraw-one : One (WithdrawRows s c l)
-  withdraw-one = given-one _ _ _ (given-one _ _ _ (given-one _ _ _ (given-one _ _ _ (given-one _ _ _ (stages-one B most K)))))
+  withdraw-one = given-one _ _ _ (given-one _ _ _ (given-one _ _ _ (given-one _ _ _ (given-one _ _ _ (given-one _ _ _ (stages-one B most K))))))
 
 -- ---- judging what is held
 

@@ -8,7 +8,6 @@ use Rattle.promises.proofs.Answers.{form-context, form-heading, form-li
 use Rattle.promises.proofs.Form.{Form, made-form}
 use Rattle.promises.proofs.Loading.{load-says}
 use Rattle.promises.proofs.Meaning.{depth-consequents}
-use Rattle.promises.proofs.OwnSupport.{form-self}
 use Rattle.promises.proofs.Telling.{form-depth, form-label, form-label-at, form-later, form-nogoods, form-nogoods-at}
 use Rattle.promises.proofs.Withdrawing.{form-withdrawing}
 use Rattle.promises.specs.Calls.{ours}
@@ -41,4 +40,4 @@ unfolding openOf
 opens A M a m = rw (le-ltb 32 A a, le-ltb 96 M m)
 
 pub demand-2 : Demand2 ours
-demand-2 = record { opens = opens; loads = load-says; tells = λ m. form-tells (made-form m); self-support = λ c l m r own. form-self (made-form m) c l r own }
+demand-2 = record { opens = opens; loads = load-says; tells = λ m. form-tells (made-form m) }

@@ -16,7 +16,7 @@ use Rattle.promises.specs.Once.{One}
 use Rattle.promises.specs.Room.{AllInRoom, StagesSay, WithdrawSays}
 use Rattle.promises.specs.Rows.{given}
 use Rattle.replies.specs.declared.Reply.{Reply}
-use Rattle.replies.specs.declared.Reply.the-variants.{Done, Falsity, Number, Supports, Unheld}
+use Rattle.replies.specs.declared.Reply.the-variants.{Done, Falsity, Itself, Number, Supports, Unheld}
 use Rattle.rules.proofs.Dropping.{dropped-from}
 use Rattle.rules.proofs.Laws.{Ranged}
 use Rattle.rules.proofs.Order.{mem-same, same-mem}
@@ -76,10 +76,10 @@ module _ {A M : ℕ} {H : List Justification} {s : Store} (f : Form A M H s) (c 
       (λ p. subst (λ (K : List Justification). StagesSay A N (dropped i H) (storeOf s A M K .reply)) (in-order-dropped i H) smaller-says)
 
   withdraw-says : WithdrawSays A M H c l (withdrawOf s c l .reply)
-  withdraw-says = subst (WithdrawSays A M H c l) (sym reply-is) (fault-told N c l unless _ Number Falsity refl refl (λ d. parted-says) Supports refl)
+  withdraw-says = subst (WithdrawSays A M H c l) (sym reply-is) (fault-told N c l unless _ Number Falsity Itself refl refl refl (λ d. parted-says) Supports refl)
 
   one-reply : One (WithdrawSays A M H c l)
-  one-reply = given-one _ _ _ (given-one _ _ _ (given-one _ _ _ (given-one _ _ _ (say-one A N (dropped i H)))))
+  one-reply = given-one _ _ _ (given-one _ _ _ (given-one _ _ _ (given-one _ _ _ (given-one _ _ _ (say-one A N (dropped i H))))))
 
   -- withdrawing gives r exactly when the rows say
   pub form-withdrawing : (r : Reply) → (withdrawOf s c l .reply ≡ r) ↔ WithdrawSays A M H c l r
@@ -105,4 +105,4 @@ pub lets-go : (A M : ℕ) {H : List Justification} (c : ℕ) (l : List ℕ) → 
 lets-go A M {H} c l sound m w =
     let K : List Justification = dropped (justificationOf (A + M) c l) H in
     subst (WithdrawSays A M H c l) sound
-    (fault-told (A + M) c l (λ (x : Reply). x) _ Number Falsity refl refl (λ d. passes Reply _ _ Done _ (λ n. n m) (room-says A (A + M) K w)) Supports refl)
+    (fault-told (A + M) c l (λ (x : Reply). x) _ Number Falsity Itself refl refl refl (λ d. passes Reply _ _ Done _ (λ n. n m) (room-says A (A + M) K w)) Supports refl)

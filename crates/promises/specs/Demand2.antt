@@ -113,5 +113,3 @@ pub record Demand2 (C : Calls) : Type 0 where
   pub loads : (bytes : List ℕ) (f : Case) → caseOf bytes ≡ whole f → (r : Reply) → (C .loading bytes .reply ≡ r) ↔ StagesSay (f .header .assumptions) (f .header .assumptions + f .header .claims) (putIn f) r
   -- every store made by the calls tells the truth of what was put in
   pub tells : {A M : ℕ} {H : Input} {s : Store} → Made C A M H s → Tells C A M H s
-  -- a justification that names its own consequent as a support is held and changes no label
-  pub self-support : {A M : ℕ} {H : Input} {s : Store} (c : ℕ) (l : List ℕ) → Made C A M H s → Reaches A M H c l → Mem c l → (t : Store) × (C .adding s c l ≡ answer Done t) × (t .lists ≡ s .lists)

@@ -76,5 +76,9 @@ pub record HoldsExactly (A M : ℕ) (H : Input) (s : Store) : Type 0 where
 -- of every store made by the calls
 pub record Stores (C : Calls) : Type 0 where
   pub holds : {A M : ℕ} {H : Input} {s : Store} → Made C A M H s → HoldsExactly A M H s
+  -- none names its own consequent as a support
+  pub no-own : {A M : ℕ} {H : Input} {s : Store} → Made C A M H s → (j : Justification) → Mem j (saidBy (s .held)) → Mem (j .consequent) (j .supports) → ⊥
+  -- .. and a store that holds one that does has the wrong shape
+  pub own-wrong : (s : Store) (j : Justification) → Mem j (saidBy (s .held)) → Mem (j .consequent) (j .supports) → C .shape s ≡ false
   -- its shape is right: no call on it answers 2
   pub right : {A M : ℕ} {H : Input} {s : Store} → Made C A M H s → rightShape s ≡ true

@@ -56,7 +56,3 @@ pub record Meaning : Type 1 where
   pub depth-consequents : (A N : ℕ) (H : List Justification) (k : ℕ) → IsDepth A N H k → k ≤ length (consequents H)
   -- .. which is that of the set: what was put in and what is held have the same number
   pub consequents-same : (H K : List Justification) → SameMembers H K → length (consequents H) ≡ length (consequents K)
-  -- a justification that names its own consequent as a support changes no label, no nogood and no depth
-  pub self-label : (j : Justification) (H : Input) → Mem (j .consequent) (j .supports) → (A k n : ℕ) → labelAt A (j ∷ H) k n ≡ labelAt A H k n
-  pub self-nogoods : (j : Justification) (H : Input) → Mem (j .consequent) (j .supports) → (A k : ℕ) → nogoodsAt A (j ∷ H) k ≡ nogoodsAt A H k
-  pub self-depth : (j : Justification) (H : Input) → Mem (j .consequent) (j .supports) → (A N d : ℕ) → IsDepth A N (j ∷ H) d ↔ IsDepth A N H d

@@ -7,7 +7,7 @@ use lib.ListN.{length}
 use Rattle.promises.specs.Made.{Input, inOrder, putting, taking}
 use Rattle.promises.specs.Rows.{given, naming}
 use Rattle.replies.specs.declared.Reply.{Reply}
-use Rattle.replies.specs.declared.Reply.the-variants.{Already, Done, Falsity, Full, Label, Nogoods, Number, Supports, Unheld}
+use Rattle.replies.specs.declared.Reply.the-variants.{Already, Done, Falsity, Full, Itself, Label, Nogoods, Number, Supports, Unheld}
 use Rattle.rules.specs.Items.{faultOf, justificationOf}
 use Rattle.theory.specs.Stages.{labelAt, nogoodsAt}
 
@@ -57,7 +57,8 @@ ItemSays N c l next =
     given (4 < length l) Supports
     (given (Above N c l) Number
     (given (Mem 0 l) Falsity
-    next))
+    (given (Mem c l) Itself
+    next)))
 
 -- adding it, where H was put in: the column "add" of the reply table
 abbrev pub AddSays : ℕ → ℕ → Input → ℕ → List ℕ → Reply → Type 0

@@ -57,7 +57,8 @@ HandedRows s c l next =
     (given (4 < length l) 6
     (given (Above (top (s .held)) c l) 4
     (given (Mem 0 l) 5
-    next)))
+    (given (Mem c l) 17
+    next))))
 
 abbrev pub AddRows : Store → ℕ → List ℕ → ℕ → Type 0
 AddRows s c l =
@@ -140,7 +141,8 @@ RecordRows A N (suc n) r H l =
     (NumbersRows (suc r) k l₂ (λ s l₃.
     given (Above N c s) (4, suc r)
     (given (Mem 0 s) (5, suc r)
-    (RecordRows A N n (suc r) (justificationOf N c s ∷ H) l₃))))))
+    (given (Mem c s) (17, suc r)
+    (RecordRows A N n (suc r) (justificationOf N c s ∷ H) l₃)))))))
 
 -- the number at a place of the bytes: 0 and the number, or the fault
 abbrev pub reported : Number → Reported

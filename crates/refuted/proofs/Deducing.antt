@@ -13,7 +13,7 @@ use Rattle.promises.proofs.Answers.{question-by}
 use Rattle.promises.proofs.Form.{made-form, made-holds}
 use Rattle.promises.proofs.Keeping.{read-store}
 use Rattle.promises.proofs.Refusals.{refusals}
-use Rattle.promises.proofs.Right.{made-right}
+use Rattle.promises.proofs.Right.{made-no-own, made-right, own-shape}
 use Rattle.promises.proofs.Sameness.{demand-3, one-store}
 use Rattle.promises.proofs.Table.{reply-table}
 use Rattle.promises.proofs.Telling.{carries-same, contradicts-same}
@@ -145,7 +145,7 @@ its-telling m =
     }
 
 pub demand-2-too : Demand2 deducing
-demand-2-too = record { opens = demand-2 .opens; loads = demand-2 .loads; tells = λ m. its-telling (made-ours m); self-support = λ c l m. demand-2 .self-support c l (made-ours m) }
+demand-2-too = record { opens = demand-2 .opens; loads = demand-2 .loads; tells = λ m. its-telling (made-ours m) }
 
 pub demand-3-too : Demand3 deducing
 demand-3-too = record {
@@ -162,4 +162,4 @@ demand-3-too = record {
 }
 
 pub stores-too : Stores deducing
-stores-too = record { holds = λ m. made-holds (made-ours m); right = λ m. made-right (made-ours m) }
+stores-too = record { holds = λ m. made-holds (made-ours m); no-own = λ m. made-no-own (made-ours m); own-wrong = own-shape; right = λ m. made-right (made-ours m) }

@@ -438,6 +438,18 @@ reads-no-list d =
     unsupported-by-none : workedOut [] 2 1 ≡ Unsupported
     unsupported-by-none = let c = none-carries .0 in let k = none-carries .1 in rw (c, k)
 
+-- ---- holds what names its own consequent as a support: claim 1 from itself
+
+abbrev itself : Justification
+itself = justificationOf 1 1 (1 ∷ [])
+
+holds-its-own : Stores welcoming → ⊥
+unfolding someOf setOf those numbersBelow startStore heldOf
+holds-its-own d =
+    let s : Store = startStore 0 1 in
+    let m : Made welcoming 0 1 (itself ∷ []) (holding s itself) = added 1 (1 ∷ []) (opened (opens-at 0 1 (omega arith) (omega arith))) refl in
+    d .no-own m itself (d .holds m .members itself .1 (here refl)) (here refl)
+
 pub refuted : Refuted
 refuted = record {
   refuses = refuses;
@@ -455,6 +467,7 @@ refuted = record {
   judges-prefixes = judges-prefixes;
   forgets-nogoods = forgets-nogoods;
   calls-all-full = calls-all-full;
+  holds-its-own = holds-its-own;
   withdraws-no-list = withdraws-no-list;
   clears-a-consequent = clears-a-consequent;
   frees-no-place = frees-no-place;

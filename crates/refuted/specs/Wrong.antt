@@ -23,7 +23,7 @@ use Rattle.promises.specs.Standing.{AsTheyStand}
 use Rattle.promises.specs.Table.{ReplyTable}
 use Rattle.refuted.specs.Exchange.{exchanged, withAdding, withLoading, withOpening, withQuestion, withWithdrawing}
 use Rattle.replies.specs.declared.Reply.the-variants.{Counts, Done, Ends, Nogoods, Shape}
-use Rattle.rules.specs.Held.{heldOf, saidBy}
+use Rattle.rules.specs.Held.{heldOf, put, saidBy}
 use Rattle.rules.specs.Items.{justificationOf}
 use Rattle.stages.specs.Lists.{listsOf}
 use Rattle.stages.specs.declared.Lists.{Lists}
@@ -34,7 +34,7 @@ use Rattle.store.specs.declared.Outcome.{Outcome}
 use Rattle.store.specs.declared.Store.{Store}
 use Rattle.theory.specs.Demands.{carries, contradicts}
 use Rattle.theory.specs.Judge.{Stage, consequents}
-use Rattle.theory.specs.Lists.{choose, numbersTo, those}
+use Rattle.theory.specs.Lists.{choose, numbersTo, someOf, those}
 use Rattle.theory.specs.Sets.{contains, listing}
 use Rattle.theory.specs.Stages.{Justification, follows, minimal}
 
@@ -153,6 +153,13 @@ countKept s o = record {
 abbrev pub notFreed : Calls
 notFreed = withWithdrawing (λ s c l. countKept s (ours .withdrawing s c l)) ours
 
+-- holds what names its own consequent as a support; its lists stay, as no label would change
+abbrev pub holding : Store → Justification → Store
+holding s j = record { held = heldOf (s .held .assumptions) (s .held .claims) (put j (saidBy (s .held))); lists = s .lists }
+
+abbrev pub welcoming : Calls
+welcoming = withAdding (λ s c l. choose (someOf (eqb c) l) (answer Done (holding s (justificationOf (top (s .held)) c l))) (ours .adding s c l)) ours
+
 -- a question that works from the justifications and reads no list: right of every made store, wrong of a forged one
 abbrev pub workedOut : List Justification → ℕ → ℕ → Answer
 workedOut H n E = choose (contradicts H E) Inconsistent (choose (carries H E n) Supported Unsupported)
@@ -192,6 +199,7 @@ pub record Refuted : Type 0 where
   pub judges-prefixes : Demand2 prefixed → ⊥
   pub forgets-nogoods : Demand2 forgetful → ⊥
   pub calls-all-full : Demand2 alwaysFull → ⊥
+  pub holds-its-own : Stores welcoming → ⊥
   pub withdraws-no-list : Demand2 emptying → ⊥
   pub clears-a-consequent : Stores clearing → ⊥
   pub frees-no-place : Stores notFreed → ⊥

@@ -6,7 +6,7 @@ use native.Mathlib.Omega.{arith}
 use lib.Dec.{lit<}
 use Rattle.replies.specs.Replies.{numberOf}
 use Rattle.replies.specs.declared.Reply.{Reply}
-use Rattle.replies.specs.declared.Reply.the-variants.{After, Already, Counts, Done, Ends, Falsity, Form, Full, Label, Long, Nogoods, Number, Place, Shape, Short, Supports, Unheld}
+use Rattle.replies.specs.declared.Reply.the-variants.{After, Already, Counts, Done, Ends, Falsity, Form, Full, Itself, Label, Long, Nogoods, Number, Place, Shape, Short, Supports, Unheld}
 
 -- what is shown of each reply
 numbered : (r : Reply) → ((r ≡ Done) ⊎ (0 < numberOf r)) × ((numberOf r < 10) ⊎ (10 < numberOf r)) × (numberOf r < 100)
@@ -26,6 +26,7 @@ numbered After = (inr (lit< tt), inr (lit< tt), lit< tt)
 numbered Long = (inr (lit< tt), inr (lit< tt), lit< tt)
 numbered Short = (inr (lit< tt), inr (lit< tt), lit< tt)
 numbered Place = (inr (lit< tt), inr (lit< tt), lit< tt)
+numbered Itself = (inr (lit< tt), inr (lit< tt), lit< tt)
 numbered Unheld = (inr (lit< tt), inr (lit< tt), lit< tt)
 
 pub zero-done : (r : Reply) → numberOf r ≡ 0 → r ≡ Done

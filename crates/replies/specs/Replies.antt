@@ -3,7 +3,7 @@ use mathlib.Core.Path.{_≡_}
 use mathlib.Core.Option.{Option, none, some}
 use Prim.Native.Nat.{ℕ}
 use Rattle.replies.specs.declared.Reply.{Reply}
-use Rattle.replies.specs.declared.Reply.the-variants.{Done, Already, Shape, Counts, Number, Falsity, Supports, Full, Label, Nogoods, Ends, Form, After, Long, Short, Place, Unheld}
+use Rattle.replies.specs.declared.Reply.the-variants.{Done, Already, Shape, Counts, Number, Falsity, Supports, Full, Label, Nogoods, Ends, Form, After, Long, Short, Place, Itself, Unheld}
 
 -- the number of a reply
 abbrev pub numberOf : Reply → ℕ
@@ -39,6 +39,8 @@ numberOf Long = 14
 numberOf Short = 15
 -- no member at that place
 numberOf Place = 16
+-- its own consequent as a support
+numberOf Itself = 17
 -- not held, store unchanged
 numberOf Unheld = 18
 
@@ -60,6 +62,7 @@ namedBy After = none
 namedBy Long = none
 namedBy Short = none
 namedBy Place = none
+namedBy Itself = none
 namedBy Unheld = none
 
 -- r is the number of the reply

@@ -18,6 +18,7 @@ pub enum Reply {
     Long,
     Short,
     Place,
+    Itself,
     Unheld,
 }
 
@@ -42,6 +43,7 @@ pub fn number(reply: Reply) -> u8
         Reply::Long => 14,
         Reply::Short => 15,
         Reply::Place => 16,
+        Reply::Itself => 17,
         Reply::Unheld => 18,
     }
 }

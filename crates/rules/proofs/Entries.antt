@@ -1,5 +1,5 @@
 -- A place and what it says, each got back from the other. Assumes nothing.
-use mathlib.Core.Bool.{Bool, true}
+use mathlib.Core.Bool.{Bool, false, not, true}
 use mathlib.Core.List.{List, List·Memᴰ as Mem, [], _∷_, List·Memᴰ·head as here, map, List·Memᴰ·tail as there}
 use mathlib.Core.Path.{_∙_, _≡_, ap, ap₂, refl, sym}
 use Prim.Native.Nat.{_+_, _-_, _<_, _≤_, ℕ}
@@ -14,9 +14,9 @@ use Rattle.rules.proofs.Steps.{all-at, all-first, all-places, beyond}
 use Rattle.rules.specs.Held.{climbs, entryOf, fitting, heldOf, heldRight, meaning, saidBy, unusedEntry, vacant}
 use Rattle.rules.specs.declared.Entry.{Entry}
 use Rattle.rules.specs.declared.Held.{Held}
-use Rattle.theory.proofs.Lists.{and-left, and-right}
+use Rattle.theory.proofs.Lists.{and-left, and-right, clash, not-so}
 use Rattle.theory.proofs.Places.{getD-table, is-table, length-table}
-use Rattle.theory.specs.Lists.{allOf}
+use Rattle.theory.specs.Lists.{allOf, someOf}
 use Rattle.theory.specs.Places.{padded, table}
 use Rattle.theory.specs.Stages.{Justification}
 
@@ -63,6 +63,7 @@ pub record Fits (N : ℕ) (e : Entry) : Type 0 where
   pub low : e .consequent ≤ N
   pub few : e .count ≤ 4
   pub rising : climbs N 0 (take (e .count) (e .supports)) ≡ true
+  pub foreign : someOf (eqb (e .consequent)) (take (e .count) (e .supports)) ≡ false
   pub long : length (e .supports) ≡ 4
   pub spare : allOf (eqb 0) (drop (e .count) (e .supports)) ≡ true
 
@@ -72,18 +73,21 @@ fits-elim N e h =
     let C : Bool = climbs N 0 (take (e .count) (e .supports)) in
     let h₁ = and-right (leb (e .consequent) N) _ h in
     let h₂ = and-right (leb (e .count) 4) _ h₁ in
+    let O : Bool = someOf (eqb (e .consequent)) (take (e .count) (e .supports)) in
     let h₃ = and-right C _ h₂ in
+    let h₄ = and-right (not O) _ h₃ in
     record {
       low = leb-true (e .consequent) N (and-left (leb (e .consequent) N) _ h);
       few = leb-true (e .count) 4 (and-left (leb (e .count) 4) _ h₁);
       rising = and-left C _ h₂;
-      long = eqb-true (length (e .supports)) 4 (and-left (eqb (length (e .supports)) 4) _ h₃);
-      spare = and-right (eqb (length (e .supports)) 4) _ h₃;
+      foreign = not-so O (λ h. clash (and-left (not O) _ h₃) (ap not h));
+      long = eqb-true (length (e .supports)) 4 (and-left (eqb (length (e .supports)) 4) _ h₄);
+      spare = and-right (eqb (length (e .supports)) 4) _ h₄;
     }
 
 pub fits-intro : (N : ℕ) (e : Entry) → Fits N e → fitting N e ≡ true
 unfolding fitting
-fits-intro N e f = rw (le-leb (e .consequent) N (f .low), le-leb (e .count) 4 (f .few), f .rising, eq-eqb (length (e .supports)) 4 (f .long)) (f .spare)
+fits-intro N e f = rw (le-leb (e .consequent) N (f .low), le-leb (e .count) 4 (f .few), f .rising, f .foreign, eq-eqb (length (e .supports)) 4 (f .long)) (f .spare)
 
 entry : ℕ → ℕ → List ℕ → Entry
 entry c n l = record { consequent = c; count = n; supports = l }
@@ -100,13 +104,15 @@ pub meaning-entry : (j : Justification) → length (j .supports) ≤ 4 → meani
 meaning-entry j h = ap (λ (l : List ℕ). record { consequent = j .consequent; supports = l }) (unpadded 0 4 (j .supports) h)
 
 -- the place of a justification in range is in range
-pub entry-fits : (N : ℕ) (j : Justification) → j .consequent ≤ N → length (j .supports) ≤ 4 → climbs N 0 (j .supports) ≡ true → fitting N (entryOf j) ≡ true
-entry-fits N j low few rising =
+pub entry-fits : (N : ℕ) (j : Justification) → j .consequent ≤ N → length (j .supports) ≤ 4 → climbs N 0 (j .supports) ≡ true → someOf (eqb (j .consequent)) (j .supports) ≡ false
+    → fitting N (entryOf j) ≡ true
+entry-fits N j low few rising foreign =
     fits-intro N (entryOf j)
     (record {
       low = low;
       few = few;
       rising = ap (climbs N 0) (unpadded 0 4 (j .supports) few) ∙ rising;
+      foreign = ap (someOf (eqb (j .consequent))) (unpadded 0 4 (j .supports) few) ∙ foreign;
       long = length-padded 0 4 (j .supports);
       spare = padded-spare (eqb 0) 0 4 (j .supports) refl;
     })

@@ -9,7 +9,7 @@ use native.Mathlib.Omega.{arith}
 use lib.Dec.{eqb, ltb}
 use lib.ListN.{length}
 use borrow.Author.Tests.{le-ltb, lt-ltb}
-use Rattle.replies.specs.declared.Reply.the-variants.{Done, Falsity, Number, Supports}
+use Rattle.replies.specs.declared.Reply.the-variants.{Done, Falsity, Itself, Number, Supports}
 use Rattle.rules.specs.Items.{faultOf}
 use Rattle.theory.proofs.Lists.{either}
 use Rattle.theory.specs.Lists.{someOf}
@@ -34,9 +34,14 @@ module _ (N c : ℕ) (l : List ℕ) where
         unfolding faultOf
         fault-zero h = rw (le-ltb 4 (length l) small, le-ltb N c low, under, h)
 
-        pub fault-none : someOf (eqb 0) l ≡ false → Done ≡ faultOf N c l
-        unfolding faultOf
-        fault-none h = rw (le-ltb 4 (length l) small, le-ltb N c low, under, h)
+        module _ (real : someOf (eqb 0) l ≡ false) where
+          pub fault-own : someOf (eqb c) l ≡ true → Itself ≡ faultOf N c l
+          unfolding faultOf
+          fault-own h = rw (le-ltb 4 (length l) small, le-ltb N c low, under, real, h)
+
+          pub fault-none : someOf (eqb c) l ≡ false → Done ≡ faultOf N c l
+          unfolding faultOf
+          fault-none h = rw (le-ltb 4 (length l) small, le-ltb N c low, under, real, h)
 
 -- what is known of an item without fault
 pub record Faultless (N c : ℕ) (l : List ℕ) : Type 0 where
@@ -44,6 +49,7 @@ pub record Faultless (N c : ℕ) (l : List ℕ) : Type 0 where
   pub low : c ≤ N
   pub under : someOf (ltb N) l ≡ false
   pub real : someOf (eqb 0) l ≡ false
+  pub foreign : someOf (eqb c) l ≡ false
 
 pub faultless : (N c : ℕ) (l : List ℕ) → faultOf N c l ≡ Done → Faultless N c l
 faultless N c l d = elim (decLt 4 (length l)) [
@@ -54,7 +60,10 @@ faultless N c l d = elim (decLt 4 (length l)) [
         (λ (h : someOf (ltb N) l ≡ true). let e : Number ≡ Done = fault-above N c l small low h ∙ d in let z : _≡_ {A = ℕ} 0 1 = cc in absurd (omega arith))
         (λ (under : someOf (ltb N) l ≡ false). ⊎-elim
         (λ (h : someOf (eqb 0) l ≡ true). let e : Falsity ≡ Done = fault-zero N c l small low under h ∙ d in let z : _≡_ {A = ℕ} 0 1 = cc in absurd (omega arith))
-        (λ (real : someOf (eqb 0) l ≡ false). record { small = small; low = low; under = under; real = real })
+        (λ (real : someOf (eqb 0) l ≡ false). ⊎-elim
+        (λ (h : someOf (eqb c) l ≡ true). let e : Itself ≡ Done = fault-own N c l small low under real h ∙ d in let z : _≡_ {A = ℕ} 0 1 = cc in absurd (omega arith))
+        (λ (foreign : someOf (eqb c) l ≡ false). record { small = small; low = low; under = under; real = real; foreign = foreign })
+        (either (someOf (eqb c) l)))
         (either (someOf (eqb 0) l)))
         (either (someOf (ltb N) l)))
   ])

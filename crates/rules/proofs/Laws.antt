@@ -8,7 +8,7 @@ use native.Mathlib.Nat.{zero-lt-suc}
 use native.Mathlib.Omega.{arith}
 use lib.Dec.{eqb, leb, ltb}
 use lib.ListN.{drop, getD, length, length-map, length-take, take}
-use borrow.Author.Tests.{le-leb, leb-true, lt-ltb, ltb-true}
+use borrow.Author.Tests.{eqb-true, le-leb, leb-true, lt-ltb, ltb-true}
 use Rattle.replies.specs.declared.Reply.the-variants.{Done}
 use Rattle.rules.proofs.Dropping.{dropped-few, dropped-from, dropped-ordered}
 use Rattle.rules.proofs.Entries.{Small, entry-at, entry-fits, fits-elim, length-padded, meaning-entry, padded-spare, places, reread, said-many, unpadded, vacant-unused}
@@ -24,7 +24,7 @@ use Rattle.rules.specs.Placing.{withEntries}
 use Rattle.rules.specs.declared.Entry.{Entry}
 use Rattle.rules.specs.declared.Held.{Held}
 use Rattle.theory.proofs.Listing.{below-elim}
-use Rattle.theory.proofs.Lists.{all-elim, all-intro, and-intro, and-left, and-right, clash, those-elim}
+use Rattle.theory.proofs.Lists.{all-elim, all-intro, and-intro, and-left, and-right, clash, not-so, some-elim, those-elim}
 use Rattle.theory.proofs.Order.{below-sorted, rising, sorted-head, sorted-tail, sorted-those}
 use Rattle.theory.proofs.Places.{is-table}
 use Rattle.theory.specs.Cases.{room}
@@ -62,6 +62,7 @@ pub record Ranged (N : ℕ) (j : Justification) : Type 0 where
   pub low : j .consequent ≤ N
   pub few : length (j .supports) ≤ 4
   pub rising : climbs N 0 (j .supports) ≡ true
+  pub foreign : someOf (eqb (j .consequent)) (j .supports) ≡ false
   pub between : (s : ℕ) → Mem s (j .supports) → (1 ≤ s) × (s ≤ N)
 
 pub fitting-ranged : (N : ℕ) (e : Entry) → fitting N e ≡ true → Ranged N (meaning e)
@@ -71,6 +72,7 @@ fitting-ranged N e h =
       low = f .low;
       few = omega (arith, f .few, length-take (e .count) (e .supports));
       rising = f .rising;
+      foreign = f .foreign;
       between = climbs-between N 0 (take (e .count) (e .supports)) (f .rising);
     }
 
@@ -99,7 +101,7 @@ held-right A M J few f o =
           (λ x m.
           let b = mem-back entryOf J m in
           let r = f (b .0) (b .1) in
-          ap (fitting (A + M)) (b .2) ∙ entry-fits (A + M) (b .0) (r .low) (r .few) (r .rising));
+          ap (fitting (A + M)) (b .2) ∙ entry-fits (A + M) (b .0) (r .low) (r .few) (r .rising) (r .foreign));
       order = ap ordered (held-said A M J few small) ∙ o;
       spare = ap (λ (n : ℕ). allOf unusedEntry (drop n P)) (sym e) ∙ padded-spare unusedEntry vacant 256 (map entryOf J) vacant-unused;
     })
@@ -142,10 +144,14 @@ faultless-ranged N c l d =
     let between : (s : ℕ) → Mem s (those p (numbersBelow (suc N))) → (0 < s) × (s ≤ N) = λ s m.
     let w = those-elim p (numbersBelow (suc N)) m in
     (above s (w .1) (k .real), omega (arith, below-elim (suc N) (w .0))) in
+    let own : someOf (eqb c) (those p (numbersBelow (suc N))) ≡ true → p c ≡ true = λ h.
+    let w = some-elim (eqb c) (those p (numbersBelow (suc N))) h in
+    subst (λ (x : ℕ). p x ≡ true) (sym (eqb-true c (w .0) (w .2))) (those-elim p (numbersBelow (suc N)) (w .1) .1) in
     record {
       low = k .low;
       few = omega (arith, k .small, first-few l (suc N));
       rising = climbs-sorted N 0 (those p (numbersBelow (suc N))) (sorted-those ltb p (numbersBelow (suc N)) (below-sorted (suc N))) between;
+      foreign = not-so (someOf (eqb c) (those p (numbersBelow (suc N)))) (λ h. clash (own h) (k .foreign));
       between = between;
     }
   where
@@ -157,4 +163,4 @@ pub canonical-fits : (N c : ℕ) (l : List ℕ) → faultOf N c l ≡ Done
     → (fitting N (entryOf (justificationOf N c l)) ≡ true) × (meaning (entryOf (justificationOf N c l)) ≡ justificationOf N c l)
 canonical-fits N c l d =
     let r = faultless-ranged N c l d in
-    (entry-fits N (justificationOf N c l) (r .low) (r .few) (r .rising), meaning-entry (justificationOf N c l) (r .few))
+    (entry-fits N (justificationOf N c l) (r .low) (r .few) (r .rising) (r .foreign), meaning-entry (justificationOf N c l) (r .few))

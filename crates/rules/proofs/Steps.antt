@@ -89,10 +89,16 @@ module _ (N : ℕ) (e : Entry) where
   unfolding fitting
   fits-not h k t = rw (le-leb (e .consequent) N h, le-leb (e .count) 4 k, t)
 
-  pub fits-rest : e .consequent ≤ N → e .count ≤ 4 → climbs N 0 (take (e .count) (e .supports)) ≡ true → length (e .supports) ≡ 4
+  pub fits-own : e .consequent ≤ N → e .count ≤ 4 → climbs N 0 (take (e .count) (e .supports)) ≡ true
+      → someOf (eqb (e .consequent)) (take (e .count) (e .supports)) ≡ true → false ≡ fitting N e
+  unfolding fitting
+  fits-own h k t o = rw (le-leb (e .consequent) N h, le-leb (e .count) 4 k, t, o)
+
+  pub fits-rest : e .consequent ≤ N → e .count ≤ 4 → climbs N 0 (take (e .count) (e .supports)) ≡ true
+      → someOf (eqb (e .consequent)) (take (e .count) (e .supports)) ≡ false → length (e .supports) ≡ 4
       → (r : Bool) → r ≡ allOf (eqb 0) (drop (e .count) (e .supports)) → r ≡ fitting N e
   unfolding fitting
-  fits-rest h k t q r p = rw (le-leb (e .consequent) N h, le-leb (e .count) 4 k, t, eq-eqb (length (e .supports)) 4 q) p
+  fits-rest h k t o q r p = rw (le-leb (e .consequent) N h, le-leb (e .count) 4 k, t, o, eq-eqb (length (e .supports)) 4 q) p
 
 module _ (e : Entry) where
   pub unused-head : (e .consequent ≡ 0 → ⊥) → false ≡ unusedEntry e

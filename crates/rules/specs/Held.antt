@@ -7,7 +7,7 @@ use lib.ListN.{drop, length, take}
 use Rattle.rules.specs.Items.{sameJustification}
 use Rattle.rules.specs.declared.Entry.{Entry}
 use Rattle.rules.specs.declared.Held.{Held}
-use Rattle.theory.specs.Lists.{allOf, choose, those}
+use Rattle.theory.specs.Lists.{allOf, choose, someOf, those}
 use Rattle.theory.specs.Places.{padded}
 use Rattle.theory.specs.Stages.{Justification, ahead}
 
@@ -47,13 +47,14 @@ unfoldable pub climbs : ℕ → ℕ → List ℕ → Bool
 climbs N p [] = true
 climbs N p (x ∷ l) = ltb p x && (leb x N && climbs N x l)
 
--- in range: the consequent and the supports at most N; the supports strictly rising and never 0; unused places zero
+-- in range: the consequent and the supports at most N; the supports strictly rising, never 0 and never the consequent; unused places zero
 unfoldable pub fitting : ℕ → Entry → Bool
 fitting N e =
     leb (e .consequent) N
     && (leb (e .count) 4
     && (climbs N 0 (take (e .count) (e .supports))
-    && (eqb (length (e .supports)) 4 && allOf (eqb 0) (drop (e .count) (e .supports)))))
+    && (not (someOf (eqb (e .consequent)) (take (e .count) (e .supports)))
+    && (eqb (length (e .supports)) 4 && allOf (eqb 0) (drop (e .count) (e .supports))))))
 
 -- every field zero
 unfoldable pub unusedEntry : Entry → Bool

@@ -47,6 +47,9 @@ pub fn fault(top: u8, consequent: u32, supports: &[u32]) -> Reply
     if lists::has(supports, 0) {
         return Reply::Falsity;
     }
+    if lists::has(supports, consequent) {
+        return Reply::Itself;
+    }
     Reply::Done
 }
 
@@ -84,7 +87,7 @@ impl Entry {
         self
     }
 
-    // Whether it is in range, its supports rising and its unused places zero.
+    // Whether it is in range, its supports rising, its consequent none of them, and its unused places zero.
     fn fits(self, top: u16) -> bool
         ensures { λ r. ⌜ r ≡ fitting top self ⌝ }
     {
@@ -98,6 +101,9 @@ impl Entry {
         let n = count as usize;
         let supports = self.supports;
         if lists::rises(&supports[..n], top) {
+            if lists::names(&supports[..n], self.consequent) {
+                return false;
+            }
             return lists::zeros(&supports[n..]);
         }
         false

@@ -21,6 +21,20 @@ pub(crate) fn has(l: &[u32], n: u32) -> bool
     false
 }
 
+// Whether n is one of the list, in bytes.
+pub(crate) fn names(l: &[u8], n: u8) -> bool
+    ensures { λ r. ⌜ r ≡ someOf (eqb n) (now (l .entry)) ⌝ }
+{
+    let mut i = 0;
+    while i < l.len() {
+        if l[i] == n {
+            return true;
+        }
+        i += 1;
+    }
+    false
+}
+
 // Whether one of the list is above top.
 pub(crate) fn over(l: &[u32], top: u32) -> bool
     ensures { λ r. ⌜ r ≡ someOf (ltb top) (now (l .entry)) ⌝ }

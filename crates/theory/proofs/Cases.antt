@@ -8,7 +8,6 @@ cases = record {
   order = refl;
   nogoods-alone = refl;
   lists-alone = refl;
-  self-support = refl;
   nogoods-over = refl;
   nogoods-fit = refl;
   label-over = refl;

@@ -17,6 +17,5 @@ pub mod First
 pub mod Start
 pub mod Judgement
 pub mod Picks
-pub mod SelfSupport
 pub mod Demands
 pub mod Models

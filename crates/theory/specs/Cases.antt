@@ -35,8 +35,6 @@ pub record Cases : Type 0 where
   pub nogoods-alone : verdict limits 2 2 (from 0 (1 ∷ 2 ∷ []) ∷ []) ≡ at 1 (3 ∷ []) ((1 ∷ []) ∷ (2 ∷ []) ∷ [])
   -- the depth speaks of lists: 3 follows from {1} at stage 2 only, but {1} is a nogood at stage 1
   pub lists-alone : verdict limits 1 3 (from 0 (1 ∷ []) ∷ from 2 (1 ∷ []) ∷ from 3 (2 ∷ []) ∷ []) ≡ at 1 (1 ∷ []) ([] ∷ [] ∷ [] ∷ [])
-  -- a justification that names its own consequent as a support changes no label
-  pub self-support : verdict limits 1 2 (from 2 (1 ∷ 2 ∷ []) ∷ []) ≡ at 0 [] ((1 ∷ []) ∷ [] ∷ [])
   -- nogoods over, and just not
   pub nogoods-over : verdict (room 9 1) 2 2 (from 0 (1 ∷ []) ∷ from 0 (2 ∷ []) ∷ []) ≡ nogoodsOver
   pub nogoods-fit : verdict (room 9 2) 2 2 (from 0 (1 ∷ []) ∷ from 0 (2 ∷ []) ∷ []) ≡ at 1 (1 ∷ 2 ∷ []) ([] ∷ [] ∷ [])

@@ -172,12 +172,4 @@ fn main() {
     tell(b"thirty-two pairs:", pairs(32), 0);
     tell(b"thirty-three pairs:", pairs(33), 0);
     tell(b"a chain of 129:", chain(), 0);
-    let own = with(Held::nothing(1, 1), 2, 1, [2, 0, 0, 0]);
-    tell(b"self-support:", own, 2);
-    let beside = with(Held::nothing(2, 1), 3, 1, [1, 0, 0, 0]);
-    tell(
-        b"self-support beside a support:",
-        with(beside, 3, 2, [2, 3, 0, 0]),
-        3,
-    );
 }
