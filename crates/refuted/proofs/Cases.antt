@@ -86,7 +86,7 @@ module _ {A M : ℕ} {H : List Justification} {s : Store} (f : Form A M H s) (d 
         ∙ labels-are ∙ ap (λ (x : Stage). x .labels) stage-is;
   }
 
-made-are : {A M : ℕ} {H : List Justification} {s : Store} → Made ours A M H s → {d : ℕ} {g : Stage} → judge limits A (A + M) (inOrder H) ≡ settled d g → ListsAre s d (g .nogoods) (g .labels)
+pub made-are : {A M : ℕ} {H : List Justification} {s : Store} → Made ours A M H s → {d : ℕ} {g : Stage} → judge limits A (A + M) (inOrder H) ≡ settled d g → ListsAre s d (g .nogoods) (g .labels)
 made-are m {d} {g} e = form-are (made-form m) d g e
 
 -- ---- nothing held
