@@ -4,7 +4,9 @@ pub mod Absurdity
 pub mod Cases
 pub mod Files
 pub mod Readings
+pub mod Pinned
 pub mod Prefixed
 pub mod Arrival
 pub mod Deducing
 pub mod Wrong
+pub mod Product
