@@ -272,7 +272,7 @@ fn asked(s: Store, e: u32) {
 
 fn main() {
     let base = listed();
-    for k in 0..29 {
+    for k in 0..31 {
         spoil::name(k);
         calls(spoiled(base, k));
     }

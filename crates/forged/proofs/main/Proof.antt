@@ -4,10 +4,10 @@ use Rattle.forged.proofs.main.Statement.{statement}
 use Rattle.forged.proofs.main.Tie as tie
 
 abbrev Inv-loop : tie.InvT-loop
-Inv-loop base k₀ t4 t5 t6 t7 t8 t9 k = k ≤ 29
+Inv-loop base k₀ t4 t5 t6 t7 t8 t9 k = k ≤ 31
 
 abbrev μ-loop : tie.MeasureT-loop
-μ-loop base k₀ t4 t5 t6 t7 t8 t9 k = 29 - k
+μ-loop base k₀ t4 t5 t6 t7 t8 t9 k = 31 - k
 
 listed-requires : tie.Need-listed-requires Inv-loop μ-loop
 listed-requires c κs = search needs
