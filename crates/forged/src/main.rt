@@ -301,7 +301,7 @@ fn compared(base: Store) {
 
 fn main() {
     let base = listed();
-    for k in 0..29 {
+    for k in 0..31 {
         spoil::name(k);
         calls(spoiled(base, k));
     }

@@ -178,7 +178,7 @@ fn lists_1(whole: Lists, k: u32) -> Lists {
     lists
 }
 
-// The lists, spoiled in way k, 25 to 28.
+// The lists, spoiled in way k, 25 to 30.
 fn lists_2(whole: Lists, k: u32) -> Lists {
     let mut lists = whole;
     if k == 25 {
@@ -195,6 +195,20 @@ fn lists_2(whole: Lists, k: u32) -> Lists {
     }
     if k == 28 {
         lists.members[60] = 1;
+        return lists;
+    }
+    if k == 29 {
+        lists.sizes[4] = 3;
+        lists.members[48] = 1;
+        lists.members[49] = 2;
+        lists.members[50] = 5;
+        return lists;
+    }
+    if k == 30 {
+        lists.count = 3;
+        lists.nogoods[0] = 1;
+        lists.nogoods[1] = 2;
+        lists.nogoods[2] = 5;
         return lists;
     }
     lists
@@ -254,6 +268,8 @@ fn name_2(k: u32) {
         26 => say(b"unused nogood not zero:"),
         27 => say(b"a member of a number above A+M:"),
         28 => say(b"a place of a number above A+M not zero:"),
+        29 => say(b"{1} {2} {1,3} in a label:"),
+        30 => say(b"{1} {2} {1,3} in the nogoods:"),
         _ => {}
     }
 }

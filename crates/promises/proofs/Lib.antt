@@ -18,6 +18,7 @@ pub mod Rows
 pub mod Filing
 pub mod Table
 pub mod Refusals
+pub mod Shaped
 pub mod Counting
 pub mod Models
 pub mod Meaning

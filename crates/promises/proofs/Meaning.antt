@@ -9,6 +9,7 @@ use native.Mathlib.Omega.{arith}
 use lib.ListN.{length}
 use Rattle.promises.proofs.Counting.{ones-members}
 use Rattle.promises.proofs.Models.{carries-models, contradicts-models}
+use Rattle.promises.proofs.Shaped.{shape-says}
 use Rattle.promises.specs.Demand2.{IsDepth}
 use Rattle.promises.specs.Meaning.{AtSomeStage, Meaning, Unrivalled}
 use Rattle.sets.proofs.Membership.{among-alone, among-union, among-without, range-members, within-members}
@@ -55,6 +56,7 @@ meaning = record {
   within-members = within-members;
   range-members = range-members;
   ones-members = ones-members;
+  shape-says = shape-says;
   contradicts-stages = contradicts-means;
   carries-stages = carries-stages;
   contradicts-models = contradicts-models;

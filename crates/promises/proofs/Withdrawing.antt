@@ -1,8 +1,8 @@
 -- What withdrawing from a made store answers, over what was put in. Assumes nothing.
-use mathlib.Core.Bool.{false, not, true}
+use mathlib.Core.Bool.{Bool, false, not, true}
 use mathlib.Core.List.{List, List·Memᴰ as Mem}
-use mathlib.Core.Logic.{_↔_, _⊎_, inl, inr, ⊎-elim}
-use mathlib.Core.Path.{_∙_, _≡_, ap, refl, subst, sym}
+use mathlib.Core.Logic.{_↔_, ⊎-elim}
+use mathlib.Core.Path.{_∙_, _≡_, ap, ap₂, refl, subst, sym}
 use Prim.Native.Nat.{_+_, ℕ}
 use native.Mathlib.Omega.{arith}
 use borrow.Author.Tests.{not-false, not-true}
@@ -87,11 +87,10 @@ module _ {A M : ℕ} {H : List Justification} {s : Store} (f : Form A M H s) (c 
 
   -- what is withdrawn was there
   unheld-refused : someOf (sameJustification i) J ≡ false → (x : Reply) → isDone (unless x) ≡ false
-  unheld-refused h x = go (either (isDone x))
+  unheld-refused h x = ⊎-elim (λ (p : isDone x ≡ true). ap₂ told p h) (λ (p : isDone x ≡ false). ap₂ told p h ∙ p) (either (isDone x))
     where
-      go : (isDone x ≡ true) ⊎ (isDone x ≡ false) → isDone (unless x) ≡ false
-      go (inl p) = rw (p, h)
-      go (inr p) = rw p p
+      told : Bool → Bool → Bool
+      told b d = isDone (choose (not b) (answer x s) (choose (not d) (answer Unheld s) (storeOf s A M (dropped i J))) .reply)
 
   pub was-held : {t : Store} → withdrawOf s c l ≡ answer Done t → Mem i H
   was-held e =

@@ -10,5 +10,6 @@ pub mod Standing
 pub mod Demand1
 pub mod Demand2
 pub mod Demand3
+pub mod Shaped
 pub mod Meaning
 pub mod Promises

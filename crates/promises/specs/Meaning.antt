@@ -8,6 +8,9 @@ use lib.Count.{ones}
 use lib.ListN.{length}
 use Rattle.promises.specs.Demand2.{IsDepth}
 use Rattle.promises.specs.Made.{Input, SameMembers}
+use Rattle.promises.specs.Shaped.{ShapeSays}
+use Rattle.store.specs.Shape.{rightShape}
+use Rattle.store.specs.declared.Store.{Store}
 use Rattle.theory.specs.Demands.{carries, contradicts}
 use Rattle.theory.specs.Judge.{consequents}
 use Rattle.theory.specs.Lists.{numbersTo, those}
@@ -39,6 +42,8 @@ pub record Meaning : Type 1 where
   pub within-members : (F E : ℕ) → (within F E ≡ true) ↔ ((k : ℕ) → among F k ≡ true → among E k ≡ true)
   pub range-members : (A E : ℕ) → (inRange A E ≡ true) ↔ ((k : ℕ) → among E k ≡ true → k ≤ A)
   pub ones-members : (A E : ℕ) → E < 2 ^ A → ones E ≡ length (those (among E) (numbersTo A))
+  -- the right shape, clause by clause
+  pub shape-says : (s : Store) → (rightShape s ≡ true) ↔ ShapeSays s
   -- a set contradicts itself: falsity follows from it at some stage
   pub contradicts-stages : (H : Input) (E : ℕ) → (contradicts H E ≡ true) ↔ AtSomeStage H E 0
   -- a set carries n: falsity follows from it at no stage, and n at some stage

@@ -1,16 +1,16 @@
 -- Every case of the table holds of our calls: the answers by the demands, the lists by computing the judgement of what was put in. Assumes nothing.
 use mathlib.Core.Bool.{false}
-use mathlib.Core.List.{List, List·Memᴰ·eq-of-singleton, List·Memᴰ as Mem, [], _++_, _∷_, List·Memᴰ·head as here, map, List·Memᴰ·tail as there}
+use mathlib.Core.List.{List, List·Memᴰ·eq-of-singleton, List·Memᴰ as Mem, [], _∷_, List·Memᴰ·head as here, map, List·Memᴰ·tail as there}
 use mathlib.Core.Path.{_∙_, _≡_, ap, ap₂, refl, sym}
 use Prim.Native.Nat.{_+_, _<_, _≤_, suc, zero, ℕ}
 use native.Mathlib.Omega.{arith}
-use lib.ListN.{drop, getD, length}
+use Prim.Native.String.{String}
+use lib.ListN.{getD, length}
 use Rattle.asking.specs.Asking.{memberNumber, memberOf, memberSet}
 use Rattle.asking.specs.declared.Answer.the-variants.{Unsupported}
 use Rattle.casefile.proofs.Cases.{listed as spells, listedCase}
 use Rattle.casefile.specs.Load.{loadOf}
 use Rattle.lines.specs.Lines.{wordOf}
-use Rattle.lines.specs.declared.Written.the-variants.{Length}
 use Rattle.numbers.specs.Numbers.{numberAt, numberFrom, replied, secondFrom}
 use Rattle.promises.proofs.Answers.{line-by, member-by}
 use Rattle.promises.proofs.Form.{Form, form-a, form-m, form-settled, made-form}
@@ -21,8 +21,8 @@ use Rattle.promises.proofs.Rows.{room-says}
 use Rattle.promises.proofs.Sameness.{demand-3}
 use Rattle.promises.proofs.Telling.{held-label-at, held-nogoods-at}
 use Rattle.promises.proofs.Truth.{demand-2}
-use Rattle.promises.specs.Calls.{line, ours, readOf, reads}
-use Rattle.refuted.specs.Cases.{Decodes, ListsAre, PCases, assumed, eachOther, listed, listedBytes, oneWay, struck, withOne}
+use Rattle.promises.specs.Calls.{line, ours, over, reads, written}
+use Rattle.refuted.specs.Cases.{Decodes, ListsAre, PCases, Prints, assumed, eachOther, listed, listedBytes, oneWay, struck, withOne}
 use Rattle.promises.specs.Demand2.{atPlace, textOf}
 use Rattle.promises.specs.Made.{Made, inOrder, loaded, putIn}
 use Rattle.promises.specs.Room.{Reaches}
@@ -84,7 +84,7 @@ module _ {A M : ℕ} {H : List Justification} {s : Store} (f : Form A M H s) (d 
         ∙ labels-are ∙ ap (λ (x : Stage). x .labels) stage-is;
   }
 
-made-are : {A M : ℕ} {H : List Justification} {s : Store} → Made ours A M H s → {d : ℕ} {g : Stage} → judge limits A (A + M) (inOrder H) ≡ settled d g → ListsAre s d (g .nogoods) (g .labels)
+pub made-are : {A M : ℕ} {H : List Justification} {s : Store} → Made ours A M H s → {d : ℕ} {g : Stage} → judge limits A (A + M) (inOrder H) ≡ settled d g → ListsAre s d (g .nogoods) (g .labels)
 made-are m {d} {g} e = form-are (made-form m) d g e
 
 -- ---- nothing held
@@ -162,17 +162,15 @@ each-other-carry (suc (suc zero)) (suc (suc E)) p q r = absurd (omega arith)
 each-other-carry (suc (suc (suc zero))) (suc (suc E)) p q r = absurd (omega arith)
 each-other-carry (suc (suc (suc (suc n)))) E p q r = absurd (omega arith)
 
-each-other-texts : (textOf 2 [] ≡ word "2 unsupported\n") × (textOf 3 [] ≡ word "3 unsupported\n") × (length (word "2 unsupported\n") ≡ 14) × (length (word "3 unsupported\n") ≡ 14)
+each-other-texts : (textOf 2 [] ≡ word "2 unsupported\n") × (textOf 3 [] ≡ word "3 unsupported\n")
 unfolding row wordOf digits digitsIn spaced each word
-each-other-texts = (refl, refl, refl, refl)
+each-other-texts = (refl, refl)
 
--- the line of a number whose label is known
-line-known : {A M : ℕ} {H : List Justification} {s : Store} (f : Form A M H s) (n : ℕ) → n ≤ A + M → (l t : List ℕ) (k : ℕ) → listHeld (s .lists) n ≡ l → textOf n l ≡ t → length t ≡ k
-    → (out : List ℕ) → k ≤ length out → readOf s (line n out) ≡ reads (line n out) (Length k) s (t ++ drop k out)
-line-known {s = s} f n h l t k e u v out w =
-    let x : textOf n (listHeld (s .lists) n) ≡ t = ap (textOf n) e ∙ u in
-    line-by f n h out (omega (arith, ap length x)) ∙ ap (λ (y : List ℕ). reads (line n out) (Length (length y)) s (y ++ drop (length y) out)) x
-    ∙ ap (λ (i : ℕ). reads (line n out) (Length i) s (t ++ drop i out)) v
+-- the line of a number whose list is known
+pub prints : {A M : ℕ} {H : List Justification} {s : Store} (f : Form A M H s) (n : ℕ) → n ≤ A + M → (l : List ℕ) (t : String) → listHeld (s .lists) n ≡ l → textOf n l ≡ word t → Prints ours s n t
+prints {s = s} f n h l t e u out w =
+    let x : textOf n (listHeld (s .lists) n) ≡ word t = ap (textOf n) e ∙ u in
+    line-by f n h out (omega (arith, ap length x)) ∙ ap (λ (y : List ℕ). reads (line n out) (written y) s (over y out)) x
 
 -- the second and the third of three labels
 second-third : (l : Lists) (a b c : List ℕ) → map (labelHeld l) (numbersTo 3) ≡ a ∷ b ∷ c ∷ [] → (labelHeld l 2 ≡ b) × (labelHeld l 3 ≡ c)
@@ -250,11 +248,10 @@ p-cases = record {
   each-other-made = made-each-other;
   each-other-lists = made-are made-each-other each-other-verdict;
   each-other-asked = λ n E p q r. demand-2 .tells made-each-other .question n E (omega arith) (omega arith) Unsupported .1 (each-other-carry n E p q r);
-  each-other-line = λ out h.
+  each-other-lines =
       let f = made-form made-each-other in
       let e = second-third (eachOther ours .lists) (1 ∷ []) [] [] (made-are made-each-other each-other-verdict .labels) in
-      let x = each-other-texts in
-      (line-known f 2 (omega arith) [] (word "2 unsupported\n") 14 (e .0) (x .0) (x .2) out h, line-known f 3 (omega arith) [] (word "3 unsupported\n") 14 (e .1) (x .1) (x .3) out h);
+      (prints f 2 (omega arith) [] "2 unsupported\n" (e .0) (each-other-texts .0), prints f 3 (omega arith) [] "3 unsupported\n" (e .1) (each-other-texts .1));
   absurdity-done = absurdity-done;
   absurdity-made = absurdity-made;
   absurdity-nogoods = absurdity-nogoods;

@@ -2,8 +2,11 @@ pub mod Exchange
 pub mod Small
 pub mod Absurdity
 pub mod Cases
+pub mod Files
+pub mod Readings
+pub mod Pinned
 pub mod Prefixed
 pub mod Arrival
 pub mod Deducing
-pub mod Readings
 pub mod Wrong
+pub mod Product

@@ -1,14 +1,14 @@
 -- The cases of document 01 that are proved (P), all eight in one table: over the calls, at the product's limits. Assumes nothing.
-use mathlib.Core.List.{List, [], _++_, _∷_, map}
+use mathlib.Core.List.{List, [], _∷_, map}
 use mathlib.Core.Option.{some}
 use mathlib.Core.Path.{_≡_}
 use Prim.Native.Nat.{_+_, _<_, _≤_, ℕ}
-use lib.ListN.{drop, length}
+use Prim.Native.String.{String}
+use lib.ListN.{length}
 use Rattle.asking.specs.Asking.{memberNumber, memberSet}
 use Rattle.asking.specs.declared.Answer.the-variants.{Unsupported}
-use Rattle.lines.specs.declared.Written.the-variants.{Length}
 use Rattle.numbers.specs.Numbers.{pastOf, replied, valued}
-use Rattle.promises.specs.Calls.{Calls, line, member, question, reads}
+use Rattle.promises.specs.Calls.{Calls, line, member, over, question, reads, written}
 use Rattle.promises.specs.Made.{Made}
 use Rattle.replies.specs.declared.Reply.the-variants.{Already, Done}
 use Rattle.store.specs.Reading.{labelHeld, nogoodsHeld}
@@ -61,6 +61,10 @@ pub record ListsAre (s : Store) (d : ℕ) (bad : List ℕ) (ls : List (List ℕ)
   pub nogoods : nogoodsHeld (s .lists) ≡ bad
   pub labels : map (labelHeld (s .lists)) (numbersTo (length ls)) ≡ ls
 
+-- the line of n is the text t: into any lent bytes that it fits
+abbrev pub Prints : Calls → Store → ℕ → String → Type 0
+Prints C s n t = (out : List ℕ) → length (word t) ≤ length out → C .reading s (line n out) ≡ reads (line n out) (written (word t)) s (over (word t) out)
+
 -- the bytes give the number n, and the place next after it
 pub record Decodes (C : Calls) (bytes : List ℕ) (n next : ℕ) : Type 0 where
   pub done : replied (C .decoding bytes 0) ≡ 0
@@ -88,9 +92,7 @@ pub record PCases (C : Calls) : Type 0 where
   pub each-other-made : Made C 1 2 (from 3 (2 ∷ []) ∷ from 2 (3 ∷ []) ∷ []) (eachOther C)
   pub each-other-lists : ListsAre (eachOther C) 0 [] ((1 ∷ []) ∷ [] ∷ [] ∷ [])
   pub each-other-asked : (n E : ℕ) → 2 ≤ n → n ≤ 3 → E < 2 → C .reading (eachOther C) (question n E) .said ≡ Unsupported
-  pub each-other-line : (out : List ℕ) → 14 ≤ length out
-      → (C .reading (eachOther C) (line 2 out) ≡ reads (line 2 out) (Length 14) (eachOther C) (word "2 unsupported\n" ++ drop 14 out))
-      × (C .reading (eachOther C) (line 3 out) ≡ reads (line 3 out) (Length 14) (eachOther C) (word "3 unsupported\n" ++ drop 14 out))
+  pub each-other-lines : Prints C (eachOther C) 2 "2 unsupported\n" × Prints C (eachOther C) 3 "3 unsupported\n"
   -- a premise for falsity, whatever A and M: one nogood, the empty set; all labels empty; depth 1. Not refused
   pub absurdity-done : (A M : ℕ) → A ≤ 32 → M ≤ 96 → C .adding (C .opening A M .store) 0 [] .reply ≡ Done
   pub absurdity-made : (A M : ℕ) → A ≤ 32 → M ≤ 96 → Made C A M (from 0 [] ∷ []) (absurdity C A M)

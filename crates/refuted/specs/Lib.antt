@@ -1,4 +1,6 @@
 pub mod Cases
 pub mod Exchange
 pub mod Readings
+pub mod Pinned
 pub mod Wrong
+pub mod Product

@@ -1,0 +1,163 @@
+-- What the shared definitions give, as it is written out. Assumes nothing.
+use mathlib.Core.Bool.{false, true}
+use mathlib.Core.List.{List, [], _++_, _∷_, map}
+use mathlib.Core.Path.{_∙_, _≡_, ap, ap₂, refl, sym}
+use Prim.Native.Nat.{_+_, _≤_, suc, ℕ}
+use Prim.Native.String.{String}
+use native.Mathlib.Omega.{arith}
+use lib.Count.{ones}
+use lib.ListN.{drop, getD, length}
+use Rattle.asking.specs.declared.Answer.the-variants.{Inconsistent, Supported, Unsupported}
+use Rattle.casefile.specs.Case.{Case, caseOf, recordsFrom, whole}
+use Rattle.items.specs.Items.{Item, headerFrom, numbersFrom, recordFrom, unless}
+use Rattle.lines.specs.Lines.{refusalText, wordOf}
+use Rattle.numbers.specs.Numbers.{numberFrom, secondFrom}
+use Rattle.promises.proofs.Form.{Form, form-said}
+use Rattle.promises.proofs.Standing.{as-they-stand}
+use Rattle.promises.proofs.Truth.{demand-2}
+use Rattle.promises.specs.Calls.{caseLine, context, ours, over, reads, written}
+use Rattle.promises.specs.Demand2.{byteBy, firstText, textOf}
+use Rattle.promises.specs.Made.{Made, inOrder, putIn}
+use Rattle.refuted.proofs.Cases.{prints}
+use Rattle.refuted.proofs.Files.{file-are, file-done, file-form, file-made}
+use Rattle.refuted.specs.Cases.{ListsAre}
+use Rattle.refuted.specs.Pinned.{Pinned, Refuses, keys, keysBytes, sowing, sowingBytes}
+use Rattle.replies.specs.declared.Reply.{Reply}
+use Rattle.replies.specs.declared.Reply.the-variants.{After, Done, Label, Long}
+use Rattle.rules.specs.Held.{put, saidBy}
+use Rattle.rules.specs.Items.{faultOf, sameJustification, setOf}
+use Rattle.stages.specs.declared.Lists.{Lists}
+use Rattle.store.specs.Reading.{labelHeld, nogoodsHeld}
+use Rattle.store.specs.declared.Store.{Store}
+use Rattle.text.specs.Texts.{braced, digits, digitsIn, field, heading, joined, refusal, row, spaced, word}
+use Rattle.theory.specs.Cases.{at, from, verdict}
+use Rattle.theory.specs.Demands.{carries, contradicts}
+use Rattle.theory.specs.Judge.{judge, limits, sameSets}
+use Rattle.theory.specs.Lists.{alike, allOf, each, numbersBelow, numbersTo, someOf, those}
+use Rattle.theory.specs.Places.{table}
+use Rattle.theory.specs.Sets.{among, digit}
+use Rattle.theory.specs.Stages.{Justification, ahead, follows, gives, lesser}
+
+abbrev item : ℕ → List ℕ → Item
+item c l = record { consequent = c; supports = l }
+
+abbrev sown : Case
+sown = record {
+  header = record { assumptions = 3; claims = 4; records = 6 };
+  items = item 0 (2 ∷ 3 ∷ []) ∷ item 4 (1 ∷ []) ∷ item 5 (2 ∷ []) ∷ item 6 (3 ∷ 4 ∷ []) ∷ item 7 (3 ∷ 5 ∷ []) ∷ item 0 (1 ∷ 2 ∷ []) ∷ [];
+}
+
+abbrev keyed : Case
+keyed = record {
+  header = record { assumptions = 3; claims = 3; records = 7 };
+  items = item 6 (1 ∷ []) ∷ item 5 (2 ∷ 3 ∷ []) ∷ item 4 (1 ∷ 2 ∷ []) ∷ item 5 (1 ∷ 3 ∷ []) ∷ item 0 (1 ∷ 2 ∷ 3 ∷ []) ∷ item 5 (1 ∷ 2 ∷ []) ∷ item 4 (3 ∷ []) ∷ [];
+}
+
+spelled : (caseOf sowingBytes ≡ whole sown) × (caseOf keysBytes ≡ whole keyed)
+unfolding caseOf headerFrom numberFrom secondFrom recordsFrom recordFrom numbersFrom unless faultOf someOf
+spelled = (refl, refl)
+
+abbrev sownHeld : List Justification
+sownHeld = from 0 (1 ∷ 2 ∷ []) ∷ from 0 (2 ∷ 3 ∷ []) ∷ from 4 (1 ∷ []) ∷ from 5 (2 ∷ []) ∷ from 6 (3 ∷ 4 ∷ []) ∷ from 7 (3 ∷ 5 ∷ []) ∷ []
+
+abbrev keyedHeld : List Justification
+keyedHeld = from 0 (1 ∷ 2 ∷ 3 ∷ []) ∷ from 4 (3 ∷ []) ∷ from 4 (1 ∷ 2 ∷ []) ∷ from 5 (1 ∷ 2 ∷ []) ∷ from 5 (1 ∷ 3 ∷ []) ∷ from 5 (2 ∷ 3 ∷ []) ∷ from 6 (1 ∷ []) ∷ []
+
+held : (inOrder (putIn sown) ≡ sownHeld) × (inOrder (putIn keyed) ≡ keyedHeld)
+unfolding inOrder put setOf those someOf numbersBelow sameJustification sameSets alike ahead lesser
+held = (refl, refl)
+
+judged : (judge limits 3 7 sownHeld ≡ at 2 (3 ∷ 6 ∷ []) ((1 ∷ []) ∷ (2 ∷ []) ∷ (4 ∷ []) ∷ (1 ∷ []) ∷ (2 ∷ []) ∷ (5 ∷ []) ∷ [] ∷ []))
+    × (judge limits 3 6 keyedHeld ≡ at 1 (7 ∷ []) ((1 ∷ []) ∷ (2 ∷ []) ∷ (4 ∷ []) ∷ (4 ∷ 3 ∷ []) ∷ (3 ∷ 5 ∷ 6 ∷ []) ∷ (1 ∷ []) ∷ []))
+unfolding verdict
+judged = (refl, refl)
+
+-- ---- the sowing
+
+abbrev s : Store
+s = sowing ours
+
+made : Made ours 3 4 (putIn sown) s
+made = file-made sowingBytes sown (spelled .0) (omega arith)
+
+form : Form 3 4 (putIn sown) s
+form = file-form sowingBytes sown (spelled .0) (omega arith)
+
+are : ListsAre s 2 (3 ∷ 6 ∷ []) ((1 ∷ []) ∷ (2 ∷ []) ∷ (4 ∷ []) ∷ (1 ∷ []) ∷ (2 ∷ []) ∷ (5 ∷ []) ∷ [] ∷ [])
+are = file-are sowingBytes sown (spelled .0) (omega arith) 2 _ (ap (judge limits 3 7) (held .0) ∙ judged .0)
+
+-- seven labels, one by one
+seven : (l : Lists) (ls : List (List ℕ)) → map (labelHeld l) (numbersTo 7) ≡ ls
+    → (labelHeld l 1 ≡ getD ls 0 []) × (labelHeld l 2 ≡ getD ls 1 []) × (labelHeld l 3 ≡ getD ls 2 []) × (labelHeld l 4 ≡ getD ls 3 []) × (labelHeld l 5 ≡ getD ls 4 []) × (labelHeld l 6 ≡ getD ls 5 []) × (labelHeld l 7 ≡ getD ls 6 [])
+unfolding numbersTo numbersBelow
+seven l ls p =
+    let g : ℕ → List (List ℕ) → List ℕ = λ i x. getD x i [] in
+    (ap (g 0) p, ap (g 1) p, ap (g 2) p, ap (g 3) p, ap (g 4) p, ap (g 5) p, ap (g 6) p)
+
+texts : (textOf 0 (3 ∷ 6 ∷ []) ≡ word "0 nogood {1,2} {2,3}\n") × (textOf 1 (1 ∷ []) ≡ word "1 supported {1}\n") × (textOf 2 (2 ∷ []) ≡ word "2 supported {2}\n") × (textOf 3 (4 ∷ []) ≡ word "3 supported {3}\n")
+    × (textOf 4 (1 ∷ []) ≡ word "4 supported {1}\n") × (textOf 5 (2 ∷ []) ≡ word "5 supported {2}\n") × (textOf 6 (5 ∷ []) ≡ word "6 supported {1,3}\n") × (textOf 7 [] ≡ word "7 unsupported\n")
+unfolding row wordOf digits digitsIn spaced each word braced joined those among digit numbersTo numbersBelow
+texts = (refl, refl, refl, refl, refl, refl, refl, refl)
+
+first-text : (heading 3 4 6 2 ≡ word "case 3 4 6 2\n") × (length (word "case 3 4 6 2\n") ≡ 13)
+unfolding heading field digits digitsIn word
+first-text = (refl, refl)
+
+case-text : firstText 3 4 (putIn sown) s ≡ word "case 3 4 6 2\n"
+case-text = ap₂ (λ (n d : ℕ). heading 3 4 n d) (ap length (held .0)) (are .depth) ∙ first-text .0
+
+first-line : (out : List ℕ) → 13 ≤ length out → ours .reading s (caseLine out) ≡ reads (caseLine out) (written (word "case 3 4 6 2\n")) s (over (word "case 3 4 6 2\n") out)
+first-line out h =
+    demand-2 .tells made .caseLine out (omega (arith, ap length case-text, first-text .1)) ∙ ap (λ (t : List ℕ). reads (caseLine out) (written t) s (over t out)) case-text
+
+says : (carries (putIn sown) 5 6 ≡ true) × (contradicts (putIn sown) 5 ≡ false) × (carries (putIn sown) 5 7 ≡ false) × (contradicts (putIn sown) 6 ≡ true)
+unfolding carries contradicts follows among digit someOf gives allOf setOf those numbersBelow
+says = (refl, refl, refl, refl)
+
+table-of : (table 8 (byteBy (putIn sown) 5) ≡ 0 ∷ 1 ∷ 0 ∷ 1 ∷ 1 ∷ 0 ∷ 1 ∷ 0 ∷ []) × (table 8 (byteBy (putIn sown) 6) ≡ 2 ∷ 2 ∷ 2 ∷ 2 ∷ 2 ∷ 2 ∷ 2 ∷ 2 ∷ [])
+unfolding table carries contradicts follows among digit someOf gives allOf setOf those numbersBelow
+table-of = (refl, refl)
+
+-- ---- refusals
+
+refusals : (refusalText (Label 14) 13 ≡ word "refused 8 13\n") × (refusalText Long 0 ≡ word "refused 14 0\n") × (refusalText After 256 ≡ word "refused 13 256\n")
+unfolding refusalText refusal field digits digitsIn word
+refusals = (refl, refl, refl)
+
+refuses : (r : Reply) (k : ℕ) (t : String) → refusalText r k ≡ word t → Refuses ours r k t
+refuses r k t e out h =
+    as-they-stand .refusal r k out (omega (arith, ap length e)) ∙ ap (λ (x : List ℕ). record { answer = written x; bytes = over x out }) e
+
+word-bytes : word "case {1,2}\n" ≡ 99 ∷ 97 ∷ 115 ∷ 101 ∷ 32 ∷ 123 ∷ 49 ∷ 44 ∷ 50 ∷ 125 ∷ 10 ∷ []
+unfolding word
+word-bytes = refl
+
+pub pinned : Pinned ours
+pinned =
+    let l = seven (s .lists) _ (are .labels) in
+    record {
+      numbers = refl;
+      bytes = word-bytes;
+      sowing-done = file-done sowingBytes sown (spelled .0) (omega arith);
+      sowing-first = first-line;
+      sowing-0 = prints form 0 (omega arith) _ "0 nogood {1,2} {2,3}\n" (are .nogoods) (texts .0);
+      sowing-1 = prints form 1 (omega arith) _ "1 supported {1}\n" (l .0) (texts .1);
+      sowing-2 = prints form 2 (omega arith) _ "2 supported {2}\n" (l .1) (texts .2);
+      sowing-3 = prints form 3 (omega arith) _ "3 supported {3}\n" (l .2) (texts .3);
+      sowing-4 = prints form 4 (omega arith) _ "4 supported {1}\n" (l .3) (texts .4);
+      sowing-5 = prints form 5 (omega arith) _ "5 supported {2}\n" (l .4) (texts .5);
+      sowing-6 = prints form 6 (omega arith) _ "6 supported {1,3}\n" (l .5) (texts .6);
+      sowing-7 = prints form 7 (omega arith) _ "7 unsupported\n" (l .6) (texts .7);
+      sowing-asked = (
+        demand-2 .tells made .question 6 5 (omega arith) (omega arith) Supported .1 (says .0),
+        demand-2 .tells made .question 7 5 (omega arith) (omega arith) Unsupported .1 (says .1, says .2),
+        demand-2 .tells made .question 7 6 (omega arith) (omega arith) Inconsistent .1 (says .3),
+      );
+      sowing-context = λ out h. demand-2 .tells made .context 5 out (omega arith) (omega arith) ∙ ap (λ (t : List ℕ). reads (context 5 out) Done s (t ++ drop 8 out)) (table-of .0);
+      sowing-against = λ out h. demand-2 .tells made .context 6 out (omega arith) (omega arith) ∙ ap (λ (t : List ℕ). reads (context 6 out) Done s (t ++ drop 8 out)) (table-of .1);
+      label-refused = refuses (Label 14) 13 "refused 8 13\n" (refusals .0);
+      long-refused = refuses Long 0 "refused 14 0\n" (refusals .1);
+      after-refused = refuses After 256 "refused 13 256\n" (refusals .2);
+      keys-held = form-said (file-form keysBytes keyed (spelled .1) (omega arith)) ∙ held .1;
+      keys-lists = file-are keysBytes keyed (spelled .1) (omega arith) 1 _ (ap (judge limits 3 6) (held .1) ∙ judged .1);
+    }

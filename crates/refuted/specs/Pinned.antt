@@ -1,0 +1,64 @@
+-- Definitions that code and promises share, said a second time by what they give: numbers, texts, bytes and orders, written out, through the calls. Assumes nothing.
+use mathlib.Core.List.{List, [], _++_, _∷_, map}
+use mathlib.Core.Path.{_≡_}
+use Prim.Native.Nat.{_≤_, ℕ}
+use Prim.Native.String.{String}
+use lib.ListN.{drop, length}
+use Rattle.asking.specs.declared.Answer.the-variants.{Inconsistent, Supported, Unsupported}
+use Rattle.promises.specs.Calls.{Calls, caseLine, context, over, question, reads, written}
+use Rattle.refuted.specs.Cases.{ListsAre, Prints}
+use Rattle.replies.specs.Replies.{numberOf}
+use Rattle.replies.specs.declared.Reply.{Reply}
+use Rattle.replies.specs.declared.Reply.the-variants.{After, Already, Counts, Done, Ends, Falsity, Form, Full, Label, Long, Nogoods, Number, Place, Shape, Short, Supports, Unheld}
+use Rattle.rules.specs.Held.{saidBy}
+use Rattle.store.specs.declared.Store.{Store}
+use Rattle.text.specs.Texts.{word}
+use Rattle.theory.specs.Cases.{from}
+
+-- the sowing: README tells it
+abbrev pub sowingBytes : List ℕ
+sowingBytes = 3 ∷ 4 ∷ 6 ∷ 0 ∷ 2 ∷ 2 ∷ 3 ∷ 4 ∷ 1 ∷ 1 ∷ 5 ∷ 1 ∷ 2 ∷ 6 ∷ 2 ∷ 3 ∷ 4 ∷ 7 ∷ 2 ∷ 3 ∷ 5 ∷ 0 ∷ 2 ∷ 1 ∷ 2 ∷ []
+
+abbrev pub sowing : Calls → Store
+sowing C = C .loading sowingBytes .store
+
+-- A=3, M=3: 6 from 1; 5 from 2,3; 4 from 1,2; 5 from 1,3; falsity from 1,2,3; 5 from 1,2; 4 from 3
+abbrev pub keysBytes : List ℕ
+keysBytes = 3 ∷ 3 ∷ 7 ∷ 6 ∷ 1 ∷ 1 ∷ 5 ∷ 2 ∷ 2 ∷ 3 ∷ 4 ∷ 2 ∷ 1 ∷ 2 ∷ 5 ∷ 2 ∷ 1 ∷ 3 ∷ 0 ∷ 3 ∷ 1 ∷ 2 ∷ 3 ∷ 5 ∷ 2 ∷ 1 ∷ 2 ∷ 4 ∷ 1 ∷ 3 ∷ []
+
+abbrev pub keys : Calls → Store
+keys C = C .loading keysBytes .store
+
+-- the line of a refusal is the text t
+abbrev pub Refuses : Calls → Reply → ℕ → String → Type 0
+Refuses C r k t = (out : List ℕ) → length (word t) ≤ length out → C .refusal r k out ≡ record { answer = written (word t); bytes = over (word t) out }
+
+pub record Pinned (C : Calls) : Type 0 where
+  -- the number of each reply
+  pub numbers : map numberOf (Done ∷ Already ∷ Shape ∷ Counts ∷ Number ∷ Falsity ∷ Supports ∷ Full ∷ Label 5 ∷ Nogoods ∷ Ends ∷ Form ∷ After ∷ Long ∷ Short ∷ Place ∷ Unheld ∷ [])
+      ≡ 0 ∷ 1 ∷ 2 ∷ 3 ∷ 4 ∷ 5 ∷ 6 ∷ 7 ∷ 8 ∷ 9 ∷ 11 ∷ 12 ∷ 13 ∷ 14 ∷ 15 ∷ 16 ∷ 18 ∷ []
+  -- the bytes of a text
+  pub bytes : word "case {1,2}\n" ≡ 99 ∷ 97 ∷ 115 ∷ 101 ∷ 32 ∷ 123 ∷ 49 ∷ 44 ∷ 50 ∷ 125 ∷ 10 ∷ []
+  -- the sowing, line by line; line one with a different number in each field
+  pub sowing-done : C .loading sowingBytes .reply ≡ Done
+  pub sowing-first : (out : List ℕ) → 13 ≤ length out → C .reading (sowing C) (caseLine out) ≡ reads (caseLine out) (written (word "case 3 4 6 2\n")) (sowing C) (over (word "case 3 4 6 2\n") out)
+  pub sowing-0 : Prints C (sowing C) 0 "0 nogood {1,2} {2,3}\n"
+  pub sowing-1 : Prints C (sowing C) 1 "1 supported {1}\n"
+  pub sowing-2 : Prints C (sowing C) 2 "2 supported {2}\n"
+  pub sowing-3 : Prints C (sowing C) 3 "3 supported {3}\n"
+  pub sowing-4 : Prints C (sowing C) 4 "4 supported {1}\n"
+  pub sowing-5 : Prints C (sowing C) 5 "5 supported {2}\n"
+  pub sowing-6 : Prints C (sowing C) 6 "6 supported {1,3}\n"
+  pub sowing-7 : Prints C (sowing C) 7 "7 unsupported\n"
+  -- the three answers, of {1,3} and {2,3}; the context of {1,3}
+  pub sowing-asked : (C .reading (sowing C) (question 6 5) .said ≡ Supported) × (C .reading (sowing C) (question 7 5) .said ≡ Unsupported) × (C .reading (sowing C) (question 7 6) .said ≡ Inconsistent)
+  pub sowing-context : (out : List ℕ) → 8 ≤ length out → C .reading (sowing C) (context 5 out) ≡ reads (context 5 out) Done (sowing C) ((0 ∷ 1 ∷ 0 ∷ 1 ∷ 1 ∷ 0 ∷ 1 ∷ 0 ∷ []) ++ drop 8 out)
+  pub sowing-against : (out : List ℕ) → 8 ≤ length out → C .reading (sowing C) (context 6 out) ≡ reads (context 6 out) Done (sowing C) ((2 ∷ 2 ∷ 2 ∷ 2 ∷ 2 ∷ 2 ∷ 2 ∷ 2 ∷ []) ++ drop 8 out)
+  -- a refusal's line; 14 is the program's own
+  pub label-refused : Refuses C (Label 14) 13 "refused 8 13\n"
+  pub long-refused : Refuses C Long 0 "refused 14 0\n"
+  pub after-refused : Refuses C After 256 "refused 13 256\n"
+  -- the held order: by consequent, then by number of supports, then by the supports as lists
+  pub keys-held : saidBy (keys C .held) ≡ from 0 (1 ∷ 2 ∷ 3 ∷ []) ∷ from 4 (3 ∷ []) ∷ from 4 (1 ∷ 2 ∷ []) ∷ from 5 (1 ∷ 2 ∷ []) ∷ from 5 (1 ∷ 3 ∷ []) ∷ from 5 (2 ∷ 3 ∷ []) ∷ from 6 (1 ∷ []) ∷ []
+  -- the listing order: {3} before {1,2}, fewer assumptions first; {1,2} {1,3} {2,3}, the smaller number first
+  pub keys-lists : ListsAre (keys C) 1 (7 ∷ []) ((1 ∷ []) ∷ (2 ∷ []) ∷ (4 ∷ []) ∷ (4 ∷ 3 ∷ []) ∷ (3 ∷ 5 ∷ 6 ∷ []) ∷ (1 ∷ []) ∷ [])
