@@ -1,10 +1,11 @@
 -- A made store has the right shape. Assumes nothing.
-use mathlib.Core.Bool.{true}
-use mathlib.Core.List.{List}
-use mathlib.Core.Path.{_∙_, _≡_, ap, ap₂, subst, sym}
+use mathlib.Core.Bool.{false, true}
+use mathlib.Core.List.{List, List·Memᴰ as Mem}
+use mathlib.Core.Path.{_∙_, _≡_, ap, ap₂, refl, subst, sym}
 use Prim.Native.Nat.{_+_, _≤_, ℕ}
 use native.Mathlib.Omega.{arith}
-use borrow.Author.Tests.{le-leb}
+use lib.Dec.{eqb}
+use borrow.Author.Tests.{eq-eqb, le-leb}
 use Rattle.promises.proofs.Form.{Form, form-a, form-held, form-lists, form-m, form-ranged, form-settled, made-form}
 use Rattle.promises.proofs.InOrder.{in-order-ordered}
 use Rattle.promises.specs.Calls.{ours}

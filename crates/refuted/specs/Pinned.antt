@@ -9,7 +9,7 @@ use Rattle.promises.specs.Calls.{Calls, caseLine, context, over, question, read
 use Rattle.refuted.specs.Cases.{ListsAre, Prints}
 use Rattle.replies.specs.Replies.{numberOf}
 use Rattle.replies.specs.declared.Reply.{Reply}
-use Rattle.replies.specs.declared.Reply.the-variants.{After, Already, Counts, Done, Ends, Falsity, Form, Full, Label, Long, Nogoods, Number, Place, Shape, Short, Supports, Unheld}
+use Rattle.replies.specs.declared.Reply.the-variants.{After, Already, Counts, Done, Ends, Falsity, Form, Full, Itself, Label, Long, Nogoods, Number, Place, Shape, Short, Supports, Unheld}
 use Rattle.rules.specs.Held.{saidBy}
 use Rattle.store.specs.declared.Store.{Store}
 use Rattle.text.specs.Texts.{word}
@@ -35,8 +35,8 @@ Refuses C r k t = (out : List ℕ) → length (word t) ≤ length out → C .ref
 
 pub record Pinned (C : Calls) : Type 0 where
   -- the number of each reply
-  pub numbers : map numberOf (Done ∷ Already ∷ Shape ∷ Counts ∷ Number ∷ Falsity ∷ Supports ∷ Full ∷ Label 5 ∷ Nogoods ∷ Ends ∷ Form ∷ After ∷ Long ∷ Short ∷ Place ∷ Unheld ∷ [])
-      ≡ 0 ∷ 1 ∷ 2 ∷ 3 ∷ 4 ∷ 5 ∷ 6 ∷ 7 ∷ 8 ∷ 9 ∷ 11 ∷ 12 ∷ 13 ∷ 14 ∷ 15 ∷ 16 ∷ 18 ∷ []
+  pub numbers : map numberOf (Done ∷ Already ∷ Shape ∷ Counts ∷ Number ∷ Falsity ∷ Supports ∷ Full ∷ Label 5 ∷ Nogoods ∷ Ends ∷ Form ∷ After ∷ Long ∷ Short ∷ Place ∷ Itself ∷ Unheld ∷ [])
+      ≡ 0 ∷ 1 ∷ 2 ∷ 3 ∷ 4 ∷ 5 ∷ 6 ∷ 7 ∷ 8 ∷ 9 ∷ 11 ∷ 12 ∷ 13 ∷ 14 ∷ 15 ∷ 16 ∷ 17 ∷ 18 ∷ []
   -- the bytes of a text
   pub bytes : word "case {1,2}\n" ≡ 99 ∷ 97 ∷ 115 ∷ 101 ∷ 32 ∷ 123 ∷ 49 ∷ 44 ∷ 50 ∷ 125 ∷ 10 ∷ []
   -- the sowing, line by line; line one with a different number in each field

@@ -1,7 +1,7 @@
 -- The store of a set of justifications that is answered done has the right shape. Assumes nothing.
 use mathlib.Core.Bool.{true}
-use mathlib.Core.List.{List}
-use mathlib.Core.Path.{_∙_, _≡_, ap, refl}
+use mathlib.Core.List.{List, List·Memᴰ as Mem}
+use mathlib.Core.Path.{_∙_, _≡_, ap, refl, subst, sym}
 use Prim.Native.Nat.{_+_, _≤_, ℕ}
 use native.Mathlib.Omega.{arith}
 use lib.ListN.{length}
@@ -9,7 +9,8 @@ use borrow.Author.Tests.{le-leb}
 use Rattle.replies.specs.Replies.{numberOf}
 use Rattle.replies.specs.declared.Reply.the-variants.{Done}
 use Rattle.rules.proofs.Entries.{length-padded}
-use Rattle.rules.specs.Held.{heldOf, heldRight}
+use Rattle.rules.proofs.Laws.{right-range}
+use Rattle.rules.specs.Held.{heldOf, heldRight, saidBy}
 use Rattle.shape.proofs.Stage.{stage-right}
 use Rattle.shape.specs.Shape.{listsRight}
 use Rattle.stages.specs.Lists.{listsOf}
@@ -17,6 +18,7 @@ use Rattle.stages.specs.Steps.{Room}
 use Rattle.store.specs.Calls.{ofVerdict, storeOf}
 use Rattle.store.specs.Shape.{heldFits, rightShape}
 use Rattle.store.specs.declared.Store.{Store}
+use Rattle.theory.proofs.Depth.{Within, consequents-few}
 use Rattle.theory.proofs.Judgement.{settled-stage, settled-told}
 use Rattle.theory.proofs.Lists.{and-intro}
 use Rattle.theory.specs.Judge.{Stage, Verdict, judge, labelOver, limits, nogoodsOver, settled, stageAt}
