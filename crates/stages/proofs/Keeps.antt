@@ -11,7 +11,7 @@ use lib.ListN.{drop, drop-of-length-le, getD, getD-replicate, length, replicate,
 use lib.Seq.{drop-cons, getD-set-other, getD-set-same}
 use native.Mathlib.Nat.{le-of-suc-le-suc, not-suc-le-zero}
 use borrow.Author.Tests.{eq-eqb, eqb-false, eqb-true, ne-eqb, not-true}
-use Rattle.labels.proofs.Visits.{lying-length}
+use Rattle.labels.proofs.Lying.{lying-length}
 use Rattle.labels.specs.Layout.{Layout, lying}
 use Rattle.rules.proofs.Laws.{right-range}
 use Rattle.rules.specs.Held.{meaning, saidBy}
@@ -39,7 +39,7 @@ use Rattle.theory.specs.Sets.{before, contains, within}
 use Rattle.theory.specs.Stages.{Justification, labelAt, nogoodsAt}
 use Rattle.theory.specs.Step.{candidates, labelIn}
 
-marked-all : (n : ℕ) → n ≤ 128 → getD (replicate 129 (suc zero)) n zero ≡ zero → ⊥
+pub marked-all : (n : ℕ) → n ≤ 128 → getD (replicate 129 (suc zero)) n zero ≡ zero → ⊥
 marked-all n h z = omega (arith, getD-replicate 129 n (suc zero) zero (omega arith))
 
 told : (b : Bool) → not b ≡ false → b ≡ true

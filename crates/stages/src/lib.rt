@@ -161,6 +161,7 @@ fn refuted<'a>(
         return Built { count, sets: old };
     }
     let none = [0u32; 1];
+    let moved = [1u8; 129];
     labels::build(
         held,
         0,
@@ -170,6 +171,7 @@ fn refuted<'a>(
         sizes,
         &old[..count],
         &none[..0],
+        &moved,
         32,
     )
 }
@@ -199,6 +201,7 @@ fn relabel<'a>(
         let from = 12 * at;
         let end = from + sizes[at] as usize;
         if stale[at + 1] != 0 {
+            let moved = [1u8; 129];
             let label = labels::build(
                 held,
                 lo,
@@ -208,6 +211,7 @@ fn relabel<'a>(
                 sizes,
                 &members[from..end],
                 struck,
+                &moved,
                 12,
             );
             if 12 < label.count {

@@ -6,9 +6,10 @@ use native.Mathlib.Omega.{arith}
 use lib.ListN.{take}
 use lib.Seq.{length-take-le}
 use borrow.Author.Needs.{needs}
+use Rattle.labels.proofs.Stirring.{still-marked}
 use Rattle.labels.specs.Layout.{between}
 use Rattle.labels.specs.Promised.{Build}
-use Rattle.stages.proofs.Keeps.{kept-listed}
+use Rattle.stages.proofs.Keeps.{kept-listed, marked-all}
 use Rattle.stages.proofs.Nexts.{listed-built, nogoods-built}
 use Rattle.stages.proofs.Parts.{first-inside, first-low, part-joinable}
 use Rattle.stages.proofs.Stages.{layout, nogoods-few, nogoods-long}
@@ -41,20 +42,23 @@ array-share-prefix-none c = search needs
 slice-aggregate-build-2 : tie.Need-slice-aggregate-build-2
 slice-aggregate-build-2 c = search needs
 
+slice-aggregate-build-3 : tie.Need-slice-aggregate-build-3
+slice-aggregate-build-3 c = search needs
+
 build-requires : tie.Need-build-requires
 build-requires c κs =
-    let p = c .before .before .before .before .before .pre in
-    let a = c .before .before .before .before .before .args in
+    let p = c .before .before .before .before .before .before .pre in
+    let a = c .before .before .before .before .before .before .args in
     let low = first-low (a .held) (p .0 .judgeable) (tallied (a .held)) refl in
-    (layout _ _ (p .0 .room) _ (p .0 .is), part-joinable (a .held) (p .0 .judgeable) 0 (a .end) (omega (arith, p .1, first-inside (a .held) (p .0 .judgeable) (tallied (a .held)) refl)), omega (arith, p .1, low), omega arith)
+    (layout _ _ (p .0 .room) _ (p .0 .is), part-joinable (a .held) (p .0 .judgeable) 0 (a .end) (omega (arith, p .1, first-inside (a .held) (p .0 .judgeable) (tallied (a .held)) refl)), omega (arith, p .1, low), omega arith, still-marked _ _ _ _ _ _ refl (marked-all 0 (omega arith)))
 
 returns-2 : tie.Need-returns-2
 returns-2 c =
-    let p = c .before .before .before .before .before .before .pre in
-    let a = c .before .before .before .before .before .before .args in
+    let p = c .before .before .before .before .before .before .before .pre in
+    let a = c .before .before .before .before .before .before .before .args in
     let was : Lists = lists (a .members .now) (a .sizes .now) (a .count) (a .t6) (a .depth) in
     nogoods-built (a .held) was (p .0) (tallied (a .held)) refl _
     (subst (λ (e : ℕ). Build (between (a .held .entries) 0 e) 0 (a .members .now) (a .sizes .now) (take (a .count) (a .t6)) [] 32 (c .build .result)) (p .1) (c .build .ensures))
 
 pub refuted-spec : {M : Type 1} → statement M
-refuted-spec = tie.close (tie.spec returns array-share-prefix-old slice-aggregate-build array-share-prefix-none slice-aggregate-build-2 build-requires returns-2)
+refuted-spec = tie.close (tie.spec returns array-share-prefix-old slice-aggregate-build array-share-prefix-none slice-aggregate-build-2 slice-aggregate-build-3 build-requires returns-2)

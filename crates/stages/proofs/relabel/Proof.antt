@@ -1,14 +1,15 @@
 -- `stages::relabel` meets its contract. Assumes nothing.
 use mathlib.Core.List.{[]}
 use mathlib.Core.Logic.{⊎-elim}
-use mathlib.Core.Path.{_∙_, _≡_, ap, sym}
+use mathlib.Core.Path.{_∙_, _≡_, ap, refl, sym}
 use Prim.Native.Nat.{_*_, _+_, _-_, _<_, _≤_, ℕ}
 use native.Mathlib.Nat.{not-suc-le-zero}
 use native.Mathlib.Omega.{arith}
 use borrow.Author.Needs.{needs}
 use lib.ListN.{drop, getD, length, length-take}
+use Rattle.labels.proofs.Stirring.{still-marked}
 use Rattle.rules.specs.Held.{saidBy}
-use Rattle.stages.proofs.Keeps.{label-kept}
+use Rattle.stages.proofs.Keeps.{label-kept, marked-all}
 use Rattle.stages.proofs.Nexts.{built-length, built-over, built-sets, built-short, label-built, over-at, over-none, short-on}
 use Rattle.stages.proofs.Parts.{below, first-on, part-joinable, tally-inside, tally-low, tally-on, wide}
 use Rattle.stages.proofs.Spared.{struck-count, struck-sets, struck-short}
@@ -102,31 +103,35 @@ part-build-end c =
     let y = layout _ _ (p .room) _ (p .is) in
     omega (arith, y .sizes-small (c .before .before .before .loop .i), y .members-length, wide _ (p .judgeable))
 
+slice-aggregate-build : tie.Need-slice-aggregate-build Inv-loop μ-loop
+slice-aggregate-build c = search needs
+
 build-requires : tie.Need-build-requires Inv-loop μ-loop
 build-requires c κs =
-    let p = c .before .before .before .before .before .before .before .before .before .before .before .pre in
-    let l = c .before .before .before .before .loop in
+    let p = c .before .before .before .before .before .before .before .before .before .before .before .before .pre in
+    let l = c .before .before .before .before .before .loop in
     let h : l .i + 1 ≤ 128 = omega (arith, wide _ (p .0 .2 .judgeable)) in (
       layout _ _ (p .0 .2 .room) _ (p .0 .2 .is),
       part-joinable _ (p .0 .2 .judgeable) (l .lo) _ (tally-inside _ (p .0 .2 .judgeable) _ (p .1) (l .i + 1) (l .lo) h (l .inv .1)),
       tally-low _ (p .0 .2 .judgeable) _ (p .1) (l .i + 1) (l .lo) h (l .inv .1),
       omega arith,
+      still-marked _ _ _ _ _ _ refl (marked-all 0 (omega arith)),
     )
 
 add-result : tie.Need-add-result Inv-loop μ-loop
 add-result c = search needs
 
 same-length : tie.Need-same-length Inv-loop μ-loop
-same-length c = ap length (c .before .before .before .before .before .before .before .loop .inv .3) ∙ length-table 1536 _ ∙ sym (ap length (c .before .before .before .before .before .before .before .before .before .before .before .before .before .before .pre .5) ∙ layout _ _ (c .before .before .before .before .before .before .before .before .before .before .before .before .before .before .pre .0 .2 .room) _ (c .before .before .before .before .before .before .before .before .before .before .before .before .before .before .pre .0 .2 .is) .members-length)
+same-length c = ap length (c .before .before .before .before .before .before .before .before .loop .inv .3) ∙ length-table 1536 _ ∙ sym (ap length (c .before .before .before .before .before .before .before .before .before .before .before .before .before .before .before .pre .5) ∙ layout _ _ (c .before .before .before .before .before .before .before .before .before .before .before .before .before .before .before .pre .0 .2 .room) _ (c .before .before .before .before .before .before .before .before .before .before .before .before .before .before .before .pre .0 .2 .is) .members-length)
 
 same-length-2 : tie.Need-same-length-2 Inv-loop μ-loop
-same-length-2 c = ap length (c .before .before .before .before .before .before .before .loop .inv .2) ∙ length-table 128 _ ∙ sym (ap length (c .before .before .before .before .before .before .before .before .before .before .before .before .before .before .pre .6) ∙ layout _ _ (c .before .before .before .before .before .before .before .before .before .before .before .before .before .before .pre .0 .2 .room) _ (c .before .before .before .before .before .before .before .before .before .before .before .before .before .before .pre .0 .2 .is) .sizes-length)
+same-length-2 c = ap length (c .before .before .before .before .before .before .before .before .loop .inv .2) ∙ length-table 128 _ ∙ sym (ap length (c .before .before .before .before .before .before .before .before .before .before .before .before .before .before .before .pre .6) ∙ layout _ _ (c .before .before .before .before .before .before .before .before .before .before .before .before .before .before .before .pre .0 .2 .room) _ (c .before .before .before .before .before .before .before .before .before .before .before .before .before .before .before .pre .0 .2 .is) .sizes-length)
 
 returns : tie.Need-returns Inv-loop μ-loop
 returns c =
-    let p = c .before .before .before .before .before .before .before .before .before .before .before .before .before .before .pre in
-    let a = c .before .before .before .before .before .before .before .before .before .before .before .before .before .before .args in
-    let l = c .before .before .before .before .before .before .before .loop in
+    let p = c .before .before .before .before .before .before .before .before .before .before .before .before .before .before .before .pre in
+    let a = c .before .before .before .before .before .before .before .before .before .before .before .before .before .before .before .args in
+    let l = c .before .before .before .before .before .before .before .before .loop in
     let was : Lists = lists (a .members .now) (a .sizes .now) (p .0 .0) (p .0 .1) (a .depth) in
     let h : l .i < a .held .assumptions + a .held .claims = omega arith in
     let n = stage-length (a .held .assumptions) (a .held .assumptions + a .held .claims) (saidBy (a .held)) (a .depth + 1) in
@@ -134,13 +139,13 @@ returns c =
     over-at (a .held) (a .depth + 1) (l .i) (l .inv .4) (omega arith) (built-over 12 (getD (stageBy (a .held) (a .depth + 1) .labels) (l .i) []) _ m (c .if2 .taken)) _ _
 
 write-requires : tie.Need-write-requires Inv-loop μ-loop
-write-requires c κs = omega (arith, ap length (c .before .before .before .before .before .before .before .before .loop .inv .3) ∙ length-table 1536 _, wide _ (c .before .before .before .before .before .before .before .before .before .before .before .before .before .before .before .pre .0 .2 .judgeable))
+write-requires c κs = omega (arith, ap length (c .before .before .before .before .before .before .before .before .before .loop .inv .3) ∙ length-table 1536 _, wide _ (c .before .before .before .before .before .before .before .before .before .before .before .before .before .before .before .before .pre .0 .2 .judgeable))
 
 cast-counts : tie.Need-cast-counts Inv-loop μ-loop
 cast-counts c = search needs
 
 slice-write-counts : tie.Need-slice-write-counts Inv-loop μ-loop
-slice-write-counts c = omega (arith, ap length (c .before .before .before .before .before .before .before .before .before .before .before .before .loop .inv .2) ∙ length-table 128 _, wide _ (c .before .before .before .before .before .before .before .before .before .before .before .before .before .before .before .before .before .before .before .pre .0 .2 .judgeable))
+slice-write-counts c = omega (arith, ap length (c .before .before .before .before .before .before .before .before .before .before .before .before .before .loop .inv .2) ∙ length-table 128 _, wide _ (c .before .before .before .before .before .before .before .before .before .before .before .before .before .before .before .before .before .before .before .before .pre .0 .2 .judgeable))
 
 mul-strike : tie.Need-mul-strike Inv-loop μ-loop
 mul-strike c = search needs
@@ -200,8 +205,8 @@ loop-again c =
     let on = tally-on (a .held) (p .0 .2 .judgeable) (a .t2) (p .1) (l .i + 1) (l .lo) (omega arith) (l .inv .1) in
     let X = getD (s .labels) (l .i) [] in
     ⊎-elim (λ w.
-    let m = label-built (a .held) was (p .0 .2) (a .t2) (p .1) _ (p .2) (l .i) (l .lo) h (l .inv .1) _ (part-lies (a .members .now) (a .sizes .now) (l .i)) _ (w .2 .ensures) in
-    (omega arith, on, w .11 ∙ sizes-written old (s .labels) (l .i) low t _ (l .inv .2) _ (built-length 12 X _ m (w .4 .left)), w .10 ∙ members-written old (s .labels) (l .i) low t _ (l .inv .3) _ (built-sets 12 X _ m (w .4 .left)) _ (w .6 .ensures), short-on s (l .i) (built-short 12 X _ m (w .4 .left)) (l .inv .4)))
+    let m = label-built (a .held) was (p .0 .2) (a .t2) (p .1) _ (p .2) (l .i) (l .lo) h (l .inv .1) _ (part-lies (a .members .now) (a .sizes .now) (l .i)) _ (w .3 .ensures) in
+    (omega arith, on, w .12 ∙ sizes-written old (s .labels) (l .i) low t _ (l .inv .2) _ (built-length 12 X _ m (w .5 .left)), w .11 ∙ members-written old (s .labels) (l .i) low t _ (l .inv .3) _ (built-sets 12 X _ m (w .5 .left)) _ (w .7 .ensures), short-on s (l .i) (built-short 12 X _ m (w .5 .left)) (l .inv .4)))
     (λ v. ⊎-elim (λ w.
     let short = struck-short (a .held) was (p .0 .2) (a .t3) (p .3) (l .i) h (w .0 .left) in
     let m = struck-count (a .held) was (p .0 .2) (a .t3) (p .3) (l .i) h (w .0 .left) _ (p .2) _ (part-lies (a .members .now) (a .sizes .now) (l .i)) _ (w .3 .ensures) in
@@ -261,6 +266,7 @@ relabel-spec =
     sub-build
     part-build-start
     part-build-end
+    slice-aggregate-build
     build-requires
     add-result
     same-length
