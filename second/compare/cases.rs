@@ -218,11 +218,28 @@ pub fn reorder(r: &mut Random, case: &mut Case) {
     }
     r.shuffle(&mut case.records);
     for (_, supports) in &mut case.records {
-        if !supports.is_empty() && supports.len() < 4 && r.chance(10) {
-            supports.push(*r.pick(supports));
+        if r.chance(10) {
+            repeat_one(r, supports);
         }
         r.shuffle(supports);
     }
+}
+
+/// One of the supports once more, where there is room.
+fn repeat_one(r: &mut Random, supports: &mut Vec<u32>) {
+    if !supports.is_empty() && supports.len() < 4 {
+        supports.push(*r.pick(supports));
+    }
+}
+
+/// The same justification written another way.
+pub fn respelled(r: &mut Random, record: &Record) -> Record {
+    let (consequent, mut supports) = record.clone();
+    for _ in 0..*r.pick(&[0, 0, 1, 2]) {
+        repeat_one(r, &mut supports);
+    }
+    r.shuffle(&mut supports);
+    (consequent, supports)
 }
 
 /// A long chain through claims and assumptions.
@@ -373,13 +390,18 @@ fn label_of_singles(r: &mut Random, b: &mut Builder, delay: u32) {
 /// The claim also follows from nothing, some stages later than stage 1.
 fn smaller_set(r: &mut Random, b: &mut Builder, claim: u32, delay: u32) {
     let later = r.from_to(0, delay + 1);
+    from_nothing(b, claim, later);
+}
+
+/// The number follows from nothing, `later` stages later than stage 1.
+fn from_nothing(b: &mut Builder, n: u32, later: u32) {
     if later == 0 {
-        return b.rule(claim, &[]);
+        return b.rule(n, &[]);
     }
     let premise = b.claim();
     b.rule(premise, &[]);
     let last = b.delayed(premise, later - 1);
-    b.rule(claim, &[last]);
+    b.rule(n, &[last]);
 }
 
 /// A claim from two or three others whose labels multiply to 9 to 18 members.
@@ -514,6 +536,59 @@ pub fn near_both_limits(r: &mut Random) -> Case {
     long_label(r, &mut b, delay);
     many_nogoods(r, &mut b, other);
     b.finish(r)
+}
+
+/// A list that some rules keep short: without one of them it comes to its
+/// limit or over it, at a stage from 1 to 4.
+pub fn kept_short(r: &mut Random) -> Case {
+    let mut b = Builder::new(r.from_to(15, 24));
+    let delay = r.from_to(0, 3);
+    match r.from_to(0, 3) {
+        0 => label_short_by_premise(r, &mut b, delay),
+        1 => label_short_by_nogoods(r, &mut b, delay),
+        2 => nogoods_short_by_premise(r, &mut b, delay),
+        _ => nogoods_short_by_single(r, &mut b, delay),
+    }
+    b.finish(r)
+}
+
+/// A claim from each of 12 to 14 assumptions, and no later from nothing.
+fn label_short_by_premise(r: &mut Random, b: &mut Builder, delay: u32) {
+    let members = r.from_to(12, 14);
+    let numbers: Vec<u32> = (1..=members).map(|k| b.delayed(k, delay)).collect();
+    let claim = b.any_of(&numbers);
+    let later = r.from_to(0, delay);
+    from_nothing(b, claim, later);
+}
+
+/// A claim from each of some assumptions, of which nogoods leave 11 or 12.
+fn label_short_by_nogoods(r: &mut Random, b: &mut Builder, delay: u32) {
+    let struck = r.from_to(1, 3);
+    let members = r.from_to(11, 12) + struck;
+    let numbers: Vec<u32> = (1..=members).map(|k| b.delayed(k, delay)).collect();
+    b.any_of(&numbers);
+    for k in 1..=struck {
+        let late = r.from_to(0, delay);
+        let number = b.delayed(k, late);
+        b.rule(0, &[number]);
+    }
+}
+
+/// Falsity from 32 to 36 pairs, and no later from nothing.
+fn nogoods_short_by_premise(r: &mut Random, b: &mut Builder, delay: u32) {
+    let numbers: Vec<u32> = (1..=9).map(|k| b.delayed(k, delay)).collect();
+    some_pairs(r, &numbers, 32, 36).iter().for_each(|pair| b.rule(0, pair));
+    let later = r.from_to(0, delay);
+    from_nothing(b, 0, later);
+}
+
+/// Falsity from 32 to 36 pairs, and no later from one of the assumptions.
+fn nogoods_short_by_single(r: &mut Random, b: &mut Builder, delay: u32) {
+    let numbers: Vec<u32> = (1..=9).map(|k| b.delayed(k, delay)).collect();
+    some_pairs(r, &numbers, 32, 36).iter().for_each(|pair| b.rule(0, pair));
+    let late = r.from_to(0, delay);
+    let number = b.delayed(1, late);
+    b.rule(0, &[number]);
 }
 
 /// Many joins, few members: a claim (or falsity) from claims with long labels,

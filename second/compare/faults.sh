@@ -1,17 +1,20 @@
 #!/bin/sh
 # Sees that the comparison can fail: builds the second program with one fault
 # at a time, hands it in as "ours", and shows the last line of each run.
-# Use, from the folder that holds src and compare:  sh compare/faults.sh COMPARE SECOND [SEED]
+# Use, from the folder that holds src and compare:  sh compare/faults.sh COMPARE SECOND [SEED] [WORD]
+# With a word, only the faults whose name has it.
 set -eu
 compare=$1
 second=$2
 seed=${3:-1}
+word=${4:-}
 work=$(mktemp -d)
 missed=0
 
 # fault NAME FILE CHANGE: one run with the file changed by the sed command.
 fault() {
     name=$1 file=$2 change=$3
+    case $name in *"$word"*) ;; *) return;; esac
     rm -rf "$work/src"
     cp -r src "$work/src"
     sed "$change" "src/program/$file" > "$work/src/program/$file"
@@ -68,5 +71,11 @@ fault "a refused load empties the store" script.rs \
     's/^        Err(Fault {/        Err(Fault { refusal: Refusal { number: 13, .. }, .. }) if { *store = Store::open(0, 0).unwrap(); false } => unreachable!(),\n        Err(Fault {/'
 fault "4,096 bytes refused" listing.rs 's/input.len() > MOST_BYTES/input.len() >= MOST_BYTES/'
 fault "record of 13 one too high" case_file.rs 's/return Err(at_record(count)(Refusal::plain(13)));/return Err(at_record(count + 1)(Refusal::plain(13)));/'
+fault "withdraw: 18 before 4 and 5" store.rs \
+    '/pub fn withdraw/,/^    }/s/check_numbers(/refuse_if(!self.held.contains(\&Rule::new(consequent, supports)), 18)?; check_numbers(/'
+fault "withdraw: a refusal by stage takes the rule out" store.rs \
+    '/pub fn withdraw/,/^    }/s/\*self = /self.held = smaller.clone(); *self = /'
+fault "withdraw: the lists stay as they were" store.rs \
+    '/pub fn withdraw/,/^    }/s/\*self = Store::of_rules(self.a, self.m, smaller)?;/Store::of_rules(self.a, self.m, smaller.clone())?; self.held = smaller;/'
 rm -rf "$work"
 if [ $missed = 0 ]; then echo "all faults seen"; else echo "faults.sh: FAILED"; exit 1; fi

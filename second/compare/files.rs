@@ -191,13 +191,14 @@ fn random_bytes(r: &mut Random, most: u32) -> Vec<u8> {
 
 /// A case that loads, for scripts: kinds that are mostly sound.
 pub fn case_for_script(r: &mut Random) -> Case {
-    match r.from_to(0, 12) {
+    match r.from_to(0, 13) {
         0..=6 => cases::random_small(r),
         7 => cases::random_middle(r),
         8 => cases::chain(r),
         9 => cases::near_label_limit(r),
         10 => cases::near_nogood_limit(r),
         11 => cases::long_working_list(r),
+        12 => cases::kept_short(r),
         _ => cases::random_crowded(r),
     }
 }

@@ -166,11 +166,11 @@ impl Findings {
     }
 
     /// Keep the common end of a script of a group if all that was to be brought
-    /// in was done or already held.
+    /// in was done or already held, and all to be withdrawn is not held.
     fn keep_end(&mut self, job: &Job, replies: &[script::Reply]) {
         let Some(group) = &job.group else { return };
         let brought = |reply: &&script::Reply| group.bringing.contains(&reply.line);
-        if replies.iter().filter(brought).all(|reply| reply.number <= 1) {
+        if replies.iter().filter(brought).all(|reply| matches!(reply.number, 0 | 1 | 18)) {
             let end = replies.iter().filter(|reply| reply.line >= group.end);
             let text = end.map(|reply| reply.text.as_str()).collect();
             self.ends.entry(group.number).or_default().push((text, job.input.clone()));

@@ -1,5 +1,4 @@
-//! The named cases of document 01, each with its reply written out from that
-//! document.
+//! The named cases, each with its reply written out from the documents.
 
 use crate::cases::{number, Case};
 use crate::jobs::Program;
@@ -20,6 +19,7 @@ pub fn all() -> Vec<Named> {
     cases.extend(pairs());
     cases.extend(five_supports());
     cases.extend(held_256());
+    cases.extend(withdrawals());
     cases
 }
 
@@ -147,6 +147,41 @@ fn pairs() -> Vec<Named> {
     ]
 }
 
+/// A rule out again: in another spelling, not held, with bad numbers, and kept
+/// in because a list would grow over its limit.
+fn withdrawals() -> Vec<Named> {
+    let pairs: String = all_pairs()[..33].iter().map(|(x, y)| format!("add 0 {x} {y}\n")).collect();
+    vec![
+        script(
+            "withdrawn",
+            "open 3 2\nwithdraw 4 1\nadd 4 1 2\nadd 5 4\nwithdraw 4 2 1 2\nlist\nwithdraw 4 1 2\nadd 4\nlist\n".to_string(),
+            "done\nrefused 18\ndone\ndone\ndone\n\
+             case 3 2 1 0\n0 nogood\n1 supported {1}\n2 supported {2}\n3 supported {3}\n4 unsupported\n5 unsupported\n\
+             refused 18\ndone\n\
+             case 3 2 2 2\n0 nogood\n1 supported {1}\n2 supported {2}\n3 supported {3}\n4 supported {}\n5 supported {}\n"
+                .to_string(),
+        ),
+        script(
+            "withdrawn with bad numbers",
+            "open 1 1\nadd 2 1\nwithdraw 2 1 1 1 1 1\nwithdraw 3 0 0 0 0 0\nwithdraw 3 0\nwithdraw 2 0 3\n\
+             withdraw 2 0\nwithdraw 0 0\nwithdraw 2\nwithdraw\nline 2\n"
+                .to_string(),
+            "done\ndone\nrefused 6\nrefused 6\nrefused 4\nrefused 4\nrefused 5\nrefused 5\nrefused 18\nbad line 10\n2 supported {1}\n"
+                .to_string(),
+        ),
+        script(
+            "thirteen singles, their premise withdrawn",
+            format!("open 13 1\nadd 14\n{}withdraw 14\nline 14\nwithdraw 14 13\nwithdraw 14\nline 14\nadd 14 13\n", add_singles()),
+            format!("done\ndone\n{}refused 8 14\n14 supported {{}}\ndone\ndone\n{TWELVE}refused 8 14\n", "done\n".repeat(13)),
+        ),
+        script(
+            "33 pairs, their premise withdrawn",
+            format!("open 9 0\nadd 0\n{pairs}withdraw 0\nline 0\nwithdraw 0 1 2\nwithdraw 0\nask 0 1 2\n"),
+            format!("done\ndone\n{}refused 9\n0 nogood {{}}\ndone\ndone\nunsupported\n", "done\n".repeat(33)),
+        ),
+    ]
+}
+
 fn five_supports() -> Vec<Named> {
     let bytes = vec![1, 1, 1, 2, 5, 1, 1, 1, 1, 1];
     let listed = "case 1 1 1 1\n0 nogood\n1 supported {1}\n2 supported {1}\n";
@@ -179,6 +214,11 @@ fn held_256() -> Vec<Named> {
                 "done\n{}already held\nrefused 7\nrefused 4\nrefused 5\n{listed}",
                 "done\n".repeat(256)
             ),
+        ),
+        script(
+            "256 held, one withdrawn",
+            format!("open 32 8\n{adds}add 40\nwithdraw 40 32 40\nadd 40\nadd 39\nwithdraw 40\nadd 40 40 32\nlist\n"),
+            format!("done\n{}refused 7\ndone\ndone\nrefused 7\ndone\ndone\n{listed}", "done\n".repeat(256)),
         ),
         file("256 records", bytes, &listed),
         file("257 records", above, "refused 7 0\n"),

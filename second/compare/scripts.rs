@@ -20,7 +20,8 @@ pub struct Group {
     pub end: usize,
 }
 
-const GROUPS: usize = 520;
+const GROUPS: usize = 430;
+const WAYS: u32 = 6;
 const MOST_BYTES: usize = 65_536;
 
 pub fn all(r: &mut Random) -> Vec<Script> {
@@ -33,7 +34,8 @@ pub fn all(r: &mut Random) -> Vec<Script> {
     };
     take(1500, "mixed", &mut |_| mixed(r));
     take(600, "adding to a limit", &mut |_| adding_to_a_limit(r));
-    take(80, "256 held", &mut |_| held_256(r));
+    take(340, "withdrawing to a limit", &mut |_| withdrawing_to_a_limit(r));
+    take(100, "256 held", &mut |_| held_256(r));
     take(350, "bad lines", &mut |_| bad_lines(r));
     take(60, "long loads", &mut |_| long_loads(r));
     take(60, "about 65,536 bytes", &mut |i| about_65536(r, i));
@@ -107,6 +109,10 @@ fn add_line((consequent, supports): &Record) -> String {
     words("add", &[&[*consequent][..], supports].concat())
 }
 
+fn withdraw_line((consequent, supports): &Record) -> String {
+    words("withdraw", &[&[*consequent][..], supports].concat())
+}
+
 fn load_line(r: &mut Random, bytes: &[u8]) -> String {
     let upper = r.chance(50);
     let mut line = "load".to_string();
@@ -118,11 +124,11 @@ fn load_line(r: &mut Random, bytes: &[u8]) -> String {
 
 // ---------------------------------------------------------------- groups
 
-/// One set of justifications brought in five ways, with one end.
+/// One set of justifications brought in several ways, with one end.
 fn one_group(r: &mut Random, number: usize, scripts: &mut Vec<Script>) {
     let case = group_case(r);
     let end = common_end(r, &case);
-    for way in 0..5 {
+    for way in 0..WAYS {
         let mut lines = Lines::default();
         let mut bringing = Vec::new();
         bring(r, way, &case, &mut lines, &mut bringing);
@@ -165,19 +171,27 @@ fn bring(r: &mut Random, way: u32, case: &Case, lines: &mut Lines, bringing: &mu
         3 => r.from_to(0, case.records.len() as u32) as usize,
         _ => 0,
     };
+    let strangers = if way == 5 { strangers(r, &case) } else { Vec::new() };
     let (first, rest) = case.records.split_at(loaded);
-    if way < 2 {
+    if way < 2 || way == 5 {
         bringing.push(lines.line(r, &open_line(case.a, case.m)));
     } else {
         let part = Case { a: case.a, m: case.m, records: first.to_vec() };
         let line = load_line(r, &part.bytes());
         bringing.push(lines.line(r, &line));
     }
+    for record in &strangers {
+        lines.line(r, &add_line(record));
+    }
     for record in rest {
         if way > 0 && r.chance(30) {
             changes_nothing(r, &case, lines);
         }
         bringing.push(lines.line(r, &add_line(record)));
+    }
+    for record in &strangers {
+        let line = withdraw_line(&cases::respelled(r, record));
+        bringing.push(lines.line(r, &line));
     }
     if way == 4 {
         // All is held already; say some of it again.
@@ -187,6 +201,14 @@ fn bring(r: &mut Random, way: u32, case: &Case, lines: &mut Lines, bringing: &mu
             changes_nothing(r, &case, lines);
         }
     }
+}
+
+/// A few justifications that are not of the case.
+fn strangers(r: &mut Random, case: &Case) -> Vec<Record> {
+    let count = r.from_to(1, 4);
+    let mut records: Vec<Record> = (0..count).map(|_| cases::any_record(r, case.a, case.m)).collect();
+    records.retain(|record| !cases::holds(&case.records, record));
+    records
 }
 
 /// Another store before, which the opening or loading that follows replaces.
@@ -202,7 +224,7 @@ fn other_store_first(r: &mut Random, lines: &mut Lines) {
 fn changes_nothing(r: &mut Random, case: &Case, lines: &mut Lines) {
     let last = case.last();
     let above = *r.pick(&[last + 1, last + 1, 300, u32::MAX]);
-    let line = match r.from_to(0, 13) {
+    let line = match r.from_to(0, 15) {
         0 => words("add", &[above, 1]),
         1 => words("add", &[0, above]),
         2 => "add 0 0".to_string(),
@@ -216,6 +238,8 @@ fn changes_nothing(r: &mut Random, case: &Case, lines: &mut Lines) {
         10 => words("line", &[r.from_to(0, last + 1)]),
         11 => words("context", &[r.from_to(1, case.a + 1)]),
         12 => "list".to_string(),
+        13 => (*r.pick(&["withdraw 0 0", "withdraw 0 1 1 1 1 1"])).to_string(),
+        14 => words("withdraw", &[above, 0]),
         _ => (*r.pick(BAD_LINES)).to_string(),
     };
     lines.line(r, &line);
@@ -258,6 +282,10 @@ fn common_end(r: &mut Random, case: &Case) -> Lines {
     for _ in 0..r.from_to(1, 3) {
         let record = cases::any_record(r, case.a, case.m);
         lines.plain(add_line(&record));
+    }
+    lines.plain("list");
+    for _ in 0..r.from_to(0, 3) {
+        lines.plain(withdraw_line(&to_withdraw(r, case)));
     }
     lines.plain("list");
     lines
@@ -306,32 +334,63 @@ fn random_set(r: &mut Random, a: u32) -> Vec<u32> {
 /// All calls mixed, sound ones and others.
 fn mixed(r: &mut Random) -> Vec<u8> {
     let mut lines = Lines::default();
-    let (mut a, mut m) = (0, 0);
+    let mut now = Case { a: 0, m: 0, records: Vec::new() };
     for _ in 0..r.from_to(1, 3) {
-        (a, m) = new_store(r, (a, m), &mut lines);
+        now = new_store(r, now, &mut lines);
         for _ in 0..r.from_to(3, 25) {
-            match r.from_to(0, 19) {
-                0..=7 => {
-                    let line = add_line(&perhaps_faulty(r, a, m));
-                    lines.line(r, &line);
-                }
-                8..=17 => telling(r, a, m, &mut lines),
-                18 => {
-                    let line = refused_load(r);
-                    lines.line(r, &line);
-                }
-                _ => {
-                    lines.plain(*r.pick(BAD_LINES));
-                }
-            }
+            any_call(r, &mut now, &mut lines);
         }
     }
     lines.line(r, "list");
     lines.bytes(r)
 }
 
-/// Open or load, at times in vain; the counts to go on with.
-fn new_store(r: &mut Random, old: (u32, u32), lines: &mut Lines) -> (u32, u32) {
+/// One call of any kind; `now` has the counts and what may be held.
+fn any_call(r: &mut Random, now: &mut Case, lines: &mut Lines) {
+    match r.from_to(0, 22) {
+        0..=7 => {
+            let record = perhaps_faulty(r, now.a, now.m);
+            lines.line(r, &add_line(&record));
+            now.records.push(record);
+        }
+        8..=17 => telling(r, now.a, now.m, lines),
+        18 => {
+            let line = refused_load(r);
+            lines.line(r, &line);
+        }
+        19..=20 => {
+            let line = withdraw_line(&to_withdraw(r, now));
+            lines.line(r, &line);
+        }
+        21 => there_and_back(r, now, lines),
+        _ => {
+            lines.plain(*r.pick(BAD_LINES));
+        }
+    }
+}
+
+/// Mostly one that may be held, written another way; else any.
+fn to_withdraw(r: &mut Random, now: &Case) -> Record {
+    if now.records.is_empty() || r.chance(40) {
+        return perhaps_faulty(r, now.a, now.m);
+    }
+    let record = r.pick(&now.records).clone();
+    cases::respelled(r, &record)
+}
+
+/// The listing before and after one is added and at once withdrawn.
+fn there_and_back(r: &mut Random, now: &Case, lines: &mut Lines) {
+    let record = cases::any_record(r, now.a, now.m);
+    let back = cases::respelled(r, &record);
+    lines.plain("list");
+    lines.plain(add_line(&record));
+    lines.plain(withdraw_line(&back));
+    lines.plain("list");
+}
+
+/// Open or load, at times in vain; the counts to go on with and what may be
+/// held.
+fn new_store(r: &mut Random, old: Case, lines: &mut Lines) -> Case {
     if r.chance(10) {
         let (a, m) = *r.pick(&[(33, 0), (0, 97), (32, 97), (33, 96), (300, 300), (u32::MAX, u32::MAX)]);
         lines.line(r, &open_line(a, m));
@@ -341,13 +400,13 @@ fn new_store(r: &mut Random, old: (u32, u32), lines: &mut Lines) -> (u32, u32) {
         let case = case_for_script(r);
         let line = load_line(r, &case.bytes());
         lines.line(r, &line);
-        return (case.a, case.m);
+        return case;
     }
     let small = r.chance(80);
     let a = if small { r.from_to(0, 6) } else { *r.pick(&[0, 31, 32]) };
     let m = if small { r.from_to(0, 6) } else { *r.pick(&[0, 95, 96]) };
     lines.line(r, &open_line(a, m));
-    (a, m)
+    Case { a, m, records: Vec::new() }
 }
 
 fn perhaps_faulty(r: &mut Random, a: u32, m: u32) -> Record {
@@ -386,7 +445,36 @@ fn adding_to_a_limit(r: &mut Random) -> Vec<u8> {
     lines.bytes(r)
 }
 
-/// From just below 256 held to full: held ones, new ones and faulty ones.
+/// A case that some rules keep within the limits: each rule is withdrawn and
+/// mostly added again, then some are withdrawn for good.
+fn withdrawing_to_a_limit(r: &mut Random) -> Vec<u8> {
+    let mut case = cases::kept_short(r);
+    let mut lines = Lines::default();
+    let line = load_line(r, &case.bytes());
+    lines.line(r, &line);
+    r.shuffle(&mut case.records);
+    for record in &case.records {
+        let line = withdraw_line(&cases::respelled(r, record));
+        lines.line(r, &line);
+        if r.chance(99) {
+            lines.line(r, &add_line(record));
+        }
+        if r.chance(5) {
+            telling(r, case.a, case.m, &mut lines);
+        }
+    }
+    lines.line(r, "list");
+    r.shuffle(&mut case.records);
+    let some = r.from_to(1, case.records.len() as u32) as usize;
+    for record in &case.records[..some] {
+        lines.line(r, &withdraw_line(record));
+    }
+    lines.line(r, "list");
+    lines.bytes(r)
+}
+
+/// From just below 256 held to full: held ones, new ones and faulty ones, and
+/// new ones in the place of one withdrawn.
 fn held_256(r: &mut Random) -> Vec<u8> {
     let mut lines = Lines::default();
     let count = *r.pick(&[252, 254, 255, 256, 256, 256]);
@@ -397,16 +485,26 @@ fn held_256(r: &mut Random) -> Vec<u8> {
         let record = match r.from_to(0, 3) {
             0 => r.pick(&case.records).clone(),
             1 => perhaps_faulty(r, case.a, case.m),
-            // It names its own consequent, so it changes no label.
-            _ => {
-                let n = r.from_to(1, case.last());
-                (n, vec![r.from_to(1, case.last()), n, r.from_to(1, case.last())])
-            }
+            _ => harmless(r, &case),
         };
         lines.line(r, &add_line(&record));
     }
+    for _ in 0..6 {
+        let out = r.pick(&case.records).clone();
+        let line = withdraw_line(&cases::respelled(r, &out));
+        for record in [harmless(r, &case), harmless(r, &case)] {
+            lines.line(r, &add_line(&record));
+        }
+        lines.line(r, &line);
+    }
     lines.line(r, "list");
     lines.bytes(r)
+}
+
+/// A justification that names its own consequent, so it changes no label.
+fn harmless(r: &mut Random, case: &Case) -> Record {
+    let n = r.from_to(1, case.last());
+    (n, vec![r.from_to(1, case.last()), n, r.from_to(1, case.last())])
 }
 
 /// Lines that are bad whatever the store is.
@@ -419,6 +517,8 @@ const BAD_LINES: &[&str] = &[
     "load 00 00 00 zz", "load +1 00 00",
     "add", "add x", "add 1 x", "add 1 -1", "add 1 1.0", "add 1 4294967296", "add 4294967296",
     "add 1 1 1 1 1 1 x", "add 0,1", "add 1 #",
+    "withdraw", "withdraw x", "withdraw 1 x", "withdraw 1 -1", "withdraw 1 4294967296",
+    "withdraw 4294967296", "withdraw 1 1 1 1 1 1 x", "Withdraw 1", "withdraws 1 2", "withdraw 1 #",
     "ask", "ask x", "ask 1 0", "ask 300 0", "ask 1 1 0 1", "ask 1 00", "ask 1 4294967296", "ask 1 {1}",
     "context 0", "context 1 0", "context x", "context 000", "context 4294967296", "context 300 0",
     "member", "member 1", "member 1 2 3", "member x 0", "member 0 x", "member 0 4294967296",

@@ -2,16 +2,29 @@
 
 use crate::program::listing::Listed;
 use crate::program::script::{Call, Reply};
+use std::collections::BTreeMap;
 
 /// Fewer of a reply that can occur is a failure.
-const QUOTA: u32 = 100;
+const QUOTA: u32 = 150;
 
-/// Which replies can occur where.
-const IN_FILES: &[usize] = &[0, 3, 4, 5, 6, 7, 8, 9, 11, 12, 13, 14];
-const IN_LOADS: &[usize] = &[0, 3, 4, 5, 6, 7, 8, 9, 11, 12, 13, 14];
-const IN_CALLS: &[usize] = &[0, 1, 3, 4, 5, 6, 7, 8, 9, 16];
+/// A column of the table: its head, and the replies that can occur there.
+struct Column {
+    head: &'static str,
+    replies: &'static [usize],
+}
 
-const MEANINGS: [&str; 17] = [
+const FILES: usize = 0;
+const LOADS: usize = 1;
+const CALLS: usize = 2;
+const WITHDRAWALS: usize = 3;
+const COLUMNS: [Column; 4] = [
+    Column { head: "files", replies: &[0, 3, 4, 5, 6, 7, 8, 9, 11, 12, 13, 14] },
+    Column { head: "loads", replies: &[0, 3, 4, 5, 6, 7, 8, 9, 11, 12, 13, 14] },
+    Column { head: "calls", replies: &[0, 1, 3, 4, 5, 6, 7, 8, 9, 16] },
+    Column { head: "withdraw", replies: &[0, 4, 5, 6, 8, 9, 18] },
+];
+
+const MEANINGS: [&str; 19] = [
     "done, or listed",
     "already held",
     "wrong shape of store",
@@ -29,17 +42,24 @@ const MEANINGS: [&str; 17] = [
     "more than 4,096 bytes",
     "buffer too short",
     "no member there",
+    "(no meaning)",
+    "not held",
+];
+
+/// What else has to come, by name.
+const KINDS: &[&str] = &[
+    "bad line",
+    "withdrawn after being added, the listing as before",
+    "added in a freed place of 256",
 ];
 
 #[derive(Default)]
 pub struct Tally {
-    pub files: [u32; 17],
-    pub loads: [u32; 17],
-    pub calls: [u32; 17],
-    /// 8 and 9 at a stage above 1, at their own places.
-    late_files: [u32; 17],
-    late_scripts: [u32; 17],
-    bad_lines: u32,
+    /// In each column, how often each reply came.
+    counts: [[u32; MEANINGS.len()]; COLUMNS.len()],
+    /// The same of those decided at a stage above 1.
+    late: [[u32; MEANINGS.len()]; COLUMNS.len()],
+    kinds: BTreeMap<&'static str, u32>,
     too_long: u32,
     /// Cases listed with a depth above 100, and the greatest depth.
     deep: u32,
@@ -48,57 +68,92 @@ pub struct Tally {
 
 impl Tally {
     pub fn count_file(&mut self, listed: &Listed) {
-        self.files[listed.number as usize] += 1;
-        if listed.stage > 1 {
-            self.late_files[listed.number as usize] += 1;
-        }
+        self.count(FILES, listed.number, listed.stage);
         self.deep += u32::from(depth_of(listed) > 100);
         self.deepest = self.deepest.max(depth_of(listed));
     }
 
     pub fn count_script(&mut self, replies: &[Reply]) {
         for reply in replies {
-            let number = reply.number as usize;
             match reply.call {
-                Call::BadLine => self.bad_lines += 1,
+                Call::BadLine => self.count_kind("bad line"),
                 Call::TooLong => self.too_long += 1,
-                Call::Load => self.loads[number] += 1,
-                _ => self.calls[number] += 1,
+                Call::Load => self.count(LOADS, reply.number, reply.stage),
+                Call::Withdraw => self.count(WITHDRAWALS, reply.number, reply.stage),
+                _ => self.count(CALLS, reply.number, reply.stage),
             }
-            if reply.stage > 1 {
-                self.late_scripts[number] += 1;
-            }
+        }
+        replies.windows(4).for_each(|four| self.count_there_and_back(four));
+        replies.windows(3).for_each(|three| self.count_freed_place(three));
+    }
+
+    fn count(&mut self, column: usize, number: u32, stage: u32) {
+        self.counts[column][number as usize] += 1;
+        if stage > 1 {
+            self.late[column][number as usize] += 1;
+        }
+    }
+
+    pub fn count_kind(&mut self, kind: &'static str) {
+        *self.kinds.entry(kind).or_default() += 1;
+    }
+
+    /// A listing, one added, one withdrawn, and the same listing again.
+    fn count_there_and_back(&mut self, four: &[Reply]) {
+        let calls = [Call::List, Call::Add, Call::Withdraw, Call::List];
+        let done = four.iter().zip(calls).all(|(reply, call)| reply.call == call && reply.number == 0);
+        if done && four[0].text == four[3].text {
+            self.count_kind("withdrawn after being added, the listing as before");
+        }
+    }
+
+    /// A refusal for want of a place, then one withdrawn and one added.
+    fn count_freed_place(&mut self, three: &[Reply]) {
+        let calls = [(Call::Add, 7), (Call::Withdraw, 0), (Call::Add, 0)];
+        if three.iter().zip(calls).all(|(reply, wanted)| (reply.call, reply.number) == wanted) {
+            self.count_kind("added in a freed place of 256");
         }
     }
 
     pub fn take_in(&mut self, other: &Tally) {
-        for i in 0..17 {
-            self.files[i] += other.files[i];
-            self.loads[i] += other.loads[i];
-            self.calls[i] += other.calls[i];
-            self.late_files[i] += other.late_files[i];
-            self.late_scripts[i] += other.late_scripts[i];
+        for column in 0..COLUMNS.len() {
+            for i in 0..MEANINGS.len() {
+                self.counts[column][i] += other.counts[column][i];
+                self.late[column][i] += other.late[column][i];
+            }
         }
-        self.bad_lines += other.bad_lines;
+        for (kind, count) in &other.kinds {
+            *self.kinds.entry(kind).or_default() += count;
+        }
         self.too_long += other.too_long;
         self.deep += other.deep;
         self.deepest = self.deepest.max(other.deepest);
     }
 
     pub fn print(&self) {
-        println!("reply                       files  script loads  script calls");
+        let heads: String = COLUMNS.iter().map(|column| format!(" {:>9}", column.head)).collect();
+        println!("{:<25}{heads}", "reply");
         for (i, meaning) in MEANINGS.iter().enumerate() {
-            let file = cell(self.files[i], IN_FILES.contains(&i));
-            let load = cell(self.loads[i], IN_LOADS.contains(&i));
-            let call = cell(self.calls[i], IN_CALLS.contains(&i));
-            println!("{i:>2} {meaning:<22} {file:>7} {load:>13} {call:>13}");
+            println!("{:<25}{}", format!("{i:>2} {meaning}"), self.row(&self.counts, i));
         }
         for i in [8, 9] {
-            let (files, scripts) = (self.late_files[i], self.late_scripts[i]);
-            println!("{i:>2} at a stage above 1      {files:>6}  in scripts {scripts}");
+            println!("{:<25}{}", format!("{i:>2} at a stage above 1"), self.row(&self.late, i));
         }
-        println!("bad lines {}, scripts too long {}", self.bad_lines, self.too_long);
+        KINDS.iter().for_each(|kind| println!("{kind}: {}", self.kind(kind)));
+        println!("scripts too long: {}", self.too_long);
         println!("deepest file listed: depth {}; above 100: {}", self.deepest, self.deep);
+    }
+
+    fn row(&self, counts: &[[u32; MEANINGS.len()]; COLUMNS.len()], i: usize) -> String {
+        let cell = |column: usize| match counts[column][i] {
+            0 if !COLUMNS[column].replies.contains(&i) => "-".to_string(),
+            count => count.to_string(),
+        };
+        (0..COLUMNS.len()).map(|column| format!(" {:>9}", cell(column))).collect()
+    }
+
+    fn kind(&self, kind: &str) -> u32 {
+        self.kinds.get(kind).copied().unwrap_or(0)
     }
 
     /// What there is too little of.
@@ -109,26 +164,21 @@ impl Tally {
                 few.push(format!("{what} came {count} times"));
             }
         };
-        IN_FILES.iter().for_each(|&i| want(format!("reply {i} in files"), self.files[i]));
-        IN_LOADS.iter().for_each(|&i| want(format!("reply {i} to a load"), self.loads[i]));
-        IN_CALLS.iter().for_each(|&i| want(format!("reply {i} to a call"), self.calls[i]));
-        for i in [8, 9] {
-            want(format!("reply {i} above stage 1 in files"), self.late_files[i]);
-            want(format!("reply {i} above stage 1 in scripts"), self.late_scripts[i]);
+        for (place, Column { head, replies }) in COLUMNS.iter().enumerate() {
+            replies.iter().for_each(|&i| want(format!("reply {i} in {head}"), self.counts[place][i]));
+            for &i in replies.iter().filter(|&&i| i == 8 || i == 9) {
+                want(format!("reply {i} above stage 1 in {head}"), self.late[place][i]);
+            }
         }
-        want("bad line".to_string(), self.bad_lines);
-        if self.files[0] * 3 < self.files.iter().sum() {
-            few.push(format!("only {} files were listed", self.files[0]));
+        KINDS.iter().for_each(|kind| want(kind.to_string(), self.kind(kind)));
+        if self.counts[FILES][0] * 3 < self.counts[FILES].iter().sum() {
+            few.push(format!("only {} files were listed", self.counts[FILES][0]));
         }
         if self.deepest < 129 {
             few.push(format!("the deepest case has depth {}", self.deepest));
         }
         few
     }
-}
-
-fn cell(count: u32, can_occur: bool) -> String {
-    if can_occur || count > 0 { count.to_string() } else { "-".to_string() }
 }
 
 /// The depth that a listing tells: the last field of its first line.

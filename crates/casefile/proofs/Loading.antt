@@ -9,7 +9,7 @@ use Rattle.casefile.specs.Case.{Case, Reading, caseOf, doneOf, heldBy, p
 use Rattle.casefile.specs.Load.{loadOf, loadedOf, recorded}
 use Rattle.casefile.specs.declared.Loaded.{Loaded}
 use Rattle.casefile.specs.declared.Parsed.{Parsed}
-use Rattle.items.proofs.Taken.{zero-done}
+use Rattle.replies.proofs.Numbers.{is-done}
 use Rattle.replies.specs.Replies.{numberOf}
 use Rattle.replies.specs.declared.Reply.the-variants.{Done}
 use Rattle.replies.specs.declared.Reply.{Reply}
@@ -49,7 +49,7 @@ module _ (l : List ℕ) (p : Parsed) (e : p ≡ parseOf l) where
   pub load-judged : numberOf (p .reply) ≡ 0 → (o : Outcome) → o ≡ judgedOf (p .held) → recorded (p .«record») o ≡ loadOf l
   unfolding loadOf
   load-judged z o q =
-      let d = parse-right l (sym (ap (λ (x : Parsed). x .reply) e) ∙ zero-done (p .reply) z) in
+      let d = parse-right l (sym (ap (λ (x : Parsed). x .reply) e) ∙ is-done (p .reply) z) in
       let s : Case = d .spelled in
       let n : p .«record» ≡ s .header .records = ap (λ (x : Parsed). x .«record») (e ∙ d .parsed) in
       let h : p .held ≡ parseOf l .held = ap (λ (x : Parsed). x .held) e in

@@ -1,5 +1,5 @@
 // Stores of the wrong shape, one for each clause, on every call: each must answer 2, hand the same store back and leave the lent bytes alone.
-// Then a store of right shape whose lists are untrue: questions read the lists, adding works from the justifications.
+// Then a store of right shape whose lists are untrue: questions read the lists, adding and withdrawing work from the justifications.
 mod spoil;
 
 use asking::Answer;
@@ -26,6 +26,11 @@ fn opened(a: u32, m: u32) -> Store {
 
 fn added(store: Store, consequent: u32, supports: &[u32]) -> Store {
     let out = store.add(consequent, supports);
+    out.store
+}
+
+fn withdrawn(store: Store, consequent: u32, supports: &[u32]) -> Store {
+    let out = store.withdraw(consequent, supports);
     out.store
 }
 
@@ -195,6 +200,15 @@ fn add(s: Store) {
     kept(s, after);
 }
 
+fn withdraw(s: Store) {
+    let out = s.withdraw(4, &[1]);
+    let reply = out.reply;
+    let after = out.store;
+    say(b", withdraw ");
+    show(replies::number(reply));
+    kept(s, after);
+}
+
 fn question(s: Store) {
     let out = asking::question(s, 4, 1);
     let answer = out.answer;
@@ -237,6 +251,7 @@ fn line(s: Store) {
 
 fn calls(s: Store) {
     add(s);
+    withdraw(s);
     question(s);
     context(s);
     member(s);
@@ -270,12 +285,8 @@ fn asked(s: Store, e: u32) {
     told_answer(answer);
 }
 
-fn main() {
-    let base = listed();
-    for k in 0..29 {
-        spoil::name(k);
-        calls(spoiled(base, k));
-    }
+// The untrue lists against the true ones.
+fn compared(base: Store) {
     let other = untrue(base);
     say(b"untrue lists: question 5 of {1} is ");
     asked(other, 1);
@@ -283,5 +294,16 @@ fn main() {
     asked(other, 6);
     say(b"; with 5 from 3 added, as from the true lists:");
     kept(added(base, 5, &[3]), added(other, 5, &[3]));
+    say(b"; with 4 from 1 withdrawn:");
+    kept(withdrawn(base, 4, &[1]), withdrawn(other, 4, &[1]));
     say(b"\n");
+}
+
+fn main() {
+    let base = listed();
+    for k in 0..29 {
+        spoil::name(k);
+        calls(spoiled(base, k));
+    }
+    compared(base);
 }

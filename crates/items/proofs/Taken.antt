@@ -16,8 +16,9 @@ use Rattle.items.specs.declared.Given.{Given}
 use Rattle.numbers.proofs.Numbers.{Onward, bad-from, chosen, onward, onward-bad, onward-got, onward-then, place-of, value-from}
 use Rattle.numbers.specs.Numbers.{Taken, got, bad, andThen, numberAt, numberFrom}
 use Rattle.numbers.specs.declared.Number.the-variants.{Value, Bad as bad-number}
+use Rattle.replies.proofs.Numbers.{is-done}
 use Rattle.replies.specs.Replies.{numberOf}
-use Rattle.replies.specs.declared.Reply.the-variants.{After, Already, Counts as Over, Done, Ends, Falsity, Form, Full, Label, Long, Nogoods, Number, Place, Shape, Short, Supports, Unheld, Unsettled}
+use Rattle.replies.specs.declared.Reply.the-variants.{Counts as Over, Done, Full, Supports}
 use Rattle.replies.specs.declared.Reply.{Reply}
 use Rattle.rules.proofs.Entries.{length-padded, unpadded}
 use Rattle.rules.specs.Held.{entryOf}
@@ -25,28 +26,6 @@ use Rattle.rules.specs.Items.{faultOf, justificationOf}
 use Rattle.theory.proofs.Lists.{clash, either}
 use Rattle.theory.specs.Lists.{choose}
 use Rattle.theory.specs.Places.{padded}
-
--- ---- done has the number 0, and no other reply has
-
-pub zero-done : (f : Reply) → numberOf f ≡ 0 → f ≡ Done
-zero-done Done e = refl
-zero-done Already e = absurd (omega arith)
-zero-done Shape e = absurd (omega arith)
-zero-done Over e = absurd (omega arith)
-zero-done Number e = absurd (omega arith)
-zero-done Falsity e = absurd (omega arith)
-zero-done Supports e = absurd (omega arith)
-zero-done Full e = absurd (omega arith)
-zero-done (Label n) e = absurd (omega arith)
-zero-done Nogoods e = absurd (omega arith)
-zero-done Unsettled e = absurd (omega arith)
-zero-done Ends e = absurd (omega arith)
-zero-done Form e = absurd (omega arith)
-zero-done After e = absurd (omega arith)
-zero-done Long e = absurd (omega arith)
-zero-done Short e = absurd (omega arith)
-zero-done Place e = absurd (omega arith)
-zero-done Unheld e = absurd (omega arith)
 
 -- ---- what is taken is so
 
@@ -188,12 +167,12 @@ module _ (N : ℕ) (i : Item) where
   unless-each : (rest : List ℕ) → Each (Faultless N) (unless F i rest)
   unfolding Each
   unless-each rest =
-      ⊎-elim (λ t. let d : F ≡ Done = zero-done F (eqb-true (numberOf F) 0 t) in subst (Each (Faultless N)) (sym (unless-yes rest d)) d)
+      ⊎-elim (λ t. let d : F ≡ Done = is-done F (eqb-true (numberOf F) 0 t) in subst (Each (Faultless N)) (sym (unless-yes rest d)) d)
       (λ t. subst (Each (Faultless N)) (sym (unless-no rest t)) tt) (either (eqb (numberOf F) 0))
 
   unless-onward : (l : List ℕ) (k : ℕ) → k ≤ length l → Onward l (unless F i (drop k l))
   unless-onward l k h =
-      ⊎-elim (λ t. subst (Onward l) (sym (unless-yes (drop k l) (zero-done F (eqb-true (numberOf F) 0 t)))) (onward-got l i k h))
+      ⊎-elim (λ t. subst (Onward l) (sym (unless-yes (drop k l) (is-done F (eqb-true (numberOf F) 0 t)))) (onward-got l i k h))
       (λ t. subst (Onward l) (sym (unless-no (drop k l) t)) (onward-bad Item l F t)) (either (eqb (numberOf F) 0))
 
 module _ (N : ℕ) where

@@ -10,9 +10,9 @@ use borrow.Author.Tests.{le-ltb}
 use Rattle.lines.proofs.Bounds.{bounded}
 use Rattle.lines.specs.Lines.{caseText, fitted, headingOf, lineOf, lineText, longest, refusalText, wordOf}
 use Rattle.lines.specs.declared.Written.the-variants.{Length}
+use Rattle.replies.proofs.Numbers.{few-replies}
 use Rattle.replies.specs.Replies.{numberOf}
 use Rattle.replies.specs.declared.Reply.{Reply}
-use Rattle.replies.specs.declared.Reply.the-variants.{After, Already, Counts, Done, Ends, Falsity, Form, Full, Label, Long, Nogoods, Number, Place, Shape, Short, Supports, Unheld, Unsettled}
 use Rattle.store.specs.Reading.{listHeld}
 use Rattle.store.specs.Shape.{rightShape, top}
 use Rattle.store.specs.declared.Store.{Store}
@@ -49,26 +49,6 @@ unfolding caseText
 case-length s t =
     let b = bounded s t in
     heading-length (s .held .assumptions) (s .held .claims) (s .held .count) (s .lists .depth) (omega arith) (omega arith) (omega arith) (omega arith)
-
-pub few-replies : (r : Reply) → numberOf r < 100
-few-replies Done = lit< tt
-few-replies Already = lit< tt
-few-replies Shape = lit< tt
-few-replies Counts = lit< tt
-few-replies Number = lit< tt
-few-replies Falsity = lit< tt
-few-replies Supports = lit< tt
-few-replies Full = lit< tt
-few-replies (Label n) = lit< tt
-few-replies Nogoods = lit< tt
-few-replies Unsettled = lit< tt
-few-replies Ends = lit< tt
-few-replies Form = lit< tt
-few-replies After = lit< tt
-few-replies Long = lit< tt
-few-replies Short = lit< tt
-few-replies Place = lit< tt
-few-replies Unheld = lit< tt
 
 pub refused-length : (r : Reply) (k : ℕ) → k < 2 ^ 32 → length (refusalText r k) ≤ 22
 unfolding refusalText

@@ -14,20 +14,20 @@ use Rattle.promises.proofs.InOrder.{in-order-from, in-order-members, in
 use Rattle.promises.proofs.Right.{form-right}
 use Rattle.promises.specs.Made.{inOrder}
 use Rattle.promises.specs.Room.{AddSays, Reaches}
+use Rattle.replies.proofs.Numbers.{is-done}
 use Rattle.replies.specs.Replies.{numberOf}
 use Rattle.replies.specs.declared.Reply.{Reply}
-use Rattle.replies.specs.declared.Reply.the-variants.{After, Already, Counts, Done, Ends, Falsity, Form as BadForm, Full, Label, Long, Nogoods, Number, Place, Shape, Short, Supports, Unheld, Unsettled}
+use Rattle.replies.specs.declared.Reply.the-variants.{After, Already, Counts, Done, Ends, Falsity, Form as BadForm, Full, Label, Long, Nogoods, Number, Place, Shape, Short, Supports, Unheld}
 use Rattle.rules.proofs.Laws.{Ranged, faultless-ranged}
 use Rattle.rules.proofs.Order.{mem-same, same-mem}
 use Rattle.rules.specs.Held.{heldOf, put}
 use Rattle.rules.specs.Items.{faultOf, justificationOf, sameJustification}
-use Rattle.store.proofs.Judging.{is-done}
 use Rattle.store.specs.Calls.{addOf, isDone, ofVerdict, storeOf}
 use Rattle.store.specs.Shape.{rightShape}
 use Rattle.store.specs.declared.Outcome.{Outcome}
 use Rattle.store.specs.declared.Store.{Store}
 use Rattle.theory.proofs.Lists.{clash, either, not-so}
-use Rattle.theory.specs.Judge.{Verdict, judge, labelOver, limits, nogoodsOver, settled, unsettled}
+use Rattle.theory.specs.Judge.{Verdict, judge, labelOver, limits, nogoodsOver, settled}
 use Rattle.theory.specs.Lists.{choose, someOf}
 use Rattle.theory.specs.Stages.{Justification}
 
@@ -61,7 +61,6 @@ module _ (A M : ℕ) (H : List Justification) (c : ℕ) (l : List ℕ) where
   fault-says Full e h = absurd (no-fault Full e (λ z. omega arith) (λ a b. omega arith))
   fault-says (Label n) e h = absurd (no-fault (Label n) e (λ z. omega arith) (λ a b. omega arith))
   fault-says Nogoods e h = absurd (no-fault Nogoods e (λ z. omega arith) (λ a b. omega arith))
-  fault-says Unsettled e h = absurd (no-fault Unsettled e (λ z. omega arith) (λ a b. omega arith))
   fault-says Ends e h = absurd (no-fault Ends e (λ z. omega arith) (λ a b. omega arith))
   fault-says BadForm e h = absurd (no-fault BadForm e (λ z. omega arith) (λ a b. omega arith))
   fault-says After e h = absurd (no-fault After e (λ z. omega arith) (λ a b. omega arith))
@@ -136,13 +135,12 @@ module _ {A M : ℕ} {H : List Justification} {s : Store} (f : Form A M H s) (c 
     stages-say : VerdictSays A N (i ∷ H) verdict
     stages-say =
         says-same A N (in-order-members (i ∷ H)) verdict
-        (judge-says A N larger (λ j m. in-range j m .low) (λ j m t k. in-range j m .between t k .1) (omega (arith, f .few, f .claims)) verdict refl)
+        (judge-says A N larger (λ j m t k. in-range j m .between t k .1) verdict refl)
 
     verdict-says : (v : Verdict) → VerdictSays A N (i ∷ H) v → AddSays A M H c l (ofVerdict s (heldOf A M larger) v .reply)
     verdict-says (settled d g) w = (r, w)
     verdict-says nogoodsOver w = (r, w)
     verdict-says (labelOver n) w = (r, w)
-    verdict-says unsettled w = absurd w
 
     reached-says : AddSays A M H c l reply
     reached-says = subst (AddSays A M H c l) (sym at-stages) (verdict-says verdict stages-say)
@@ -177,7 +175,6 @@ module _ {A M : ℕ} {H : List Justification} {s : Store} (f : Form A M H s) (c 
   add-back Nogoods w = by-verdict (w .0) nogoodsOver (nogoods-verdict (verdict (w .0)) (stages-say (w .0)) (w .1))
   add-back Shape w = absurd w
   add-back Counts w = absurd w
-  add-back Unsettled w = absurd w
   add-back Ends w = absurd w
   add-back BadForm w = absurd w
   add-back After w = absurd w

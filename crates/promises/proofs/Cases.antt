@@ -31,7 +31,7 @@ use Rattle.store.specs.declared.Store.{Store}
 use Rattle.theory.proofs.Judgement.{stage-length, stage-nogoods}
 use Rattle.theory.proofs.Listing.{below-elim}
 use Rattle.theory.specs.Cases.{at, from, verdict, worked}
-use Rattle.theory.specs.Judge.{Stage, Verdict, judge, labelOver, limits, nogoodsOver, settled, stageAt, stageOf, unsettled}
+use Rattle.theory.specs.Judge.{Stage, Verdict, judge, labelOver, limits, nogoodsOver, settled, stageAt, stageOf}
 use Rattle.theory.specs.Lists.{numbersBelow, numbersTo, someOf, those}
 use Rattle.theory.specs.Stages.{Justification, ahead, labelAt, lesser}
 
@@ -41,13 +41,11 @@ abbrev depthIn : Verdict → ℕ
 depthIn (settled d g) = d
 depthIn nogoodsOver = 0
 depthIn (labelOver n) = 0
-depthIn unsettled = 0
 
 abbrev stageIn : Verdict → Stage
 stageIn (settled d g) = g
 stageIn nogoodsOver = record { nogoods = []; labels = [] }
 stageIn (labelOver n) = record { nogoods = []; labels = [] }
-stageIn unsettled = record { nogoods = []; labels = [] }
 
 map-same : {X : Type 0} (f g : ℕ → X) (l : List ℕ) → ((i : ℕ) → Mem i l → f (suc i) ≡ g (suc i)) → map f (map suc l) ≡ map g (map suc l)
 map-same f g [] h = refl

@@ -81,6 +81,7 @@ its-table = record {
   adding-names = reply-table .adding-names;
   withdrawing-names = reply-table .withdrawing-names;
   loading-names = reply-table .loading-names;
+  no-ten = reply-table .no-ten;
 }
 
 pub demand-1-too : Demand1 deducing
@@ -130,6 +131,7 @@ its-telling m =
       line = t .line;
       heading = t .heading;
       depth = t .depth;
+      depth-most = t .depth-most;
       label-at = t .label-at;
       nogoods-at = t .nogoods-at;
       later = t .later;
@@ -151,6 +153,7 @@ demand-3-too = record {
   two-files = λ bytes others f g p q a m e. let o = demand-3 .two-files bytes others f g p q a m e in (o .0, λ r. one-store deducing (o .1 r .store));
   in-between = λ p q. one-store deducing (demand-3 .in-between (made-ours p) (made-ours q) .store);
   undone = λ c l p e k. demand-3 .undone c l (made-ours p) e k;
+  redone = λ c l p e k. demand-3 .redone c l (made-ours p) e k;
 }
 
 pub stores-too : Stores deducing

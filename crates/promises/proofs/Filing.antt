@@ -18,9 +18,8 @@ use Rattle.items.proofs.Taken.{Faultless}
 use Rattle.items.specs.Items.{Header, Item, headerFrom, numbersFrom, recordFrom, unless}
 use Rattle.numbers.proofs.Numbers.{chosen}
 use Rattle.numbers.specs.Numbers.{Taken, andThen, bad, got, numberFrom, secondFrom}
-use Rattle.promises.proofs.Form.{case-members, case-ranged}
 use Rattle.promises.proofs.Full.{says-same}
-use Rattle.promises.proofs.Loading.{case-judged, case-low}
+use Rattle.promises.proofs.Loading.{case-judged}
 use Rattle.promises.proofs.Rows.{Names, by-choice, few-told, given-one, less-test, or-test, stages-name, stages-one, stages-told, unnamed}
 use Rattle.promises.specs.Made.{SameMembers, putIn}
 use Rattle.promises.specs.OneAnswer.{One}
@@ -188,7 +187,7 @@ stages-ended c sound K f =
     let N : ℕ = A + c .header .claims in
     let v : Verdict = judge limits A N (heldBy c) in
     let same : SameMembers (putIn c) K = λ j. (λ m. f j .1 (inr m), λ m. ⊎-elim (λ a. elim a [ ]) (λ b. b) (f j .0 m)) in
-    stages-told A N K (λ j m. case-ranged c sound j (case-members c sound j .1 (same j .1 m)) .low) (case-low c sound) noStore (heldOf A (c .header .claims) (heldBy c)) v (says-same A N same v (case-judged c sound))
+    stages-told A N K noStore (heldOf A (c .header .claims) (heldBy c)) v (says-same A N same v (case-judged c sound))
 
 pub load-told : (bytes : List ℕ) → LoadRows bytes (reportOf (loadOf bytes))
 unfolding loadOf caseOf headerFrom

@@ -18,6 +18,7 @@ use Rattle.promises.proofs.Opening.{judge-none}
 use Rattle.promises.proofs.Keeping.{add-keeps, withdraw-keeps}
 use Rattle.promises.specs.Calls.{ours}
 use Rattle.promises.specs.Made.{HoldsExactly, Made, SameMembers, added, asked, contexted, headed, inOrder, kept, lined, loaded, opened, putIn, refused, shown, withdrawn}
+use Rattle.replies.proofs.Numbers.{is-done}
 use Rattle.replies.specs.Replies.{numberOf}
 use Rattle.replies.specs.declared.Reply.{Reply}
 use Rattle.replies.specs.declared.Reply.the-variants.{Already, Counts, Done, Full, Shape, Unheld}
@@ -29,13 +30,12 @@ use Rattle.rules.specs.Held.{dropped, heldOf, ordered, put, saidBy}
 use Rattle.rules.specs.Items.{faultOf, justificationOf, sameJustification}
 use Rattle.rules.specs.declared.Held.{Held}
 use Rattle.stages.specs.Lists.{listsOf}
-use Rattle.store.proofs.Judging.{is-done}
 use Rattle.store.specs.Calls.{addOf, answer, isDone, joinedBy, noStore, ofVerdict, openOf, partedFrom, startStore, storeOf, withdrawOf}
 use Rattle.store.specs.Shape.{rightShape}
 use Rattle.store.specs.declared.Outcome.{Outcome}
 use Rattle.store.specs.declared.Store.{Store}
 use Rattle.theory.proofs.Lists.{clash}
-use Rattle.theory.specs.Judge.{Stage, Verdict, judge, labelOver, limits, nogoodsOver, settled, unsettled}
+use Rattle.theory.specs.Judge.{Stage, Verdict, judge, labelOver, limits, nogoodsOver, settled}
 use Rattle.theory.specs.Lists.{choose, someOf}
 use Rattle.theory.specs.Stages.{Justification}
 
@@ -59,7 +59,6 @@ pub settled-only : (s t : Store) (h : Held) (v : Verdict) → ofVerdict s h v �
 settled-only s t h (settled d g) e = record { depth = d; stage = g; verdict = refl; is = sym (done-store (record { held = h; lists = listsOf d g }) t e) }
 settled-only s t h nogoodsOver e = let z : _≡_ {A = ℕ} 9 0 = ap (λ (a : Outcome). numberOf (a .reply)) e in absurd (omega arith)
 settled-only s t h (labelOver n) e = let z : _≡_ {A = ℕ} 8 0 = ap (λ (a : Outcome). numberOf (a .reply)) e in absurd (omega arith)
-settled-only s t h unsettled e = let z : _≡_ {A = ℕ} 10 0 = ap (λ (a : Outcome). numberOf (a .reply)) e in absurd (omega arith)
 
 -- what a refusal would hand back does not matter where the answer is 0
 pub done-by : (s s′ t : Store) (h : Held) (v : Verdict) → ofVerdict s h v ≡ answer Done t → ofVerdict s′ h v ≡ answer Done t

@@ -14,11 +14,10 @@ use Rattle.promises.specs.Made.{SameMembers}
 use Rattle.promises.specs.Room.{AllInRoom, InRoom, LabelFull, NogoodsFull}
 use Rattle.stages.proofs.Stages.{room-few, room-short}
 use Rattle.stages.specs.Steps.{Room}
-use Rattle.theory.proofs.Depth.{Within}
-use Rattle.theory.proofs.Judgement.{AllPassed, Told, judge-told, long-some, never-ten, settled-later, settled-told, stage-label, stage-length, stage-nogoods}
+use Rattle.theory.proofs.Judgement.{AllPassed, Told, judge-told, long-some, settled-later, settled-told, stage-label, stage-length, stage-nogoods}
 use Rattle.theory.proofs.Lasting.{Upto}
 use Rattle.theory.proofs.Sameness.{same-label, same-nogoods}
-use Rattle.theory.specs.Judge.{Stage, Verdict, judge, labelLong, labelOver, limits, nogoodsLong, nogoodsOver, settled, stageAt, unsettled}
+use Rattle.theory.specs.Judge.{Stage, Verdict, consequents, judge, labelLong, labelOver, limits, nogoodsLong, nogoodsOver, settled, stageAt}
 use Rattle.theory.specs.Stages.{Justification, labelAt, nogoodsAt}
 
 -- two numbers: one is less, or they are the same
@@ -67,7 +66,6 @@ abbrev pub VerdictSays : ℕ → ℕ → List Justification → Verdict → Type
 VerdictSays A N H (settled d s) = AllInRoom A N H
 VerdictSays A N H nogoodsOver = NogoodsFull A N H
 VerdictSays A N H (labelOver n) = LabelFull A N H n
-VerdictSays A N H unsettled = ⊥
 
 module _ (A N : ℕ) (J : List Justification) where
   stage-room : (k : ℕ) → nogoodsLong limits (stageAt A N J k) ≡ false → labelLong limits (stageAt A N J k) ≡ zero → InRoom A N J k
@@ -85,7 +83,7 @@ module _ (A N : ℕ) (J : List Justification) where
   passed-room : (j : ℕ) → AllPassed limits (stageAt A N J) 0 j → (i : ℕ) → i < j → InRoom A N J i
   passed-room j p i h = let t = p i zero-le h in stage-room i (t .few) (t .short)
 
-  module _ (w : Within N J) (u : Upto N J) (low : N ≤ 128) where
+  module _ (u : Upto N J) where
     settled-room : (d : ℕ) (s : Stage) → judge limits A N J ≡ settled d s → AllInRoom A N J
     settled-room d s e k =
         let t = settled-told limits A N J d s e in
@@ -100,7 +98,7 @@ module _ (A N : ℕ) (J : List Justification) where
         (λ (q : k ≡ d). subst (InRoom A N J) (sym q) last))
         (three k d)
 
-    over-nogoods : Told limits (stageAt A N J) 0 130 nogoodsOver → NogoodsFull A N J
+    over-nogoods : Told limits (stageAt A N J) 0 (suc (length (consequents J))) nogoodsOver → NogoodsFull A N J
     unfolding nogoodsLong
     over-nogoods t = record {
       stage = t .0;
@@ -108,7 +106,7 @@ module _ (A N : ℕ) (J : List Justification) where
       over = omega (arith, ltb-true 32 (length (stageAt A N J (t .0) .nogoods)) (t .4), ap length (stage-nogoods A N J (t .0)));
     }
 
-    over-label : (n : ℕ) → Told limits (stageAt A N J) 0 130 (labelOver n) → LabelFull A N J n
+    over-label : (n : ℕ) → Told limits (stageAt A N J) 0 (suc (length (consequents J))) (labelOver n) → LabelFull A N J n
     unfolding labelLong nogoodsLong
     over-label zero t = absurd (not-suc-le-zero (t .6))
     over-label (suc m) t =
@@ -137,9 +135,8 @@ module _ (A N : ℕ) (J : List Justification) where
 
     pub judge-says : (v : Verdict) → judge limits A N J ≡ v → VerdictSays A N J v
     judge-says (settled d s) e = settled-room d s e
-    judge-says nogoodsOver e = over-nogoods (rw e at (judge-told limits A N J))
-    judge-says (labelOver n) e = over-label n (rw e at (judge-told limits A N J))
-    judge-says unsettled e = never-ten A N J w low e
+    judge-says nogoodsOver e = over-nogoods (rw e at (judge-told A N J limits))
+    judge-says (labelOver n) e = over-label n (rw e at (judge-told A N J limits))
 
 -- the other way round
 module _ {A N : ℕ} {H : List Justification} where
@@ -147,19 +144,16 @@ module _ {A N : ℕ} {H : List Justification} where
   nogoods-verdict (settled d s) r g = absurd (room-not-nogoods r g)
   nogoods-verdict nogoodsOver r g = refl
   nogoods-verdict (labelOver n) r g = absurd (nogoods-not-label g r)
-  nogoods-verdict unsettled r g = absurd r
 
   pub label-verdict : (v : Verdict) {n : ℕ} → VerdictSays A N H v → LabelFull A N H n → v ≡ labelOver n
   label-verdict (settled d s) r g = absurd (room-not-label r g)
   label-verdict nogoodsOver r g = absurd (nogoods-not-label r g)
   label-verdict (labelOver m) r g = ap labelOver (one-label r g)
-  label-verdict unsettled r g = absurd r
 
   pub room-verdict : (v : Verdict) → VerdictSays A N H v → AllInRoom A N H → (d : ℕ) × (s : Stage) × (v ≡ settled d s)
   room-verdict (settled d s) r g = (d, s, refl)
   room-verdict nogoodsOver r g = absurd (room-not-nogoods g r)
   room-verdict (labelOver m) r g = absurd (room-not-label g r)
-  room-verdict unsettled r g = absurd r
 
 -- ---- the same members need the same room
 
@@ -192,4 +186,3 @@ module _ (A N : ℕ) {J H : List Justification} (f : SameMembers J H) where
     over = omega (arith, r .over, ap length (label-same (r .stage) n));
     lower = λ m p q. omega (arith, r .lower m p q, ap length (label-same (r .stage) m));
   }
-  says-same unsettled r = r

@@ -10,18 +10,18 @@ use lib.ListN.{drop, length}
 use borrow.Author.Tests.{eqb-true}
 use Rattle.asking.specs.Asking.{contextBytes, contextOf, contextReply}
 use Rattle.lines.specs.Lines.{Wrote, caseText, fitted, headingOf, kept, lineOf, lineText, writtenLength}
+use Rattle.replies.proofs.Numbers.{is-done}
 use Rattle.replies.specs.Replies.{numberOf}
 use Rattle.replies.specs.declared.Reply.{Reply}
 use Rattle.replies.specs.declared.Reply.the-variants.{Already, Done, Full, Number, Shape, Short, Unheld}
 use Rattle.rules.specs.Held.{dropped, heldOf, put, saidBy}
 use Rattle.rules.specs.Items.{faultOf, justificationOf, sameJustification}
 use Rattle.rules.specs.declared.Held.{Held}
-use Rattle.store.proofs.Judging.{is-done}
 use Rattle.store.specs.Calls.{addOf, answer, isDone, joinedBy, ofVerdict, partedFrom, storeOf, withdrawOf}
 use Rattle.store.specs.Shape.{rightShape, top}
 use Rattle.store.specs.declared.Outcome.{Outcome}
 use Rattle.store.specs.declared.Store.{Store}
-use Rattle.theory.specs.Judge.{Verdict, judge, labelOver, limits, nogoodsOver, settled, unsettled}
+use Rattle.theory.specs.Judge.{Verdict, judge, labelOver, limits, nogoodsOver, settled}
 use Rattle.theory.specs.Lists.{choose, someOf}
 use Rattle.theory.specs.Stages.{Justification}
 
@@ -38,7 +38,6 @@ module _ (s : Store) where
   keeps-verdict h (settled d g) n = absurd (n refl)
   keeps-verdict h nogoodsOver n = refl
   keeps-verdict h (labelOver m) n = refl
-  keeps-verdict h unsettled n = refl
 
   keeps-store : (A M : ℕ) (J : List Justification) → Keeps (storeOf s A M J)
   unfolding storeOf

@@ -2,8 +2,7 @@
 use mathlib.Core.List.{List}
 use mathlib.Core.Logic.{_↔_}
 use mathlib.Core.Path.{_∙_, _≡_, ap, refl, subst, sym}
-use Prim.Native.Nat.{_+_, _≤_, ℕ}
-use native.Mathlib.Omega.{arith}
+use Prim.Native.Nat.{_+_, ℕ}
 use Rattle.casefile.proofs.Whole.{Sound}
 use Rattle.casefile.specs.Case.{Case, caseOf, heldBy, whole}
 use Rattle.casefile.specs.Load.{loadOf}
@@ -13,11 +12,11 @@ use Rattle.promises.proofs.Full.{VerdictSays, judge-says, label-verdict
 use Rattle.promises.specs.Made.{putIn}
 use Rattle.promises.specs.Room.{StagesSay}
 use Rattle.replies.specs.declared.Reply.{Reply}
-use Rattle.replies.specs.declared.Reply.the-variants.{After, Already, Counts, Done, Ends, Falsity, Form, Full, Label, Long, Nogoods, Number, Place, Shape, Short, Supports, Unheld, Unsettled}
+use Rattle.replies.specs.declared.Reply.the-variants.{After, Already, Counts, Done, Ends, Falsity, Form, Full, Label, Long, Nogoods, Number, Place, Shape, Short, Supports, Unheld}
 use Rattle.rules.specs.Held.{heldOf}
 use Rattle.rules.specs.declared.Held.{Held}
 use Rattle.store.specs.Calls.{noStore, ofVerdict, storeOf}
-use Rattle.theory.specs.Judge.{Verdict, judge, labelOver, limits, nogoodsOver, settled, unsettled}
+use Rattle.theory.specs.Judge.{Verdict, judge, labelOver, limits, nogoodsOver, settled}
 use Rattle.theory.specs.Stages.{Justification}
 
 module _ (A N : ℕ) (H : List Justification) (h : Held) (v : Verdict) (w : VerdictSays A N H v) where
@@ -31,7 +30,6 @@ module _ (A N : ℕ) (H : List Justification) (h : Held) (v : Verdict) (w : Verd
       go (settled d s) w = w
       go nogoodsOver w = w
       go (labelOver n) w = w
-      go unsettled w = absurd w
 
   by : (u : Verdict) → v ≡ u → reply ≡ ofVerdict noStore h u .reply
   by u e = ap (λ (x : Verdict). ofVerdict noStore h x .reply) e
@@ -47,7 +45,6 @@ module _ (A N : ℕ) (H : List Justification) (h : Held) (v : Verdict) (w : Verd
   stages-back Full g = absurd g
   stages-back Shape g = absurd g
   stages-back Counts g = absurd g
-  stages-back Unsettled g = absurd g
   stages-back Ends g = absurd g
   stages-back Form g = absurd g
   stages-back After g = absurd g
@@ -67,13 +64,10 @@ module _ (c : Case) (sound : Sound c) where
   abbrev N : ℕ
   N = c .header .assumptions + c .header .claims
 
-  pub case-low : N ≤ 128
-  case-low = omega (arith, sound .limited .assumptions, sound .limited .claims)
-
   pub case-judged : VerdictSays A N (putIn c) (judge limits A N (heldBy c))
   case-judged =
       says-same A N (case-members c sound) (judge limits A N (heldBy c))
-      (judge-says A N (heldBy c) (λ j m. case-ranged c sound j m .low) (λ j m t k. case-ranged c sound j m .between t k .1) case-low (judge limits A N (heldBy c)) refl)
+      (judge-says A N (heldBy c) (λ j m t k. case-ranged c sound j m .between t k .1) (judge limits A N (heldBy c)) refl)
 
 module _ (bytes : List ℕ) (c : Case) (spells : caseOf bytes ≡ whole c) where
   abbrev A′ : ℕ

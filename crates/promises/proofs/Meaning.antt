@@ -3,16 +3,21 @@ use mathlib.Core.Bool.{Bool, true}
 use mathlib.Core.List.{List, List·Memᴰ as Mem, _∷_}
 use mathlib.Core.Logic.{_↔_}
 use mathlib.Core.Path.{_∙_, _≡_, ap, sym}
-use Prim.Native.Nat.{suc, ℕ}
+use Prim.Native.Nat.{_≤_, suc, ℕ}
+use native.Mathlib.Decide.{decLt}
+use native.Mathlib.Omega.{arith}
+use lib.ListN.{length}
 use Rattle.promises.specs.Demand2.{IsDepth}
 use Rattle.promises.specs.Meaning.{AtSomeStage, Meaning, ModelOf, Unrivalled}
 use Rattle.theory.proofs.Demands.{carries-means, contradicts-means}
+use Rattle.theory.proofs.Depth.{consequents-less}
+use Rattle.theory.proofs.Judgement.{agree-at-last, agree-elim}
 use Rattle.theory.proofs.Lists.{clash, not-so}
 use Rattle.theory.proofs.Models.{carries-models, no-model}
 use Rattle.theory.proofs.SelfSupport.{self-follows, self-stage}
 use Rattle.theory.proofs.Step.{Least, label-step, nogood-step}
 use Rattle.theory.specs.Demands.{carries, contradicts}
-use Rattle.theory.specs.Judge.{stageAt}
+use Rattle.theory.specs.Judge.{consequents, stageAt}
 use Rattle.theory.specs.Stages.{Justification, labelAt, labelOf, nogoodsAt, nogoodsOf}
 use Rattle.theory.specs.Step.{candidates}
 
@@ -59,6 +64,15 @@ module _ (j : Justification) (H : List Justification) (self : Mem (j .consequent
 depth-by : (A N d : ℕ) (H K : List Justification) → ((k : ℕ) → stageAt A N H k ≡ stageAt A N K k) → IsDepth A N H d → IsDepth A N K d
 depth-by A N d H K e f = record { agrees = sym (e d) ∙ f .agrees ∙ e (suc d); least = λ i h q. f .least i h (e i ∙ q ∙ sym (e (suc i))) }
 
+-- the depth and the different consequents
+pub depth-consequents : (A N : ℕ) (H : List Justification) (k : ℕ) → IsDepth A N H k → k ≤ length (consequents H)
+depth-consequents A N H k f =
+    let d : ℕ = length (consequents H) in
+    elim (decLt d k) [
+      | yes p ↦ absurd (f .least d p (agree-elim (stageAt A N H d) (stageAt A N H (suc d)) (agree-at-last A N H d (omega arith))))
+      | no p ↦ omega arith
+    ]
+
 pub meaning : Meaning
 unfolding candidates
 meaning = record {
@@ -68,6 +82,8 @@ meaning = record {
   carries-models = all-models;
   nogoods-step = λ A H k E. let s = nogood-step A H k E in let u = unrivalled _ E in (λ m. u .0 (s .0 m), λ r. s .1 (u .1 r));
   label-step = λ A H k n E. let s = label-step A H k n E in let u = unrivalled _ E in (λ m. let r = s .0 m in (r .0, u .0 (r .1)), λ r. s .1 (r .0, u .1 (r .1)));
+  depth-consequents = depth-consequents;
+  consequents-same = λ H K f. omega (arith, consequents-less H K (λ j. f j .0), consequents-less K H (λ j. f j .1));
   self-label = self-label;
   self-nogoods = self-nogoods;
   self-depth = λ j H self A N d.

@@ -1,5 +1,5 @@
 -- Nothing held: the stages settle at 0. Assumes nothing.
-use mathlib.Core.Bool.{false, true}
+use mathlib.Core.Bool.{false}
 use mathlib.Core.List.{List, []}
 use mathlib.Core.Path.{_∙_, _≡_, ap, refl}
 use Prim.Native.Nat.{_<_, _≤_, suc, zero, ℕ}
@@ -7,15 +7,11 @@ use native.Mathlib.Decide.{decLt}
 use native.Mathlib.Omega.{arith}
 use lib.Dec.{ltb}
 use lib.ListN.{getD, length}
-use Rattle.theory.proofs.Demands.{heads-length}
-use Rattle.theory.proofs.Judgement.{agree-at-last, course-turn, long-some, stage-label, stage-length, stage-nogoods}
+use Rattle.theory.proofs.Judgement.{long-some, stage-label, stage-length, stage-nogoods}
 use Rattle.theory.proofs.Start.{label-zero, label-zero-above, nogoods-zero}
-use Rattle.theory.specs.Judge.{Stage, agree, course, judge, labelLong, limits, nogoodsLong, settled, stageAt}
+use Rattle.theory.specs.Judge.{Stage, consequents, course, judge, labelLong, limits, nogoodsLong, settled, stageAt}
 
 module _ (A N : ℕ) where
-  none-agree : agree (stageAt A N [] 0) (stageAt A N [] 1) ≡ true
-  none-agree = agree-at-last A N [] (λ j m. elim m [ ]) 0 (heads-length N [])
-
   none-few : nogoodsLong limits (stageAt A N [] 0) ≡ false
   unfolding nogoodsLong
   none-few = ap (λ (l : List ℕ). ltb 32 (length l)) (stage-nogoods A N [] 0 ∙ nogoods-zero A [])
@@ -33,9 +29,10 @@ module _ (A N : ℕ) where
       let r = long-some 12 0 (stageAt A N [] 0 .labels) m e in
       absurd (omega (arith, r .2 .over, one-at-most (r .0) (omega (arith, r .2 .there-is, stage-length A N [] 0))))
 
-  turn : (T : ℕ → Stage) → nogoodsLong limits (T 0) ≡ false → labelLong limits (T 0) ≡ 0 → agree (T 0) (T 1) ≡ true → course limits T 130 0 ≡ settled 0 (T 0)
-  turn T p q a = course-turn limits T 130 0 (omega arith) ∙ rw (p, q, a)
+  turn : (T : ℕ → Stage) → nogoodsLong limits (T 0) ≡ false → labelLong limits (T 0) ≡ 0 → course limits T 0 0 ≡ settled 0 (T 0)
+  unfolding course
+  turn T p q = rw (p, q)
 
   pub judge-none : judge limits A N [] ≡ settled 0 (stageAt A N [] 0)
-  unfolding judge
-  judge-none = turn (stageAt A N []) none-few (none-long (labelLong limits (stageAt A N [] 0)) refl) none-agree
+  unfolding judge consequents
+  judge-none = turn (stageAt A N []) none-few (none-long (labelLong limits (stageAt A N [] 0)) refl)

@@ -24,9 +24,9 @@ use Rattle.store.specs.Calls.{addOf, answer}
 use Rattle.store.specs.declared.Store.{Store}
 use Rattle.theory.proofs.Listing.{below-intro}
 use Rattle.theory.proofs.Lists.{some-intro, those-intro}
-use Rattle.theory.proofs.Sameness.{same-judge}
+use Rattle.theory.proofs.Judgement.{same-judge}
 use Rattle.theory.proofs.SelfSupport.{self-judge}
-use Rattle.theory.specs.Judge.{Verdict, judge, labelOver, limits, nogoodsOver, settled, unsettled}
+use Rattle.theory.specs.Judge.{Verdict, judge, labelOver, limits, nogoodsOver, settled}
 use Rattle.theory.specs.Lists.{someOf}
 use Rattle.theory.specs.Stages.{Justification}
 
@@ -43,7 +43,6 @@ abbrev listsBy : Verdict → Lists
 listsBy (settled d g) = listsOf d g
 listsBy nogoodsOver = noLists
 listsBy (labelOver n) = noLists
-listsBy unsettled = noLists
 
 module _ {A M : ℕ} {H : List Justification} {s : Store} (f : Form A M H s) where
   -- the lists of a made store are those of the verdict on what was put in
@@ -57,7 +56,7 @@ module _ {A M : ℕ} {H : List Justification} {s : Store} (f : Form A M H s) whe
       let d : ℕ = form-settled f .depth in
       let g = form-settled f .stage in
       says-same A (A + M) (in-order-members H) (settled d g)
-      (judge-says A (A + M) (inOrder H) (λ j m. form-ranged f j m .low) (λ j m t k. form-ranged f j m .between t k .1) (omega (arith, f .few, f .claims)) (settled d g) (form-settled f .verdict))
+      (judge-says A (A + M) (inOrder H) (λ j m t k. form-ranged f j m .between t k .1) (settled d g) (form-settled f .verdict))
 
   module _ (c : ℕ) (l : List ℕ) (r : Reaches A M H c l) (own : Mem c l) where
     abbrev j : Justification

@@ -24,6 +24,7 @@ use Rattle.stages.specs.Steps.{Room}
 use Rattle.stages.specs.declared.Lists.{Lists}
 use Rattle.store.specs.Shape.{heldFits, rightShape}
 use Rattle.store.specs.declared.Store.{Store}
+use Rattle.theory.proofs.Depth.{consequents-few}
 use Rattle.theory.proofs.Judgement.{settled-stage, settled-told, stage-label, stage-label-none, stage-nogoods}
 use Rattle.theory.proofs.Label.{label-elim, nogood-elim}
 use Rattle.theory.proofs.Lists.{all-intro, and-intro, not-so}
@@ -152,7 +153,8 @@ module _ {A M : ℕ} {H : List Justification} {s : Store} (f : Form A M H s) whe
       subst Room (sym form-stage) (record { few = t .4; short = t .5 })
 
   pub form-low : depth ≤ 129
-  form-low = let t = settled-told limits A (A + M) J depth (form-settled f .stage) (form-settled f .verdict) in omega (arith, t .1)
+  form-low = let t = settled-told limits A (A + M) J depth (form-settled f .stage) (form-settled f .verdict) in
+      omega (arith, t .1, consequents-few (A + M) J (λ j m. form-ranged f j m .low), f .few, f .claims)
 
   lists-fit : listsRight (s .lists) A (A + M) ≡ true
   lists-fit =

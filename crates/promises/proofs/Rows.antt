@@ -20,10 +20,8 @@ use Rattle.rules.specs.Items.{faultOf}
 use Rattle.rules.specs.declared.Held.{Held}
 use Rattle.store.specs.Calls.{ofVerdict}
 use Rattle.store.specs.declared.Store.{Store}
-use Rattle.theory.proofs.Depth.{Within, heads-few}
-use Rattle.theory.proofs.Judgement.{agree-at-last, agree-elim}
 use Rattle.theory.proofs.Lists.{clash, or-cases, some-elim, some-intro}
-use Rattle.theory.specs.Judge.{Verdict, labelOver, nogoodsOver, settled, stageAt, unsettled}
+use Rattle.theory.specs.Judge.{Verdict, labelOver, nogoodsOver, settled}
 use Rattle.theory.specs.Lists.{choose, someOf}
 use Rattle.theory.specs.Stages.{Justification}
 
@@ -110,19 +108,13 @@ module _ (N c : ℕ) (l : List ℕ) {X : Type 0} (f : Reply → X) (next : X →
 
 module _ (A N : ℕ) (J : List Justification) where
   pub stages-one : One (StageRows A N J)
-  stages-one = given-one _ _ _ (given-one _ _ _ (given-one _ _ _ no-row-one))
+  stages-one = given-one _ _ _ (given-one _ _ _ no-row-one)
 
-  module _ (w : Within N J) (low : N ≤ 128) where
-    -- row 10 never holds: nothing new follows after as many stages as there are different consequents
-    pub never-differs : stageAt A N J 130 ≡ stageAt A N J 129
-    never-differs = sym (agree-elim (stageAt A N J 129) (stageAt A N J 130) (agree-at-last A N J w 129 (omega (arith, heads-few N J))))
-
-    pub stages-told : (s : Store) (h : Held) (v : Verdict) → VerdictSays A N J v → StageRows A N J (numberOf (ofVerdict s h v .reply))
-    unfolding given
-    stages-told s h (settled d g) r = inr (λ x. room-not-nogoods r x, inr (λ x. room-not-label r (x .1), inr (λ x. x never-differs, refl)))
-    stages-told s h nogoodsOver r = inl (r, refl)
-    stages-told s h (labelOver n) r = inr (λ x. nogoods-not-label x r, inl ((n, r), refl))
-    stages-told s h unsettled r = absurd r
+  pub stages-told : (s : Store) (h : Held) (v : Verdict) → VerdictSays A N J v → StageRows A N J (numberOf (ofVerdict s h v .reply))
+  unfolding given
+  stages-told s h (settled d g) r = inr (λ x. room-not-nogoods r x, inr (λ x. room-not-label r (x .1), refl))
+  stages-told s h nogoodsOver r = inl (r, refl)
+  stages-told s h (labelOver n) r = inr (λ x. nogoods-not-label x r, inl ((n, r), refl))
 
 -- ---- the number that is named
 
@@ -142,4 +134,3 @@ pub stages-name : (A N : ℕ) (J : List Justification) (s : Store) (h : Held) (v
 stages-name A N J s h (settled d g) r = unnamed (LabelFull A N J) Done refl (λ z. omega arith)
 stages-name A N J s h nogoodsOver r = unnamed (LabelFull A N J) Nogoods refl (λ z. omega arith)
 stages-name A N J s h (labelOver m) r = λ n. (λ e. let q : m ≡ n = cc in (refl, subst (LabelFull A N J) q r), λ w. ap some (one-label r (w .1)))
-stages-name A N J s h unsettled r = absurd r

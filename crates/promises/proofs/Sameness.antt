@@ -11,15 +11,16 @@ use Rattle.casefile.specs.declared.Loaded.{Loaded}
 use Rattle.promises.proofs.Form.{Form, case-held, case-loaded, case-sound, done-store, form-add, form-exactly, made-form, tried, tried-done}
 use Rattle.promises.proofs.InOrder.{in-order-same, in-order-to}
 use Rattle.promises.proofs.Right.{form-right}
+use Rattle.promises.proofs.Withdrawing.{form-withdrawing}
 use Rattle.promises.specs.Calls.{Calls, ours}
 use Rattle.promises.specs.Demand3.{Demand3, Reordered, Same, further, swapped, unmoved}
 use Rattle.promises.specs.Made.{Made, SameMembers, added, inOrder, loaded, putIn, withdrawn}
 use Rattle.replies.specs.declared.Reply.the-variants.{Already, Done}
-use Rattle.rules.proofs.Dropping.{dropped-from, dropped-gone, dropped-keeps}
+use Rattle.rules.proofs.Dropping.{dropped-cases, dropped-from, dropped-gone, dropped-keeps}
 use Rattle.rules.proofs.Order.{mem-same}
 use Rattle.rules.specs.Held.{dropped, saidBy}
 use Rattle.rules.specs.Items.{faultOf, justificationOf, sameJustification}
-use Rattle.store.specs.Calls.{addOf, answer, noStore, storeOf}
+use Rattle.store.specs.Calls.{addOf, answer, noStore, storeOf, withdrawOf}
 use Rattle.store.specs.Reading.{labelHeld, nogoodsHeld}
 use Rattle.store.specs.Shape.{rightShape}
 use Rattle.store.specs.declared.Outcome.{Outcome}
@@ -81,6 +82,16 @@ module _ {A M : ℕ} where
         λ m. dropped-keeps i (there m) (λ (q : j ≡ i). clash (mem-same i (inOrder H) (in-order-to (subst (λ (x : Justification). Mem x H) q m))) (p .new)),
       )
 
+  -- what is taken out and put in again leaves what was there
+  less-added : {H : List Justification} {s t : Store} (c : ℕ) (l : List ℕ) → Form A M H s → withdrawOf s c l ≡ answer Done t
+      → SameMembers (justificationOf (A + M) c l ∷ dropped (justificationOf (A + M) c l) H) H
+  less-added {H} c l f e j =
+      let i : Justification = justificationOf (A + M) c l in
+      let held : Mem i H = form-withdrawing f c l Done .0 (ap (λ (o : Outcome). o .reply) e) .0 .held in (
+        λ m. ⊎-elim (λ (q : j ≡ i). subst (λ (x : Justification). Mem x H) (sym q) held) (λ n. dropped-from i H n) (List·Memᴰ·cases-cons m),
+        λ m. ⊎-elim (λ (q : j ≡ i). here q) (λ n. there n) (dropped-cases i H m),
+      )
+
 -- ---- any order
 
 crossed : (i k : Justification) (H : List Justification) (j : Justification) → Mem j (k ∷ i ∷ H) → Mem j (i ∷ k ∷ H)
@@ -127,4 +138,5 @@ demand-3 = record {
       (ap (λ (x : Outcome). x .reply) o, λ r. one-store ours (ap (λ (x : Outcome). x .store) o));
   in-between = λ p q. one-store ours (same-store p q (λ j. (λ m. m, λ m. m)));
   undone = λ c l p e k. same-store (withdrawn c l (added c l p e) k) p (added-less c l (made-form p) e);
+  redone = λ c l p e k. same-store (added c l (withdrawn c l p e) k) p (less-added c l (made-form p) e);
 }

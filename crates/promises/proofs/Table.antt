@@ -22,6 +22,7 @@ use Rattle.promises.specs.Calls.{ours}
 use Rattle.promises.specs.OneAnswer.{One}
 use Rattle.promises.specs.Room.{LabelFull}
 use Rattle.promises.specs.Table.{AddRows, ContextRows, HeadingRows, LineRows, LoadRows, MemberRows, OpenRows, Outside, QuestionRows, ReplyTable, StageRows, WithdrawRows, enlarged, given, handed, lessened, noRow}
+use Rattle.replies.proofs.Numbers.{no-ten}
 use Rattle.replies.specs.Replies.{numberOf}
 use Rattle.replies.specs.declared.Reply.{Reply}
 use Rattle.replies.specs.declared.Reply.the-variants.{Already, Counts, Done, Falsity, Full, Number, Place, Shape, Short, Supports, Unheld}
@@ -38,7 +39,7 @@ use Rattle.store.specs.Shape.{rightShape, top}
 use Rattle.store.specs.declared.Outcome.{Outcome}
 use Rattle.store.specs.declared.Store.{Store}
 use Rattle.theory.proofs.Lists.{clash}
-use Rattle.theory.proofs.Sameness.{same-judge}
+use Rattle.theory.proofs.Judgement.{same-judge}
 use Rattle.theory.specs.Judge.{Verdict, judge, limits}
 use Rattle.theory.specs.Lists.{choose, someOf}
 use Rattle.theory.specs.Sets.{contains, inRange}
@@ -79,16 +80,13 @@ module _ (s : Store) (c : ℕ) (l : List ℕ) where
     in-range i m =
         ⊎-elim (λ (q : i ≡ j). subst (Ranged N) (sym q) (faultless-ranged N c l sound)) (λ k. right-range (s .held) (shape-elim s right .0 .right) i k) (List·Memᴰ·cases-cons m)
 
-    low : N ≤ 128
-    low = omega (arith, shape-elim s right .0 .few, shape-elim s right .0 .claims)
-
     verdict : Verdict
     verdict = judge limits A N (put j J)
 
     judged : VerdictSays A N (j ∷ J) verdict
     unfolding verdict
     judged =
-        judge-says A N (j ∷ J) (λ i m. in-range i m .low) (λ i m t k. in-range i m .between t k .1) low verdict
+        judge-says A N (j ∷ J) (λ i m t k. in-range i m .between t k .1) verdict
         (same-judge (j ∷ J) (put j J) (covered (λ i m. ⊎-elim (λ (q : i ≡ j). subst (λ (x : Justification). Mem x (put j J)) (sym q) (put-new j J)) (λ k. put-old j k) (List·Memᴰ·cases-cons m)))
         (covered (λ i m. ⊎-elim (λ q. here q) (λ k. there k) (put-cases j J m))) limits A N)
 
@@ -97,7 +95,7 @@ module _ (s : Store) (c : ℕ) (l : List ℕ) where
 
     stored-told : StageRows A N (enlarged s c l) (replied stored)
     unfolding storeOf verdict
-    stored-told = stages-told A N (j ∷ J) (λ i m. in-range i m .low) low s (heldOf A (s .held .claims) (put j J)) verdict judged
+    stored-told = stages-told A N (j ∷ J) s (heldOf A (s .held .claims) (put j J)) verdict judged
 
     stored-names : Names (LabelFull A N (enlarged s c l)) (stored .reply)
     unfolding storeOf verdict
@@ -168,18 +166,15 @@ module _ (s : Store) (c : ℕ) (l : List ℕ) where
     less-range : (j : Justification) → Mem j K → Ranged most j
     less-range j m = right-range (s .held) (shape-elim s right .0 .right) j (dropped-from i I m)
 
-    less-low : most ≤ 128
-    less-low = omega (arith, shape-elim s right .0 .few, shape-elim s right .0 .claims)
-
     less-judged : VerdictSays B most K (judge limits B most K)
-    less-judged = judge-says B most K (λ j m. less-range j m .low) (λ j m t k. less-range j m .between t k .1) less-low (judge limits B most K) refl
+    less-judged = judge-says B most K (λ j m t k. less-range j m .between t k .1) (judge limits B most K) refl
 
     abbrev left-over : Outcome
     left-over = storeOf s B (s .held .claims) K
 
     less-told : StageRows B most K (replied left-over)
     unfolding storeOf
-    less-told = stages-told B most K (λ j m. less-range j m .low) less-low s (heldOf B (s .held .claims) K) (judge limits B most K) less-judged
+    less-told = stages-told B most K s (heldOf B (s .held .claims) K) (judge limits B most K) less-judged
 
     less-names : Names (LabelFull B most K) (left-over .reply)
     unfolding storeOf
@@ -287,4 +282,5 @@ reply-table = record {
   adding-names = add-names;
   withdrawing-names = withdraw-names;
   loading-names = load-names;
+  no-ten = no-ten;
 }

@@ -7,6 +7,7 @@ use Rattle.promises.proofs.Adding.{form-adding}
 use Rattle.promises.proofs.Answers.{form-context, form-heading, form-line, form-member, form-question}
 use Rattle.promises.proofs.Form.{Form, made-form}
 use Rattle.promises.proofs.Loading.{load-says}
+use Rattle.promises.proofs.Meaning.{depth-consequents}
 use Rattle.promises.proofs.OwnSupport.{form-self}
 use Rattle.promises.proofs.Telling.{form-depth, form-label, form-label-at, form-later, form-nogoods, form-nogoods-at}
 use Rattle.promises.proofs.Withdrawing.{form-withdrawing}
@@ -27,6 +28,7 @@ form-tells f = record {
   line = form-line f;
   heading = form-heading f;
   depth = form-depth f;
+  depth-most = depth-consequents _ _ _ _ (form-depth f);
   label-at = form-label-at f;
   nogoods-at = form-nogoods-at f;
   later = form-later f;

@@ -4,7 +4,6 @@ use mathlib.Core.List.{List, List·Memᴰ as Mem}
 use mathlib.Core.Logic.{_↔_, _⊎_, inl, inr, ⊎-elim}
 use mathlib.Core.Path.{_∙_, _≡_, ap, refl, subst, sym}
 use Prim.Native.Nat.{_+_, ℕ}
-use native.Mathlib.Omega.{arith}
 use lib.Dec.{eqb, ltb}
 use lib.ListN.{length}
 use borrow.Author.Tests.{eqb-true}
@@ -14,21 +13,21 @@ use Rattle.promises.proofs.InOrder.{in-order-dropped, in-order-from, in
 use Rattle.promises.proofs.Right.{form-right}
 use Rattle.promises.specs.Made.{inOrder}
 use Rattle.promises.specs.Room.{Parts, WithdrawSays}
+use Rattle.replies.proofs.Numbers.{is-done}
 use Rattle.replies.specs.Replies.{numberOf}
 use Rattle.replies.specs.declared.Reply.{Reply}
-use Rattle.replies.specs.declared.Reply.the-variants.{After, Already, Counts, Done, Ends, Falsity, Form as BadForm, Full, Label, Long, Nogoods, Number, Place, Shape, Short, Supports, Unheld, Unsettled}
+use Rattle.replies.specs.declared.Reply.the-variants.{After, Already, Counts, Done, Ends, Falsity, Form as BadForm, Full, Label, Long, Nogoods, Number, Place, Shape, Short, Supports, Unheld}
 use Rattle.rules.proofs.Dropping.{dropped-from}
 use Rattle.rules.proofs.Laws.{Ranged}
 use Rattle.rules.proofs.Order.{mem-same, same-mem}
 use Rattle.rules.specs.Held.{dropped, heldOf}
 use Rattle.rules.specs.Items.{faultOf, justificationOf, sameJustification}
-use Rattle.store.proofs.Judging.{is-done}
 use Rattle.store.specs.Calls.{isDone, ofVerdict, storeOf, withdrawOf}
 use Rattle.store.specs.Shape.{rightShape}
 use Rattle.store.specs.declared.Outcome.{Outcome}
 use Rattle.store.specs.declared.Store.{Store}
 use Rattle.theory.proofs.Lists.{clash, either, not-so}
-use Rattle.theory.specs.Judge.{Verdict, judge, labelOver, limits, nogoodsOver, settled, unsettled}
+use Rattle.theory.specs.Judge.{Verdict, judge, labelOver, limits, nogoodsOver, settled}
 use Rattle.theory.specs.Lists.{choose, someOf}
 use Rattle.theory.specs.Stages.{Justification}
 
@@ -95,13 +94,12 @@ module _ {A M : ℕ} {H : List Justification} {s : Store} (f : Form A M H s) (c 
     stages-say : VerdictSays A N (dropped i H) verdict
     stages-say =
         says-same A N (in-order-members (dropped i H)) verdict
-        (judge-says A N smaller (λ j m. in-range j m .low) (λ j m t k. in-range j m .between t k .1) (omega (arith, f .few, f .claims)) verdict refl)
+        (judge-says A N smaller (λ j m t k. in-range j m .between t k .1) verdict refl)
 
     verdict-says : (v : Verdict) → VerdictSays A N (dropped i H) v → WithdrawSays A M H c l (ofVerdict s (heldOf A M smaller) v .reply)
     verdict-says (settled d g) w = (r, w)
     verdict-says nogoodsOver w = (r, w)
     verdict-says (labelOver n) w = (r, w)
-    verdict-says unsettled w = absurd w
 
     parted-says : WithdrawSays A M H c l reply
     parted-says = subst (WithdrawSays A M H c l) (sym at-stages) (verdict-says verdict stages-say)
@@ -138,7 +136,6 @@ module _ {A M : ℕ} {H : List Justification} {s : Store} (f : Form A M H s) (c 
   withdraw-back Full w = absurd w
   withdraw-back Shape w = absurd w
   withdraw-back Counts w = absurd w
-  withdraw-back Unsettled w = absurd w
   withdraw-back Ends w = absurd w
   withdraw-back BadForm w = absurd w
   withdraw-back After w = absurd w

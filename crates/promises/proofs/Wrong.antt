@@ -43,11 +43,12 @@ use Rattle.store.specs.Reading.{labelHeld, nogoodsHeld}
 use Rattle.store.specs.Shape.{heldFits, rightShape, top}
 use Rattle.store.specs.declared.Outcome.{Outcome}
 use Rattle.store.specs.declared.Store.{Store}
+use Rattle.theory.proofs.Depth.{consequents-length}
 use Rattle.theory.proofs.Lists.{and-intro, and-left, and-right, clash}
 use Rattle.theory.proofs.Sets.{within-le}
 use Rattle.theory.specs.Cases.{from}
 use Rattle.theory.specs.Demands.{carries, contradicts}
-use Rattle.theory.specs.Judge.{judge, limits, sameSets}
+use Rattle.theory.specs.Judge.{consequents, judge, limits, sameSets}
 use Rattle.theory.specs.Lists.{alike, allOf, choose, numbersBelow, numbersTo, someOf, those}
 use Rattle.theory.specs.Places.{table}
 use Rattle.theory.specs.Sets.{among, bySize, contains, digit, listing, within}
@@ -168,6 +169,11 @@ made-up-depth d =
     let m : Made deep 0 0 [] (deeper (answer Done (startStore 0 0)) .store) = opened (ap deeper o) in
     let k : ℕ = startStore 0 0 .lists .depth in
     d .tells m .depth .least k (omega arith) (demand-2 .tells (opened o) .depth .agrees)
+
+too-deep : ((A M : ℕ) (H : List Justification) (s : Store) → Made deep A M H s → s .lists .depth ≤ length (consequents H)) → ⊥
+too-deep f =
+    let t : Store = deeper (answer Done (startStore 0 0)) .store in
+    omega (arith, f 0 0 [] t (opened (ap deeper (opens-at 0 0 zero-le zero-le))), consequents-length [])
 
 -- ---- wrong in one call: falsity from assumption 1
 
@@ -418,6 +424,7 @@ refuted = record {
   adds-nothing = adds-nothing;
   stages-once = stages-once;
   made-up-depth = made-up-depth;
+  too-deep = too-deep;
   keeps-arrival = keeps-arrival;
   strikes-nothing = strikes-nothing;
   judges-prefixes = judges-prefixes;

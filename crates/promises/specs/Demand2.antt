@@ -23,7 +23,7 @@ use Rattle.store.specs.Reading.{labelHeld, nogoodsHeld}
 use Rattle.store.specs.declared.Store.{Store}
 use Rattle.text.specs.Texts.{heading, row}
 use Rattle.theory.specs.Demands.{carries, contradicts}
-use Rattle.theory.specs.Judge.{stageAt}
+use Rattle.theory.specs.Judge.{consequents, stageAt}
 use Rattle.theory.specs.Lists.{choose, sortedBy}
 use Rattle.theory.specs.Places.{table}
 use Rattle.theory.specs.Sets.{before, within}
@@ -91,6 +91,8 @@ pub record Tells (C : Calls) (A M : ℕ) (H : List Justification) (s : Store) : 
   pub heading : (out : List ℕ) → length (heading A M (length (inOrder H)) (s .lists .depth)) ≤ length out → C .heading s out ≡ writes s (heading A M (length (inOrder H)) (s .lists .depth)) out
   -- the depth; the store's labels and nogoods are those at the depth, and every later stage agrees with them
   pub depth : IsDepth A (A + M) H (s .lists .depth)
+  -- it never exceeds the number of different consequents, falsity counted
+  pub depth-most : s .lists .depth ≤ length (consequents H)
   pub label-at : (n : ℕ) → n ≤ A + M → labelHeld (s .lists) n ≡ labelAt A H (s .lists .depth) n
   pub nogoods-at : nogoodsHeld (s .lists) ≡ nogoodsAt A H (s .lists .depth)
   pub later : (k : ℕ) → s .lists .depth ≤ k → stageAt A (A + M) H (s .lists .depth) ≡ stageAt A (A + M) H k

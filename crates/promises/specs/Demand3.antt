@@ -58,3 +58,5 @@ pub record Demand3 (C : Calls) : Type 0 where
   pub in-between : {A M : ℕ} {H : List Justification} {s t : Store} → Made C A M H s → Made C A M H t → Same C s t
   -- adding a new one and at once withdrawing it, both answered 0, gives the earlier store back
   pub undone : {A M : ℕ} {H : List Justification} {s t u : Store} (c : ℕ) (l : List ℕ) → Made C A M H s → C .adding s c l ≡ answer Done t → C .withdrawing t c l ≡ answer Done u → u ≡ s
+  -- .. and withdrawing one and at once adding it again, both answered 0, does so too
+  pub redone : {A M : ℕ} {H : List Justification} {s t u : Store} (c : ℕ) (l : List ℕ) → Made C A M H s → C .withdrawing s c l ≡ answer Done t → C .adding t c l ≡ answer Done u → u ≡ s

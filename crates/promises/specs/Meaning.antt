@@ -3,9 +3,12 @@ use mathlib.Core.Bool.{Bool, false, true}
 use mathlib.Core.List.{List, List·Memᴰ as Mem, _++_, _∷_}
 use mathlib.Core.Logic.{_↔_}
 use mathlib.Core.Path.{_≡_}
-use Prim.Native.Nat.{suc, ℕ}
+use Prim.Native.Nat.{_≤_, suc, ℕ}
+use lib.ListN.{length}
 use Rattle.promises.specs.Demand2.{IsDepth}
+use Rattle.promises.specs.Made.{SameMembers}
 use Rattle.theory.specs.Demands.{Holds, Model, carries, contradicts}
+use Rattle.theory.specs.Judge.{consequents}
 use Rattle.theory.specs.Sets.{contains, within}
 use Rattle.theory.specs.Stages.{Justification, follows, labelAt, nogoodsAt}
 use Rattle.theory.specs.Step.{joinsFor}
@@ -39,6 +42,10 @@ pub record Meaning : Type 0 where
   -- a new label is made of the old label and of one member from the label of each support, joined, over all justifications of the consequent, with the new stage's nogoods and all supersets removed
   pub label-step : (A : ℕ) (H : List Justification) (k n E : ℕ)
       → Mem E (labelAt A H (suc k) n) ↔ ((contains (nogoodsAt A H (suc k)) E ≡ false) × Unrivalled (labelAt A H k n ++ joinsFor (labelAt A H k) n H) E)
+  -- by the definition of depth alone, it never exceeds the number of different consequents, falsity counted ..
+  pub depth-consequents : (A N : ℕ) (H : List Justification) (k : ℕ) → IsDepth A N H k → k ≤ length (consequents H)
+  -- .. which is that of the set: what was put in and what is held have the same number
+  pub consequents-same : (H K : List Justification) → SameMembers H K → length (consequents H) ≡ length (consequents K)
   -- a justification that names its own consequent as a support changes no label, no nogood and no depth
   pub self-label : (j : Justification) (H : List Justification) → Mem (j .consequent) (j .supports) → (A k n : ℕ) → labelAt A (j ∷ H) k n ≡ labelAt A H k n
   pub self-nogoods : (j : Justification) (H : List Justification) → Mem (j .consequent) (j .supports) → (A k : ℕ) → nogoodsAt A (j ∷ H) k ≡ nogoodsAt A H k

@@ -5,7 +5,7 @@ use Prim.Native.Nat.{_+_, _<_, _≤_, ℕ}
 use lib.ListN.{length}
 use Rattle.promises.specs.Made.{inOrder}
 use Rattle.replies.specs.declared.Reply.{Reply}
-use Rattle.replies.specs.declared.Reply.the-variants.{After, Already, Counts, Done, Ends, Falsity, Form, Full, Label, Long, Nogoods, Number, Place, Shape, Short, Supports, Unheld, Unsettled}
+use Rattle.replies.specs.declared.Reply.the-variants.{After, Already, Counts, Done, Ends, Falsity, Form, Full, Label, Long, Nogoods, Number, Place, Shape, Short, Supports, Unheld}
 use Rattle.rules.specs.Held.{dropped}
 use Rattle.rules.specs.Items.{faultOf, justificationOf}
 use Rattle.theory.specs.Stages.{Justification, labelAt, nogoodsAt}
@@ -50,7 +50,6 @@ StagesSay A N H Supports = ⊥
 StagesSay A N H Full = ⊥
 StagesSay A N H Shape = ⊥
 StagesSay A N H Counts = ⊥
-StagesSay A N H Unsettled = ⊥
 StagesSay A N H Ends = ⊥
 StagesSay A N H Form = ⊥
 StagesSay A N H After = ⊥
@@ -80,7 +79,6 @@ AddSays A M H c l Nogoods = Reaches A M H c l × NogoodsFull A (A + M) (justific
 -- to a made store the others are never given
 AddSays A M H c l Shape = ⊥
 AddSays A M H c l Counts = ⊥
-AddSays A M H c l Unsettled = ⊥
 AddSays A M H c l Ends = ⊥
 AddSays A M H c l Form = ⊥
 AddSays A M H c l After = ⊥
@@ -110,7 +108,6 @@ WithdrawSays A M H c l Already = ⊥
 WithdrawSays A M H c l Full = ⊥
 WithdrawSays A M H c l Shape = ⊥
 WithdrawSays A M H c l Counts = ⊥
-WithdrawSays A M H c l Unsettled = ⊥
 WithdrawSays A M H c l Ends = ⊥
 WithdrawSays A M H c l Form = ⊥
 WithdrawSays A M H c l After = ⊥

@@ -13,12 +13,12 @@ use Rattle.promises.specs.Calls.{Calls}
 use Rattle.promises.specs.Made.{putIn}
 use Rattle.promises.specs.Room.{LabelFull, NogoodsFull}
 use Rattle.replies.specs.Replies.{namedBy, numberOf}
+use Rattle.replies.specs.declared.Reply.{Reply}
 use Rattle.rules.specs.Held.{dropped, saidBy}
 use Rattle.rules.specs.Items.{justificationOf}
 use Rattle.store.specs.Reading.{listHeld}
 use Rattle.store.specs.Shape.{rightShape, top}
 use Rattle.store.specs.declared.Store.{Store}
-use Rattle.theory.specs.Judge.{stageAt}
 use Rattle.theory.specs.Stages.{Justification}
 
 -- ---- rows, one after the other
@@ -42,13 +42,12 @@ OpenRows A M = given (OverCounts A M) 3 noRow
 
 -- ---- add
 
--- the stages of J, with A assumptions and the numbers up to N: at the first stage with a list over its limit 9 if the nogoods are over, else 8; then 10
+-- the stages of J, with A assumptions and the numbers up to N: at the first stage with a list over its limit 9 if the nogoods are over, else 8
 abbrev pub StageRows : ℕ → ℕ → List Justification → ℕ → Type 0
 StageRows A N J =
     given (NogoodsFull A N J) 9
     (given ((n : ℕ) × LabelFull A N J n) 8
-    (given (stageAt A N J 130 ≡ stageAt A N J 129 → ⊥) 10
-    noRow))
+    noRow)
 
 -- a number above N: the consequent c, or one of the supports l
 abbrev pub Above : ℕ → ℕ → List ℕ → Type 0
@@ -196,3 +195,5 @@ pub record ReplyTable (C : Calls) : Type 0 where
   pub withdrawing-names : (s : Store) (c : ℕ) (l : List ℕ) (n : ℕ) → (namedBy (C .withdrawing s c l .reply) ≡ some n)
       ↔ ((numberOf (C .withdrawing s c l .reply) ≡ 8) × LabelFull (s .held .assumptions) (top (s .held)) (lessened s c l) n)
   pub loading-names : (bytes : List ℕ) (n : ℕ) → (namedBy (C .loading bytes .reply) ≡ some n) ↔ ((numberOf (C .loading bytes .reply) ≡ 8) × LoadNames (caseOf bytes) n)
+  -- the number 10 stays unused
+  pub no-ten : (r : Reply) → numberOf r ≡ 10 → ⊥

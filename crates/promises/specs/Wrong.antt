@@ -1,8 +1,9 @@
 -- Wrong programs, each as a value of the calls and refuted by a demand: the five empty ones of document 01, then nine that go wrong in one call. Nothing else cites this file. Assumes nothing.
 use mathlib.Core.Bool.{not}
 use mathlib.Core.List.{List, [], _++_, _∷_, map}
-use Prim.Native.Nat.{_+_, suc, ℕ}
+use Prim.Native.Nat.{_+_, _≤_, suc, ℕ}
 use lib.Dec.{eqb}
+use lib.ListN.{length}
 use Rattle.asking.specs.Asking.{answerNumber, left}
 use Rattle.asking.specs.declared.Answer.{Answer}
 use Rattle.asking.specs.declared.Answer.the-variants.{Inconsistent, Refused, Supported, Unsupported}
@@ -16,7 +17,7 @@ use Rattle.promises.specs.Calls.{Calls, handing, ours}
 use Rattle.promises.specs.Demand1.{Demand1}
 use Rattle.promises.specs.Demand2.{Demand2}
 use Rattle.promises.specs.Demand3.{Demand3}
-use Rattle.promises.specs.Made.{Stores, inOrder}
+use Rattle.promises.specs.Made.{Made, Stores, inOrder}
 use Rattle.promises.specs.Standing.{AsTheyStand}
 use Rattle.promises.specs.Table.{ReplyTable}
 use Rattle.replies.specs.declared.Reply.the-variants.{Counts, Done, Ends, Nogoods, Shape}
@@ -30,7 +31,7 @@ use Rattle.store.specs.Shape.{top}
 use Rattle.store.specs.declared.Outcome.{Outcome}
 use Rattle.store.specs.declared.Store.{Store}
 use Rattle.theory.specs.Demands.{carries, contradicts}
-use Rattle.theory.specs.Judge.{Stage}
+use Rattle.theory.specs.Judge.{Stage, consequents}
 use Rattle.theory.specs.Lists.{choose, numbersTo, those}
 use Rattle.theory.specs.Sets.{contains, listing}
 use Rattle.theory.specs.Stages.{Justification, follows, minimal}
@@ -297,6 +298,7 @@ pub record Refuted : Type 0 where
   pub adds-nothing : Demand2 idle → ⊥
   pub stages-once : Demand2 once → ⊥
   pub made-up-depth : Demand2 deep → ⊥
+  pub too-deep : ((A M : ℕ) (H : List Justification) (s : Store) → Made deep A M H s → s .lists .depth ≤ length (consequents H)) → ⊥
   pub keeps-arrival : Demand3 arrival → ⊥
   pub strikes-nothing : Demand2 lenient → ⊥
   pub judges-prefixes : Demand2 prefixed → ⊥

@@ -6,7 +6,9 @@ use printing::decimal;
 use printing::say;
 use replies::Reply;
 use script::Read;
+use store::Outcome;
 use store::Store;
+ghost use Prim.Native.Nat.{_≤_};
 
 // Room for the fields of one line: of 65,536 bytes every second is a space at least.
 const MOST: usize = 32769;
@@ -81,22 +83,27 @@ pub fn load(rest: &[u8], number: u32, store: Store) -> Store {
     out.store
 }
 
-// add C S..
-pub fn add(rest: &[u8], number: u32, store: Store) -> Store {
-    let mut values = [0u32; MOST];
-    let read = script::numbers(rest, 0, &mut values);
+// The fields of a justification, the consequent first: how many there are, or 0 where the line is bad.
+fn justification(rest: &[u8], number: u32, values: &mut [u32]) -> usize
+    ensures { λ r. ⌜ r ≤ 32769 ⌝ }
+{
+    let read = script::numbers(rest, 0, values);
     let Read::Count(n) = read else {
         bad(number);
-        return store;
+        return 0;
     };
     if n < 1 {
         bad(number);
-        return store;
+        return 0;
     }
     if MOST < n {
-        return store;
+        return 0;
     }
-    let out = store.add(values[0], &values[1..n]);
+    n
+}
+
+// What a call that changes the store says, and the store after it.
+fn told(out: Outcome) -> Store {
     let reply = out.reply;
     let replied = replies::number(reply);
     if replied == 0 {
@@ -109,6 +116,26 @@ pub fn add(rest: &[u8], number: u32, store: Store) -> Store {
         refused(reply);
     }
     out.store
+}
+
+// add C S..
+pub fn add(rest: &[u8], number: u32, store: Store) -> Store {
+    let mut values = [0u32; MOST];
+    let n = justification(rest, number, &mut values);
+    if n < 1 {
+        return store;
+    }
+    told(store.add(values[0], &values[1..n]))
+}
+
+// withdraw C S..
+pub fn withdraw(rest: &[u8], number: u32, store: Store) -> Store {
+    let mut values = [0u32; MOST];
+    let n = justification(rest, number, &mut values);
+    if n < 1 {
+        return store;
+    }
+    told(store.withdraw(values[0], &values[1..n]))
 }
 
 // ask N K..

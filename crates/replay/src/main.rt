@@ -31,6 +31,9 @@ fn command(line: &[u8], number: u32, store: Store) -> Store {
     if script::same(word, b"add") {
         return calls::add(rest, number, store);
     }
+    if script::same(word, b"withdraw") {
+        return calls::withdraw(rest, number, store);
+    }
     calls::read(word, rest, number, store);
     store
 }

@@ -3,7 +3,7 @@ use mathlib.Core.Path.{_≡_}
 use mathlib.Core.Option.{Option, none, some}
 use Prim.Native.Nat.{ℕ}
 use Rattle.replies.specs.declared.Reply.{Reply}
-use Rattle.replies.specs.declared.Reply.the-variants.{Done, Already, Shape, Counts, Number, Falsity, Supports, Full, Label, Nogoods, Unsettled, Ends, Form, After, Long, Short, Place, Unheld}
+use Rattle.replies.specs.declared.Reply.the-variants.{Done, Already, Shape, Counts, Number, Falsity, Supports, Full, Label, Nogoods, Ends, Form, After, Long, Short, Place, Unheld}
 
 -- the number of a reply
 abbrev pub numberOf : Reply → ℕ
@@ -27,8 +27,6 @@ numberOf Full = 7
 numberOf (Label n) = 8
 -- nogoods over 32
 numberOf Nogoods = 9
--- stage 130 differs from stage 129
-numberOf Unsettled = 10
 -- file ends inside the case
 numberOf Ends = 11
 -- bad number form
@@ -56,7 +54,6 @@ namedBy Falsity = none
 namedBy Supports = none
 namedBy Full = none
 namedBy Nogoods = none
-namedBy Unsettled = none
 namedBy Ends = none
 namedBy Form = none
 namedBy After = none

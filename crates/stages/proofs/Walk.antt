@@ -5,26 +5,29 @@ use mathlib.Core.Logic.{⊎-elim}
 use mathlib.Core.Path.{_∙_, _≡_, ap, ap₂, refl, subst, sym}
 use Prim.Native.Nat.{_+_, _-_, _<_, _≤_, suc, zero, ℕ}
 use native.Mathlib.Decide.{decLt}
+use native.Mathlib.Numerals.{add-one}
 use native.Mathlib.Omega.{arith}
 use lib.ListN.{getD, length}
 use borrow.Author.Tests.{le-ltb}
 use Rattle.replies.specs.Replies.{numberOf}
-use Rattle.replies.specs.declared.Reply.the-variants.{Done, Unsettled}
+use Rattle.replies.specs.declared.Reply.the-variants.{Done}
+use Rattle.rules.proofs.Laws.{right-range}
 use Rattle.rules.specs.Held.{saidBy}
 use Rattle.rules.specs.declared.Held.{Held}
 use Rattle.stages.proofs.Nexts.{lowest-none}
 use Rattle.stages.proofs.Parts.{wide}
 use Rattle.stages.proofs.Same.{same-agree}
 use Rattle.stages.proofs.Stages.{start-is}
-use Rattle.stages.specs.Judged.{Judgeable, judgedBy, refusal}
+use Rattle.stages.specs.Judged.{Judgeable, judgedBy}
 use Rattle.stages.specs.Lists.{firstStage, listsOf}
 use Rattle.stages.specs.Steps.{Reached, Room, fitted, fittedBy, sameLists, stageBy}
 use Rattle.stages.specs.declared.Judged.{Judged}
 use Rattle.stages.specs.declared.Lists.{Lists}
-use Rattle.theory.proofs.Judgement.{agree-elim, course-turn, stage-label, stage-length, stage-nogoods}
-use Rattle.theory.proofs.Lists.{either}
+use Rattle.theory.proofs.Depth.{consequents-few}
+use Rattle.theory.proofs.Judgement.{agree-at-last, agree-elim, course-turn, stage-label, stage-length, stage-nogoods}
+use Rattle.theory.proofs.Lists.{clash, either}
 use Rattle.theory.proofs.Start.{label-zero, label-zero-above, nogoods-zero}
-use Rattle.theory.specs.Judge.{Stage, Verdict, agree, course, judge, labelLong, labelOver, limits, nogoodsLong, nogoodsOver, settled, unsettled}
+use Rattle.theory.specs.Judge.{Stage, Verdict, agree, consequents, course, judge, labelLong, labelOver, limits, nogoodsLong, nogoodsOver, settled}
 use Rattle.theory.specs.Stages.{labelAt}
 
 -- what the next stage answers: done, with its lists, exactly when it has room
@@ -46,41 +49,44 @@ module _ (k : ℕ) (s : Stage) (r : Judged) (is : r ≡ fitted k s) (n : ℕ) (n
   unfolding fitted
   step-none z o = z (number ∙ ap (λ (x : Judged). numberOf (x .reply)) (is ∙ ap₂ (λ (b : Bool) (m : ℕ). fittedBy b m (listsOf k s)) (o .few) (o .short)))
 
--- ---- the stages T, each with N labels
-module _ (T : ℕ → Stage) (N : ℕ) (wide : N ≤ 128) (long : (k : ℕ) → length (T k .labels) ≡ N) where
+-- ---- the stages T, each with N labels, which agree from stage e on
+module _ (T : ℕ → Stage) (N : ℕ) (wide : N ≤ 128) (long : (k : ℕ) → length (T k .labels) ≡ N) (e : ℕ) (last : (k : ℕ) → e ≤ k → agree (T k) (T (suc k)) ≡ true) where
   -- what the stages from k on say
   abbrev from : ℕ → Verdict
-  from k = course limits T (130 - k) k
+  from k = course limits T e k
 
   agree-not : (k : ℕ) → Room (T k) → (Room (T (k + 1)) → ⊥) → agree (T k) (T (k + 1)) ≡ false
-  agree-not k o n = ⊎-elim (λ (e : agree (T k) (T (k + 1)) ≡ true). absurd (n (subst Room (agree-elim (T k) (T (k + 1)) e) o))) (λ e. e) (either (agree (T k) (T (k + 1))))
+  agree-not k o n = ⊎-elim (λ (a : agree (T k) (T (k + 1)) ≡ true). absurd (n (subst Room (agree-elim (T k) (T (k + 1)) a) o))) (λ a. a) (either (agree (T k) (T (k + 1))))
 
-  from-here : (k : ℕ) → k < 130 → Room (T k) → agree (T k) (T (k + 1)) ≡ true → from k ≡ settled k (T k)
-  from-here k h o e = course-turn limits T 130 k h ∙ rw (o .few, o .short, e)
+  -- stages that differ come before the last
+  differs-low : (k : ℕ) → agree (T k) (T (k + 1)) ≡ false → k < e
+  differs-low k a = elim (decLt k e) [
+    | yes p ↦ p
+    | no p ↦ clash (subst (λ (j : ℕ). agree (T k) (T j) ≡ true) (sym (add-one k)) (last k (omega arith))) a
+  ]
 
-  from-on : (k : ℕ) → k < 130 → Room (T k) → agree (T k) (T (k + 1)) ≡ false → from k ≡ from (k + 1)
-  from-on k h o e = course-turn limits T 130 k h ∙ rw (o .few, o .short, e)
+  from-here : (k : ℕ) → Room (T k) → agree (T k) (T (k + 1)) ≡ true → from k ≡ settled k (T k)
+  from-here k o a = course-turn limits T e last k ∙ rw (o .few, o .short, a)
+
+  from-on : (k : ℕ) → Room (T k) → agree (T k) (T (k + 1)) ≡ false → from k ≡ from (k + 1)
+  from-on k o a = course-turn limits T e last k ∙ rw (o .few, o .short, a)
 
   -- a stage over its limit ends the walk with the refusal that it answers
-  from-over : (k : ℕ) → k < 130 → (r : Judged) → r ≡ fitted k (T k) → (Room (T k) → ⊥) → r ≡ judgedBy (from k)
+  from-over : (k : ℕ) → (r : Judged) → r ≡ fitted k (T k) → (Room (T k) → ⊥) → r ≡ judgedBy (from k)
   unfolding fitted
-  from-over k h r e none = go (nogoodsLong limits (T k)) (labelLong limits (T k)) refl refl e
+  from-over k r is none = go (nogoodsLong limits (T k)) (labelLong limits (T k)) refl refl is
     where
       go : (b : Bool) (m : ℕ) → nogoodsLong limits (T k) ≡ b → labelLong limits (T k) ≡ m → r ≡ fittedBy b m (listsOf k (T k)) → r ≡ judgedBy (from k)
-      go true m p q w = let v : from k ≡ nogoodsOver = course-turn limits T 130 k h ∙ rw p in w ∙ sym (ap judgedBy v)
-      go false (suc m) p q w = let v : from k ≡ labelOver (suc m) = course-turn limits T 130 k h ∙ rw (p, q) in w ∙ sym (ap judgedBy v)
+      go true m p q w = let v : from k ≡ nogoodsOver = course-turn limits T e last k ∙ rw p in w ∙ sym (ap judgedBy v)
+      go false (suc m) p q w = let v : from k ≡ labelOver (suc m) = course-turn limits T e last k ∙ rw (p, q) in w ∙ sym (ap judgedBy v)
       go false zero p q w = absurd (none (record { few = p; short = q }))
-
-  from-end : from 130 ≡ unsettled
-  unfolding course
-  from-end = refl
 
   -- ---- stage k, with its lists, and what the next one answers
   module _ (k : ℕ) (l : Lists) (is : l ≡ listsOf k (T k)) (room : Room (T k)) (v : Verdict) (so : v ≡ from k) (r : Judged) (made : r ≡ fitted (k + 1) (T (k + 1))) (n : ℕ) (number : n ≡ numberOf (r .reply)) where
-    turn-refused : k < 129 → (n ≡ 0 → ⊥) → r ≡ judgedBy v
-    turn-refused low z =
+    turn-refused : (n ≡ 0 → ⊥) → r ≡ judgedBy v
+    turn-refused z =
         let none : Room (T (k + 1)) → ⊥ = step-none (k + 1) (T (k + 1)) r made n number z in
-        from-over (k + 1) (omega arith) r made none ∙ sym (ap judgedBy (so ∙ from-on k (omega arith) room (agree-not k room none)))
+        from-over (k + 1) r made none ∙ sym (ap judgedBy (so ∙ from-on k room (agree-not k room none)))
 
     module _ (z : n ≡ 0) (b : Bool) (same : b ≡ sameLists l (r .lists)) where
       agreed : b ≡ agree (T k) (T (k + 1))
@@ -88,37 +94,32 @@ module _ (T : ℕ → Stage) (N : ℕ) (wide : N ≤ 128) (long : (k : ℕ) → 
           same ∙ ap₂ sameLists is (step-lists (k + 1) (T (k + 1)) r made n number z)
           ∙ same-agree N wide (T k) (T (k + 1)) (long k) (long (k + 1)) room (step-room (k + 1) (T (k + 1)) r made n number z) k (k + 1)
 
-      turn-settled : k < 130 → b ≡ true → _≡_ {A = Judged} (record { reply = Done; lists = l }) (judgedBy v)
-      turn-settled low e =
-          ap (λ (x : Lists). record { reply = Done; lists = x }) is ∙ sym (ap judgedBy (so ∙ from-here k low room (sym agreed ∙ e)))
+      turn-settled : b ≡ true → _≡_ {A = Judged} (record { reply = Done; lists = l }) (judgedBy v)
+      turn-settled a = ap (λ (x : Lists). record { reply = Done; lists = x }) is ∙ sym (ap judgedBy (so ∙ from-here k room (sym agreed ∙ a)))
 
-      turn-on : k < 130 → b ≡ false → v ≡ from (k + 1)
-      turn-on low e = so ∙ from-on k low room (sym agreed ∙ e)
+      turn-on : b ≡ false → v ≡ from (k + 1)
+      turn-on a = so ∙ from-on k room (sym agreed ∙ a)
 
-    -- stage 129
-    last-open : v ≡ from 130 → (x : Judged) → x ≡ refusal Unsettled → x ≡ judgedBy v
-    last-open e x w = w ∙ sym (ap judgedBy (e ∙ from-end))
-
-    end-refused : k ≡ 129 → (n ≡ 0 → ⊥) → (x : Judged) → x ≡ refusal Unsettled → x ≡ judgedBy v
-    end-refused e z x w =
-        let none : Room (T (k + 1)) → ⊥ = step-none (k + 1) (T (k + 1)) r made n number z in
-        let q : k + 1 ≡ 130 = omega arith in
-        last-open (so ∙ from-on k (omega arith) room (agree-not k room none) ∙ ap from q) x w
-
-    end-differs : k ≡ 129 → n ≡ 0 → (b : Bool) → b ≡ sameLists l (r .lists) → b ≡ false → (x : Judged) → x ≡ refusal Unsettled → x ≡ judgedBy v
-    end-differs e z b same f x w =
-        let q : k + 1 ≡ 130 = omega arith in
-        last-open (turn-on z b same (omega arith) f ∙ ap from q) x w
+      turn-low : b ≡ false → k < e
+      turn-low a = differs-low k (sym agreed ∙ a)
 
 -- ---- the stages of what is held
 
+-- how many different consequents there are
+abbrev pub most : Held → ℕ
+most h = length (consequents (saidBy h))
+
 -- what the stages from k on say
 abbrev pub fromStage : Held → ℕ → Verdict
-fromStage h k = course limits (stageBy h) (130 - k) k
+fromStage h k = course limits (stageBy h) (most h) k
 
 module _ (h : Held) (ok : Judgeable h) where
   abbrev A : ℕ
   A = h .assumptions
+
+  -- at most 129: falsity and the numbers up to 128
+  most-few : most h ≤ 129
+  most-few = omega (arith, consequents-few (A + h .claims) (saidBy h) (λ j m. right-range h (ok .right) j m .low), wide h ok)
 
   room-zero : Room (stageBy h 0)
   unfolding nogoodsLong labelLong
@@ -157,11 +158,11 @@ module _ (h : Held) (l : Lists) (re : Reached h l) (v : Verdict) (so : v ≡ fro
   long : (k : ℕ) → length (stageBy h k .labels) ≡ N
   long k = stage-length (h .assumptions) N (saidBy h) k
 
-  pub judge-refused : l .depth < 129 → (n ≡ 0 → ⊥) → r ≡ judgedBy v
-  judge-refused = turn-refused (stageBy h) N (wide h (re .judgeable)) long (l .depth) l (re .is) (re .room) v so r made n number
+  last : (k : ℕ) → most h ≤ k → agree (stageBy h k) (stageBy h (suc k)) ≡ true
+  last k = agree-at-last (h .assumptions) N (saidBy h) k
 
-  pub last-refused : l .depth ≡ 129 → (n ≡ 0 → ⊥) → (x : Judged) → x ≡ refusal Unsettled → x ≡ judgedBy v
-  last-refused = end-refused (stageBy h) N (wide h (re .judgeable)) long (l .depth) l (re .is) (re .room) v so r made n number
+  pub judge-refused : (n ≡ 0 → ⊥) → r ≡ judgedBy v
+  judge-refused = turn-refused (stageBy h) N (wide h (re .judgeable)) long (most h) last (l .depth) l (re .is) (re .room) v so r made n number
 
   module _ (z : n ≡ 0) where
     lists-is : r .lists ≡ listsOf (l .depth + 1) (stageBy h (l .depth + 1))
@@ -171,30 +172,24 @@ module _ (h : Held) (l : Lists) (re : Reached h l) (v : Verdict) (so : v ≡ fro
     unfolding listsOf
     depth-is = ap (λ (x : Lists). x .depth) lists-is
 
-    pub judge-less : l .depth < 129 → 129 - r .lists .depth < 129 - l .depth
-    judge-less low = omega (arith, depth-is)
-
-    pub judge-next : l .depth < 129 → Reached h (r .lists)
-    judge-next low = record {
-      judgeable = re .judgeable;
-      is = lists-is ∙ ap (λ (k : ℕ). listsOf k (stageBy h k)) (sym depth-is);
-      room = subst (λ (k : ℕ). Room (stageBy h k)) (sym depth-is) (step-room (l .depth + 1) (stageBy h (l .depth + 1)) r made n number z);
-      low = omega (arith, depth-is);
-    }
-
     module _ (b : Bool) (same : b ≡ sameLists l (r .lists)) where
       pub judge-settled : b ≡ true → _≡_ {A = Judged} (record { reply = Done; lists = l }) (judgedBy v)
-      judge-settled e = turn-settled (stageBy h) N (wide h (re .judgeable)) long (l .depth) l (re .is) (re .room) v so r made n number z b same (omega (arith, re .low)) e
+      judge-settled = turn-settled (stageBy h) N (wide h (re .judgeable)) long (most h) last (l .depth) l (re .is) (re .room) v so r made n number z b same
 
-      pub judge-on : b ≡ false → v ≡ fromStage h (r .lists .depth)
-      judge-on e = turn-on (stageBy h) N (wide h (re .judgeable)) long (l .depth) l (re .is) (re .room) v so r made n number z b same (omega (arith, re .low)) e ∙ ap (fromStage h) (sym depth-is)
+      module _ (differs : b ≡ false) where
+        low : l .depth < most h
+        low = turn-low (stageBy h) N (wide h (re .judgeable)) long (most h) last (l .depth) l (re .is) (re .room) v so r made n number z b same differs
 
-      pub last-differs : l .depth ≡ 129 → b ≡ false → (x : Judged) → x ≡ refusal Unsettled → x ≡ judgedBy v
-      last-differs q e = end-differs (stageBy h) N (wide h (re .judgeable)) long (l .depth) l (re .is) (re .room) v so r made n number q z b same e
+        pub judge-less : most h - r .lists .depth < most h - l .depth
+        judge-less = omega (arith, depth-is, low)
 
--- the walk ends at stage 129
-pub last-from : (h : Held) (l : Lists) → l .depth ≡ 129 → course limits (stageBy h) 1 129 ≡ fromStage h (l .depth)
-last-from h l e = ap (fromStage h) (sym e)
+        pub judge-next : Reached h (r .lists)
+        judge-next = record {
+          judgeable = re .judgeable;
+          is = lists-is ∙ ap (λ (k : ℕ). listsOf k (stageBy h k)) (sym depth-is);
+          room = subst (λ (k : ℕ). Room (stageBy h k)) (sym depth-is) (step-room (l .depth + 1) (stageBy h (l .depth + 1)) r made n number z);
+          low = omega (arith, depth-is, low, most-few h (re .judgeable));
+        }
 
-pub last-is : (h : Held) (l : Lists) (v : Verdict) → v ≡ fromStage h (l .depth) → l .depth ≡ 129 → (r : Judged) → r ≡ judgedBy (course limits (stageBy h) 1 129) → r ≡ judgedBy v
-last-is h l v so e r is = is ∙ ap judgedBy (last-from h l e ∙ sym so)
+        pub judge-on : v ≡ fromStage h (r .lists .depth)
+        judge-on = turn-on (stageBy h) N (wide h (re .judgeable)) long (most h) last (l .depth) l (re .is) (re .room) v so r made n number z b same differs ∙ ap (fromStage h) (sym depth-is)

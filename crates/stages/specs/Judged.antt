@@ -3,13 +3,13 @@ use mathlib.Core.Bool.{true}
 use mathlib.Core.Path.{_≡_}
 use Prim.Native.Nat.{_+_, _≤_, ℕ}
 use Rattle.replies.specs.declared.Reply.{Reply}
-use Rattle.replies.specs.declared.Reply.the-variants.{Done, Label, Nogoods, Unsettled}
+use Rattle.replies.specs.declared.Reply.the-variants.{Done, Label, Nogoods}
 use Rattle.rules.specs.Held.{heldRight, saidBy}
 use Rattle.rules.specs.declared.Held.{Held}
 use Rattle.stages.specs.Lists.{firstStage, listsOf, noLists}
 use Rattle.stages.specs.declared.Judged.{Judged}
 use Rattle.stages.specs.declared.Lists.{Lists}
-use Rattle.theory.specs.Judge.{Verdict, judge, labelOver, limits, nogoodsOver, settled, unsettled}
+use Rattle.theory.specs.Judge.{Verdict, judge, labelOver, limits, nogoodsOver, settled}
 
 -- a refusal comes with no lists
 abbrev pub refusal : Reply → Judged
@@ -20,7 +20,6 @@ abbrev pub judgedBy : Verdict → Judged
 judgedBy (settled d s) = record { reply = Done; lists = listsOf d s }
 judgedBy nogoodsOver = refusal Nogoods
 judgedBy (labelOver n) = refusal (Label n)
-judgedBy unsettled = refusal Unsettled
 
 -- the right shape, at most 32 assumptions and 96 claims
 pub record Judgeable (h : Held) : Type 0 where

@@ -13,8 +13,8 @@ ghost use Rattle.theory.specs.Lists.{allOf, choose};
 ghost use Rattle.rules.specs.Held.{meaning, saidBy};
 ghost use Rattle.labels.specs.Layout.{Few, Layout, Ranged};
 ghost use Rattle.labels.specs.Promised.{builtOf};
-ghost use Rattle.theory.specs.Judge.{limits, course, sameSets};
-ghost use Rattle.stages.specs.Judged.{Judge, Judgeable, Start, judgedBy, refusal};
+ghost use Rattle.theory.specs.Judge.{sameSets};
+ghost use Rattle.stages.specs.Judged.{Judge, Judgeable, Start, refusal};
 ghost use Rattle.stages.specs.Steps.{Fresh, LabelsLie, Reached, Relabelled, Steady, Told, Untouched, fitted, lists, sameLabel, sameLists, sparedOf, stageBy, tallied};
 
 // The labels and nogoods of a stage: label n at its own twelve places 12 (n - 1) up, its size beside it; unused places zero.
@@ -405,7 +405,7 @@ fn touched<'a>(
     marks
 }
 
-// The stages from 0 upward, to the first that agrees with the next, or the refusal.
+// The stages from 0 upward, to the first that agrees with the next, or the refusal. Stages that differ are fewer than the different consequents, so the walk ends.
 pub fn judge(held: Held) -> Judged
     requires { ⌜ Judgeable held ⌝ }
     ensures { λ r. ⌜ Judge held r ⌝ }
@@ -413,7 +413,7 @@ pub fn judge(held: Held) -> Judged
     let tallies = tally(held);
     let mut lists = start(held.assumptions);
     let mut stale = [1u8; 129];
-    while lists.depth < 129 {
+    loop {
         let step = lists.next(held, tallies, stale);
         let reply = step.reply;
         if replies::number(reply) != 0 {
@@ -435,25 +435,4 @@ pub fn judge(held: Held) -> Judged
         );
         lists = later;
     }
-    last(held, tallies, lists, stale)
-}
-
-// Stage 129 against stage 130.
-fn last(held: Held, tallies: [u16; 129], lists: Lists, stale: [u8; 129]) -> Judged
-    requires { ⌜ Reached held lists × (lists .depth ≡ 129) × (tallies ≡ tallied held) × Fresh held (lists .depth) stale ⌝ }
-    ensures { λ r. ⌜ r ≡ judgedBy (course limits (stageBy held) 1 129) ⌝ }
-{
-    let step = lists.next(held, tallies, stale);
-    let reply = step.reply;
-    if replies::number(reply) != 0 {
-        return refused(Reply::Unsettled);
-    }
-    let later = step.lists;
-    if lists.same(later) {
-        return Judged {
-            reply: Reply::Done,
-            lists,
-        };
-    }
-    refused(Reply::Unsettled)
 }

@@ -9,7 +9,7 @@ use lib.ListN.{length}
 use borrow.Author.Tests.{eq-eqb, le-leb, le-ltb, lt-leb, lt-ltb, ne-eqb}
 use Rattle.replies.specs.Replies.{numberOf}
 use Rattle.replies.specs.declared.Reply.{Reply}
-use Rattle.replies.specs.declared.Reply.the-variants.{After, Already, Counts, Done, Ends, Falsity, Form, Full, Label, Long, Nogoods, Number, Place, Shape, Short, Supports, Unheld, Unsettled}
+use Rattle.replies.specs.declared.Reply.the-variants.{Already, Counts, Done, Full, Shape, Unheld}
 use Rattle.rules.proofs.Dropping.{dropped-few, dropped-from}
 use Rattle.rules.proofs.Entries.{said-many}
 use Rattle.rules.proofs.Laws.{dropped-right, fitting-ranged, held-said, put-right, right-held, right-range}
@@ -29,7 +29,7 @@ use Rattle.store.specs.Calls.{addOf, answer, checkedOf, joinedBy, judged
 use Rattle.store.specs.Shape.{heldFits, rightShape, top}
 use Rattle.store.specs.declared.Outcome.{Outcome}
 use Rattle.store.specs.declared.Store.{Store}
-use Rattle.theory.specs.Judge.{Verdict, judge, labelOver, limits, nogoodsOver, settled, unsettled}
+use Rattle.theory.specs.Judge.{Verdict, judge, labelOver, limits, nogoodsOver, settled}
 use Rattle.theory.specs.Lists.{someOf}
 use Rattle.theory.specs.Stages.{Justification}
 
@@ -61,13 +61,11 @@ module _ (h : Held) where
     refused-by (settled d s) f = absurd (f refl)
     refused-by nogoodsOver f = refl
     refused-by (labelOver n) f = refl
-    refused-by unsettled f = refl
 
     done-by : (v : Verdict) → numberOf (judgedBy v .reply) ≡ 0 → answer (judgedBy v .reply) (record { held = h; lists = judgedBy v .lists }) ≡ ofVerdict noStore h v
     done-by (settled d s) e = refl
     done-by nogoodsOver e = absurd (omega arith)
     done-by (labelOver n) e = absurd (omega arith)
-    done-by unsettled e = absurd (omega arith)
 
     pub judged-refused : (told : Judged) → told ≡ judgedBy stages-say → (numberOf (told .reply) ≡ 0 → ⊥) → answer (told .reply) noStore ≡ judgedOf h
     judged-refused told e f =
@@ -136,27 +134,6 @@ module _ (s : Store) (c : ℕ) (l : List ℕ) where
   unfolding withdrawOf
   withdraw-item = checked-item (partedFrom s)
 
--- a reply of number 0 is done
-pub is-done : (r : Reply) → numberOf r ≡ 0 → r ≡ Done
-is-done Done e = refl
-is-done Already e = absurd (omega arith)
-is-done Shape e = absurd (omega arith)
-is-done Counts e = absurd (omega arith)
-is-done Number e = absurd (omega arith)
-is-done Falsity e = absurd (omega arith)
-is-done Supports e = absurd (omega arith)
-is-done Full e = absurd (omega arith)
-is-done (Label n) e = absurd (omega arith)
-is-done Nogoods e = absurd (omega arith)
-is-done Unsettled e = absurd (omega arith)
-is-done Ends e = absurd (omega arith)
-is-done Form e = absurd (omega arith)
-is-done After e = absurd (omega arith)
-is-done Long e = absurd (omega arith)
-is-done Short e = absurd (omega arith)
-is-done Place e = absurd (omega arith)
-is-done Unheld e = absurd (omega arith)
-
 -- ---- another set K of justifications, judged anew for the store s
 
 module _ (s : Store) (K : List Justification) (fit : Fitting (s .held)) (right : heldRight (heldOf (s .held .assumptions) (s .held .claims) K) ≡ true)
@@ -179,13 +156,11 @@ module _ (s : Store) (K : List Justification) (fit : Fitting (s .held)) (right :
   other h (settled d g) q = absurd (q refl)
   other h nogoodsOver q = refl
   other h (labelOver m) q = refl
-  other h unsettled q = refl
 
   same : (h : Held) (v : Verdict) → numberOf (ofVerdict noStore h v .reply) ≡ 0 → ofVerdict noStore h v ≡ ofVerdict s h v
   same h (settled d g) q = refl
   same h nogoodsOver q = absurd (omega arith)
   same h (labelOver m) q = absurd (omega arith)
-  same h unsettled q = absurd (omega arith)
 
   next-refused : (out : Outcome) → out ≡ judgedOf (heldOf A M K) → (numberOf (out .reply) ≡ 0 → ⊥) → answer (out .reply) s ≡ storeOf s A M K
   unfolding storeOf

@@ -6,7 +6,7 @@ use Prim.Native.Nat.{_+_, ℕ}
 use lib.Dec.{eqb, leb, ltb}
 use Rattle.replies.specs.Replies.{numberOf}
 use Rattle.replies.specs.declared.Reply.{Reply}
-use Rattle.replies.specs.declared.Reply.the-variants.{Already, Counts, Done, Full, Label, Nogoods, Shape, Unheld, Unsettled}
+use Rattle.replies.specs.declared.Reply.the-variants.{Already, Counts, Done, Full, Label, Nogoods, Shape, Unheld}
 use Rattle.rules.specs.Held.{dropped, heldOf, put, saidBy}
 use Rattle.rules.specs.Items.{faultOf, justificationOf, sameJustification}
 use Rattle.rules.specs.declared.Held.{Held}
@@ -14,7 +14,7 @@ use Rattle.stages.specs.Lists.{listsOf}
 use Rattle.store.specs.Shape.{heldFits, rightShape, top}
 use Rattle.store.specs.declared.Outcome.{Outcome}
 use Rattle.store.specs.declared.Store.{Store}
-use Rattle.theory.specs.Judge.{Verdict, judge, labelOver, limits, nogoodsOver, settled, stageAt, unsettled}
+use Rattle.theory.specs.Judge.{Verdict, judge, labelOver, limits, nogoodsOver, settled, stageAt}
 use Rattle.theory.specs.Lists.{choose, someOf}
 use Rattle.theory.specs.Stages.{Justification}
 
@@ -46,7 +46,6 @@ abbrev pub ofVerdict : Store → Held → Verdict → Outcome
 ofVerdict s h (settled d stage) = answer Done (record { held = h; lists = listsOf d stage })
 ofVerdict s h nogoodsOver = answer Nogoods s
 ofVerdict s h (labelOver n) = answer (Label n) s
-ofVerdict s h unsettled = answer Unsettled s
 
 -- the stages of J, with A assumptions and M claims, from 0 upward
 unfoldable pub storeOf : Store → ℕ → ℕ → List Justification → Outcome

@@ -18,5 +18,5 @@ cases = record {
   one-struck = refl;
   both-over = refl;
   label-earlier = refl;
-  not-settled = refl;
+  deepest = refl;
 }

@@ -1,78 +1,30 @@
 -- The words of the demands: what `contradicts` and `carries` mean over all stages, and what the lists at the depth say of them. Assumes nothing.
-use mathlib.Core.Bool.{Bool, _||_, false, not, true}
-use mathlib.Core.List.{List, List·Memᴰ·cases-cons, List·Memᴰ as Mem, [], _++_, _∷_, List·Memᴰ·head as here, List·Memᴰ·tail as there}
-use mathlib.Core.Logic.{_↔_, ⊎-elim}
+use mathlib.Core.Bool.{Bool, false, not, true}
+use mathlib.Core.List.{List}
+use mathlib.Core.Logic.{_↔_}
 use mathlib.Core.Option.{none}
-use mathlib.Core.Path.{_∙_, _≡_, ap, refl, sym}
-use Prim.Native.Nat.{_+_, _<_, _^_, _≤_, suc, zero, zero-le, ℕ}
+use mathlib.Core.Path.{_∙_, _≡_, ap, sym}
+use Prim.Native.Nat.{_+_, _<_, _^_, _≤_, zero, ℕ}
 use native.Mathlib.Omega.{arith}
-use lib.Dec.{eqb}
 use lib.ListN.{length}
-use borrow.Author.Tests.{eqb-true, ne-eqb, not-true}
+use borrow.Author.Tests.{not-true}
 use Rattle.theory.proofs.Lasting.{Upto}
-use Rattle.theory.proofs.Depth.{Within, kept-length, one, settles}
+use Rattle.theory.proofs.Depth.{consequents-length, settles}
 use Rattle.theory.proofs.Following.{follows-later}
 use Rattle.theory.proofs.Judgement.{labels-mean, nogoods-mean, settled-stage, stage-labelIn, stage-nogoods}
 use Rattle.theory.proofs.Label.{inconsistent, supported}
-use Rattle.theory.proofs.Listing.{below-elim}
-use Rattle.theory.proofs.Lists.{and-intro, and-left, and-right, either, same-test}
+use Rattle.theory.proofs.Lists.{and-intro, and-left, and-right, same-test}
 use Rattle.theory.specs.Demands.{carries, contradicts}
-use Rattle.theory.specs.Judge.{Limits, Stage, heads, judge, settled}
-use Rattle.theory.specs.Lists.{numbersBelow, someOf, those}
+use Rattle.theory.specs.Judge.{Limits, Stage, judge, settled}
 use Rattle.theory.specs.Sets.{contains}
 use Rattle.theory.specs.Stages.{Justification, follows, labelAt, nogoodsAt}
 use Rattle.theory.specs.Step.{labelIn}
 
 -- ---- as many stages as justifications are enough
 
-some-bound : (J : List Justification) → (N : ℕ) × Within N J
-some-bound [] = (0, λ j m. elim m [ ])
-some-bound (i ∷ J) =
-    let r = some-bound J in
-    (i .consequent + r .0, λ j m. ⊎-elim (λ (e : j ≡ i). omega (arith, ap (λ (x : Justification). x .consequent) e)) (λ n. omega (arith, r .1 j n)) (List·Memᴰ·cases-cons m))
-
-one-less : (a b : Bool) → one (a || b) ≤ one a + one b
-one-less true b = omega arith
-one-less false b = omega arith
-
-count-either : (p q : ℕ → Bool) (l : List ℕ) → length (those (λ n. p n || q n) l) ≤ length (those p l) + length (those q l)
-unfolding those
-count-either p q [] = zero-le
-count-either p q (x ∷ l) =
-    omega (arith, kept-length (p x || q x) x (those (λ n. p n || q n) l), kept-length (p x) x (those p l), kept-length (q x) x (those q l), one-less (p x) (q x), count-either p q l)
-
-count-none : (p : ℕ → Bool) (l : List ℕ) → ((n : ℕ) → Mem n l → p n ≡ false) → length (those p l) ≡ 0
-unfolding those
-count-none p [] f = refl
-count-none p (x ∷ l) f = omega (arith, kept-length (p x) x (those p l), ap one (f x (here refl)), count-none p l (λ n m. f n (there m)))
-
-those-append : (p : ℕ → Bool) (l m : List ℕ) → length (those p (l ++ m)) ≡ length (those p l) + length (those p m)
-unfolding those
-those-append p [] m = omega arith
-those-append p (x ∷ l) m = omega (arith, kept-length (p x) x (those p (l ++ m)), kept-length (p x) x (those p l), those-append p l m)
-
-count-one : (c N : ℕ) → length (those (eqb c) (numbersBelow N)) ≤ 1
-unfolding numbersBelow those
-count-one c zero = zero-le
-count-one c (suc N) =
-    ⊎-elim (λ (h : eqb c N ≡ true).
-    let none : length (those (eqb c) (numbersBelow N)) ≡ 0 = count-none (eqb c) (numbersBelow N) (λ n m. ne-eqb c n (λ (e : c ≡ n). absurd (omega (arith, eqb-true c N h, below-elim N m)))) in
-    omega (arith, those-append (eqb c) (numbersBelow N) (N ∷ []), kept-length (eqb c N) N [], ap one h))
-    (λ h. omega (arith, those-append (eqb c) (numbersBelow N) (N ∷ []), kept-length (eqb c N) N [], ap one h, count-one c N))
-    (either (eqb c N))
-
--- the different consequents are at most as many as the justifications
-pub heads-length : (N : ℕ) (J : List Justification) → length (heads N J) ≤ length J
-unfolding heads someOf
-heads-length N [] = omega (arith, count-none (λ n. false) (numbersBelow (suc N)) (λ n m. refl))
-heads-length N (i ∷ J) =
-    omega (arith, count-either (eqb (i .consequent)) (λ n. someOf (λ (j : Justification). eqb (j .consequent) n) J) (numbersBelow (suc N)), count-one (i .consequent) (suc N), heads-length N J)
-
 -- nothing new follows from any set after as many stages as there are justifications
 pub follows-end : (J : List Justification) (m : ℕ) → length J ≤ m → follows J (length J) ≡ follows J m
-follows-end J m h =
-    let b = some-bound J in
-    sym (settles (b .0) J (b .1) (length J) (heads-length (b .0) J)) ∙ settles (b .0) J (b .1) m (omega (arith, heads-length (b .0) J))
+follows-end J m h = sym (settles J (length J) (consequents-length J)) ∙ settles J m (omega (arith, consequents-length J))
 
 pub ends : (J : List Justification) (k E n : ℕ) → follows J k E n ≡ true → follows J (length J) E n ≡ true
 ends J k E n f =

@@ -2,23 +2,25 @@
 use mathlib.Core.Bool.{Bool, false, true}
 use mathlib.Core.List.{List, List·Memᴰ as Mem, [], _++_, _∷_, List·Memᴰ·head as here, map, List·Memᴰ·tail as there}
 use mathlib.Core.Logic.{_↔_, ⊎-elim}
-use mathlib.Core.Path.{_∙_, _≡_, ap, ap₂, refl, subst, sym}
-use Prim.Native.Nat.{_+_, _-_, _<_, _^_, _≤_, suc, zero, zero-le, ℕ}
-use native.Mathlib.Nat.{eq-or-lt-of-le, le-of-suc-le-suc, le-refl, not-suc-le-zero, zero-add}
+use mathlib.Core.Path.{_∙_, _≡_, ap, ap₂, fun-ext, refl, subst, sym}
+use Prim.Native.Nat.{_+_, _<_, _^_, _≤_, suc, zero, zero-le, ℕ}
+use native.Mathlib.Nat.{add-zero, eq-or-lt-of-le, le-of-suc-le-suc, not-suc-le-zero, zero-add}
 use native.Mathlib.Numerals.{add-one}
+use native.Mathlib.Decide.{le-ind}
 use native.Mathlib.Omega.{arith}
 use lib.Dec.{eqb, ltb}
 use lib.ListN.{List·getD-append, List·getD-eq-default, getD, length, length-map}
 use lib.Seq.{ext-getD, getD-append-seam}
 use borrow.Author.Tests.{eq-eqb, eqb-true, ltb-false, ltb-true}
 use Rattle.theory.proofs.Lasting.{Agree, Upto, agree-later}
-use Rattle.theory.proofs.Depth.{Within, heads-few, length-below, settles}
+use Rattle.theory.proofs.Depth.{length-below, settles}
 use Rattle.theory.proofs.Following.{follows-later}
 use Rattle.theory.proofs.Label.{inconsistent, label-elim, supported}
 use Rattle.theory.proofs.Listing.{below-intro}
-use Rattle.theory.proofs.Lists.{and-intro, and-left, and-right, clash, either}
+use Rattle.theory.proofs.Sameness.{Covered, same-stage}
+use Rattle.theory.proofs.Lists.{and-intro, and-left, and-right, clash}
 use Rattle.theory.specs.Cases.{at}
-use Rattle.theory.specs.Judge.{Limits, Stage, Verdict, agree, course, heads, judge, labelLong, labelOver, limits, lowestLong, nogoodsLong, nogoodsOver, ruling, sameSets, settled, stageAt, stageOf, unsettled}
+use Rattle.theory.specs.Judge.{Limits, Stage, Verdict, agree, consequents, course, judge, labelLong, labelOver, lowestLong, nogoodsLong, nogoodsOver, ruling, sameSets, settled, stageAt, stageOf}
 use Rattle.theory.specs.Lists.{alike, choose, numbersBelow, numbersTo}
 use Rattle.theory.specs.Sets.{contains}
 use Rattle.theory.specs.Stages.{Justification, follows, labelAt, labelOf, nogoodsAt}
@@ -193,7 +195,6 @@ abbrev pub Told : Limits → (ℕ → Stage) → ℕ → ℕ → Verdict → Typ
 Told L T k e (settled j s) = (k ≤ j) × (j < e) × AllPassed L T k j × (s ≡ T j) × (nogoodsLong L (T j) ≡ false) × (labelLong L (T j) ≡ zero) × (agree (T j) (T (suc j)) ≡ true)
 Told L T k e nogoodsOver = (j : ℕ) × (k ≤ j) × (j < e) × AllPassed L T k j × (nogoodsLong L (T j) ≡ true)
 Told L T k e (labelOver n) = (j : ℕ) × (k ≤ j) × (j < e) × AllPassed L T k j × (nogoodsLong L (T j) ≡ false) × (labelLong L (T j) ≡ n) × (0 < n)
-Told L T k e unsettled = AllPassed L T k e
 
 module _ (L : Limits) (T : ℕ → Stage) where
   passed-more : (k j : ℕ) → Passed L T k → AllPassed L T (suc k) j → AllPassed L T k j
@@ -203,73 +204,92 @@ module _ (L : Limits) (T : ℕ → Stage) where
   told-more k e (settled j s) p t = (omega (arith, t .0), t .1, passed-more k j p (t .2), t .3, t .4, t .5, t .6)
   told-more k e nogoodsOver p t = (t .0, omega (arith, t .1), t .2, passed-more k (t .0) p (t .3), t .4)
   told-more k e (labelOver n) p t = (t .0, omega (arith, t .1), t .2, passed-more k (t .0) p (t .3), t .4, t .5, t .6)
-  told-more k e unsettled p t = passed-more k e p t
+
+  -- one ruling: stage k decides, or what later stages tell
+  rule : (k e : ℕ) (b : Bool) (n : ℕ) (c : Bool) → nogoodsLong L (T k) ≡ b → labelLong L (T k) ≡ n → agree (T k) (T (suc k)) ≡ c → k ≤ e
+      → (later : Verdict) → (c ≡ false → Told L T (suc k) (suc e) later) → Told L T k (suc e) (ruling k (T k) b n c later)
+  rule k e true n c hp hq ha low later f = (k, omega arith, omega arith, (λ i l m. absurd (omega arith)), hp)
+  rule k e false (suc n) c hp hq ha low later f = (k, omega arith, omega arith, (λ i l m. absurd (omega arith)), hp, hq, omega arith)
+  rule k e false zero true hp hq ha low later f = (omega arith, omega arith, (λ i l m. absurd (omega arith)), refl, hp, hq, ha)
+  rule k e false zero false hp hq ha low later f = told-more k (suc e) later (record { few = hp; short = hq; differs = ha }) (f refl)
 
   -- the verdict tells the first stage that decides, and how
-  pub course-told : (d k : ℕ) → Told L T k (k + d) (course L T d k)
+  pub course-told : (d k : ℕ) → agree (T (k + d)) (T (suc (k + d))) ≡ true → Told L T k (suc (k + d)) (course L T d k)
   unfolding course
-  course-told zero k = λ i l m. absurd (omega arith)
-  course-told (suc d) k = go (nogoodsLong L (T k)) (labelLong L (T k)) (agree (T k) (T (suc k))) refl refl refl (course-told d (suc k))
+  course-told zero k last = rule k (k + 0) (nogoodsLong L (T k)) (labelLong L (T k)) true refl refl (subst (λ (m : ℕ). agree (T m) (T (suc m)) ≡ true) (add-zero k) last) (omega arith) (settled k (T k)) (λ c. clash refl c)
+  course-told (suc d) k last =
+      let e : suc k + d ≡ k + suc d = omega arith in
+      rule k (k + suc d) (nogoodsLong L (T k)) (labelLong L (T k)) (agree (T k) (T (suc k))) refl refl refl (omega arith) (course L T d (suc k))
+      (λ c. subst (λ (m : ℕ). Told L T (suc k) (suc m) (course L T d (suc k))) e (course-told d (suc k) (subst (λ (m : ℕ). agree (T m) (T (suc m)) ≡ true) (sym e) last)))
+
+  -- a stage more to look at changes nothing
+  course-more : (d k : ℕ) → agree (T (k + d)) (T (suc (k + d))) ≡ true → course L T d k ≡ course L T (suc d) k
+  unfolding course
+  course-more zero k last =
+      let h : agree (T k) (T (suc k)) ≡ true = subst (λ (m : ℕ). agree (T m) (T (suc m)) ≡ true) (add-zero k) last in
+      let later : Verdict = course L T zero (suc k) in
+      step (nogoodsLong L (T k)) (labelLong L (T k)) (agree (T k) (T (suc k))) h (settled k (T k)) later
     where
-      none : AllPassed L T k k
-      none i l m = absurd (omega arith)
+      step : (b : Bool) (n : ℕ) (c : Bool) → c ≡ true → (v w : Verdict) → ruling k (T k) b n true v ≡ ruling k (T k) b n c w
+      step true n c h v w = refl
+      step false (suc n) c h v w = refl
+      step false zero true h v w = refl
+      step false zero false h v w = clash h refl
+  course-more (suc d) k last =
+      ap (λ (v : Verdict). ruling k (T k) (nogoodsLong L (T k)) (labelLong L (T k)) (agree (T k) (T (suc k))) v)
+      (course-more d (suc k) (subst (λ (m : ℕ). agree (T m) (T (suc m)) ≡ true) (omega arith) last))
 
-      e : suc k + d ≡ k + suc d
-      e = omega arith
+  pub course-longer : (d : ℕ) → ((k : ℕ) → d ≤ k → agree (T k) (T (suc k)) ≡ true) → (e : ℕ) → d ≤ e → course L T d 0 ≡ course L T e 0
+  course-longer d last e h =
+      le-ind (λ (m : ℕ). course L T d 0 ≡ course L T m 0) refl (λ m l ih. ih ∙ course-more m 0 (subst (λ (x : ℕ). agree (T x) (T (suc x)) ≡ true) (sym (zero-add m)) (last m l))) e h
 
-      go : (b : Bool) (n : ℕ) (c : Bool) → nogoodsLong L (T k) ≡ b → labelLong L (T k) ≡ n → agree (T k) (T (suc k)) ≡ c
-          → Told L T (suc k) (suc k + d) (course L T d (suc k)) → Told L T k (k + suc d) (ruling k (T k) b n c (course L T d (suc k)))
-      go true n c hp hq ha ih = (k, omega arith, omega arith, none, hp)
-      go false (suc n) c hp hq ha ih = (k, omega arith, omega arith, none, hp, hq, omega arith)
-      go false zero true hp hq ha ih = (omega arith, omega arith, none, refl, hp, hq, ha)
-      go false zero false hp hq ha ih =
-          told-more k (k + suc d) (course L T d (suc k)) (record { few = hp; short = hq; differs = ha })
-          (subst (λ (m : ℕ). Told L T (suc k) m (course L T d (suc k))) e ih)
-
-  -- one turn of a loop over the stages below n, with the code's numbers
-  pub course-turn : (n k : ℕ) → k < n → course L T (n - k) k ≡ ruling k (T k) (nogoodsLong L (T k)) (labelLong L (T k)) (agree (T k) (T (k + 1))) (course L T (n - (k + 1)) (k + 1))
+  -- one stage more, with the code's numbers
+  pub course-turn : (d : ℕ) → ((k : ℕ) → d ≤ k → agree (T k) (T (suc k)) ≡ true) → (k : ℕ)
+      → course L T d k ≡ ruling k (T k) (nogoodsLong L (T k)) (labelLong L (T k)) (agree (T k) (T (k + 1))) (course L T d (k + 1))
   unfolding course
-  course-turn n k h =
-      let e : n - k ≡ suc (n - (k + 1)) = omega arith in
-      ap (λ (d : ℕ). course L T d k) e
-      ∙ ap (λ (j : ℕ). ruling k (T k) (nogoodsLong L (T k)) (labelLong L (T k)) (agree (T k) (T j)) (course L T (n - (k + 1)) j)) (sym (add-one k))
+  course-turn d last k =
+      course-more d k (last (k + d) (omega arith))
+      ∙ ap (λ (j : ℕ). ruling k (T k) (nogoodsLong L (T k)) (labelLong L (T k)) (agree (T k) (T j)) (course L T d j)) (sym (add-one k))
 
-pub judge-told : (L : Limits) (A N : ℕ) (J : List Justification) → Told L (stageAt A N J) 0 (suc (L .stages)) (judge L A N J)
-unfolding judge
-judge-told L A N J =
-    subst (λ (m : ℕ). Told L (stageAt A N J) 0 m (course L (stageAt A N J) (suc (L .stages)) 0)) (zero-add (suc (L .stages))) (course-told L (stageAt A N J) (suc (L .stages)) 0)
+-- ---- the last stage
 
--- ---- the stage limit is never met
-
-module _ (A N : ℕ) (J : List Justification) (w : Within N J) where
-  pub agree-at-last : (k : ℕ) → length (heads N J) ≤ k → agree (stageAt A N J k) (stageAt A N J (suc k)) ≡ true
+module _ (A N : ℕ) (J : List Justification) where
+  pub agree-at-last : (k : ℕ) → length (consequents J) ≤ k → agree (stageAt A N J k) (stageAt A N J (suc k)) ≡ true
   unfolding stageAt
   agree-at-last k l =
-      let l′ : length (heads N J) ≤ suc k = omega arith in
-      agree-intro (stageAt A N J k) (stageAt A N J (suc k)) (ap (stageOf A N) (sym (settles N J w k l) ∙ settles N J w (suc k) l′))
+      let l′ : length (consequents J) ≤ suc k = omega arith in
+      agree-intro (stageAt A N J k) (stageAt A N J (suc k)) (ap (stageOf A N) (sym (settles J k l) ∙ settles J (suc k) l′))
 
-  -- with as many stages as numbers no judgement is unsettled
-  pub never-unsettled : (L : Limits) → suc N ≤ L .stages → judge L A N J ≡ unsettled → ⊥
-  never-unsettled L h e =
-      let t : Told L (stageAt A N J) 0 (suc (L .stages)) unsettled = rw e at (judge-told L A N J) in
-      clash (agree-at-last (L .stages) (omega (arith, heads-few N J))) (t (L .stages) zero-le (omega arith) .differs)
-
-  -- so none is at the product's limits
-  pub never-ten : N ≤ 128 → judge limits A N J ≡ unsettled → ⊥
-  never-ten h e = never-unsettled limits (omega arith) e
+  pub judge-told : (L : Limits) → Told L (stageAt A N J) 0 (suc (length (consequents J))) (judge L A N J)
+  unfolding judge
+  judge-told L =
+      let d : ℕ = length (consequents J) in
+      subst (λ (m : ℕ). Told L (stageAt A N J) 0 (suc m) (course L (stageAt A N J) d 0)) (zero-add d)
+      (course-told L (stageAt A N J) d 0 (agree-at-last (0 + d) (omega arith)))
 
   -- the depth never exceeds the number of different consequents
-  pub depth-few : (L : Limits) (d : ℕ) (s : Stage) → judge L A N J ≡ settled d s → d ≤ length (heads N J)
-  depth-few L d s e =
-      let t : Told L (stageAt A N J) 0 (suc (L .stages)) (settled d s) = rw e at (judge-told L A N J) in
-      ⊎-elim (λ (h : ltb (length (heads N J)) d ≡ true). clash (agree-at-last (length (heads N J)) (le-refl (length (heads N J)))) (t .2 (length (heads N J)) zero-le (ltb-true (length (heads N J)) d h) .differs))
-      (λ h. omega (arith, ltb-false (length (heads N J)) d h)) (either (ltb (length (heads N J)) d))
+  pub depth-few : (L : Limits) (d : ℕ) (s : Stage) → judge L A N J ≡ settled d s → d ≤ length (consequents J)
+  depth-few L d s e = let t : Told L (stageAt A N J) 0 (suc (length (consequents J))) (settled d s) = rw e at (judge-told L) in omega (arith, t .1)
+
+-- where all stages are the same, so is the judgement
+pub judge-same : (L : Limits) (A N : ℕ) (J J′ : List Justification) → ((k : ℕ) → stageAt A N J k ≡ stageAt A N J′ k) → judge L A N J ≡ judge L A N J′
+unfolding judge
+judge-same L A N J J′ f =
+    let d : ℕ = length (consequents J) in
+    let e : ℕ = length (consequents J′) in
+    course-longer L (stageAt A N J) d (agree-at-last A N J) (d + e) (omega arith)
+    ∙ ap (λ (T : ℕ → Stage). course L T (d + e) 0) (fun-ext f)
+    ∙ sym (course-longer L (stageAt A N J′) e (agree-at-last A N J′) (d + e) (omega arith))
+
+-- it depends only on the set of justifications
+pub same-judge : (J J′ : List Justification) → Covered J J′ → Covered J′ J → (L : Limits) (A N : ℕ) → judge L A N J ≡ judge L A N J′
+same-judge J J′ c c′ L A N = judge-same L A N J J′ (same-stage J J′ c c′ A N)
 
 -- ---- settled at d: the lists of every stage from d on are those of d, and d is the least stage that agrees with the next
 
 module _ (L : Limits) (A N : ℕ) (J : List Justification) (d : ℕ) (s : Stage) (e : judge L A N J ≡ settled d s) where
-  pub settled-told : Told L (stageAt A N J) 0 (suc (L .stages)) (settled d s)
-  settled-told = rw e at (judge-told L A N J)
+  pub settled-told : Told L (stageAt A N J) 0 (suc (length (consequents J))) (settled d s)
+  settled-told = rw e at (judge-told A N J L)
 
   pub settled-stage : s ≡ stageAt A N J d
   settled-stage = settled-told .3

@@ -1,4 +1,4 @@
--- Stages, labels and the judgement depend on the set of the justifications alone. Assumes nothing.
+-- Stages, labels and nogoods depend on the set of the justifications alone. Assumes nothing.
 use mathlib.Core.Bool.{true}
 use mathlib.Core.List.{List, List·Memᴰ as Mem}
 use mathlib.Core.Logic.{⊎-elim}
@@ -6,7 +6,7 @@ use mathlib.Core.Path.{_∙_, _≡_, ap, fun-ext}
 use Prim.Native.Nat.{suc, zero, ℕ}
 use Rattle.theory.proofs.Following.{follows-by, follows-cases, follows-keep}
 use Rattle.theory.proofs.Lists.{same-test}
-use Rattle.theory.specs.Judge.{Limits, course, judge, stageAt, stageOf}
+use Rattle.theory.specs.Judge.{stageAt, stageOf}
 use Rattle.theory.specs.Stages.{Justification, follows, labelAt, labelOf, nogoodsAt, nogoodsOf}
 
 -- each justification of J is in J′, perhaps with fewer supports, in any order, repeated or not
@@ -37,7 +37,3 @@ module _ (J J′ : List Justification) (c : Covered J J′) (c′ : Covered J′
   pub same-stage : (A N k : ℕ) → stageAt A N J k ≡ stageAt A N J′ k
   unfolding stageAt
   same-stage A N k = ap (λ S. stageOf A N (S k)) same-follows
-
-  pub same-judge : (L : Limits) (A N : ℕ) → judge L A N J ≡ judge L A N J′
-  unfolding judge stageAt
-  same-judge L A N = ap (λ S. course L (λ k. stageOf A N (S k)) (suc (L .stages)) 0) same-follows

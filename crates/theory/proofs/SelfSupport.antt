@@ -5,9 +5,10 @@ use mathlib.Core.Logic.{⊎-elim}
 use mathlib.Core.Path.{_∙_, _≡_, ap, fun-ext, refl, subst, sym}
 use Prim.Native.Nat.{suc, zero, ℕ}
 use Rattle.theory.proofs.Following.{follows-by, follows-cases, follows-keep}
+use Rattle.theory.proofs.Judgement.{judge-same}
 use Rattle.theory.proofs.Lists.{same-test}
 use Rattle.theory.proofs.Sameness.{Covered, covered-follows}
-use Rattle.theory.specs.Judge.{Limits, course, judge, stageAt, stageOf}
+use Rattle.theory.specs.Judge.{Limits, judge, stageAt, stageOf}
 use Rattle.theory.specs.Stages.{Justification, follows}
 
 module _ (j : Justification) (J : List Justification) (self : Mem (j .consequent) (j .supports)) where
@@ -38,5 +39,4 @@ module _ (j : Justification) (J : List Justification) (self : Mem (j .consequent
 
   -- .. so neither the depth nor any other verdict
   pub self-judge : (L : Limits) (A N : ℕ) → judge L A N (j ∷ J) ≡ judge L A N J
-  unfolding judge stageAt
-  self-judge L A N = ap (λ S. course L (λ k. stageOf A N (S k)) (suc (L .stages)) 0) self-follows
+  self-judge L A N = judge-same L A N (j ∷ J) J (self-stage A N)

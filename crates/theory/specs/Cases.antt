@@ -3,7 +3,7 @@ use mathlib.Core.List.{List, [], _∷_}
 use mathlib.Core.Path.{_≡_}
 use Prim.Native.Nat.{ℕ}
 use lib.Count.{ones}
-use Rattle.theory.specs.Judge.{Limits, Verdict, agree, course, judge, labelLong, labelOver, limits, lowestLong, nogoodsLong, nogoodsOver, sameSets, settled, stageAt, stageOf, unsettled}
+use Rattle.theory.specs.Judge.{Limits, Verdict, agree, consequents, course, judge, labelLong, labelOver, limits, lowestLong, nogoodsLong, nogoodsOver, sameSets, settled, stageAt, stageOf}
 use Rattle.theory.specs.Lists.{alike, allOf, numbersBelow, numbersTo, someOf, those}
 use Rattle.theory.specs.Sets.{among, bySize, digit, listing, within}
 use Rattle.theory.specs.Stages.{Justification, follows, gives, labelOf, minimal, nogoodsOf}
@@ -17,12 +17,12 @@ at d nogoods labels = settled d (record { nogoods = nogoods; labels = labels })
 
 -- the judgement under a name that opens all its definitions
 unfoldable pub verdict : Limits → ℕ → ℕ → List Justification → Verdict
-unfolding listing bySize numbersBelow numbersTo those ones labelOf nogoodsOf minimal follows among digit within gives someOf allOf alike sameSets agree stageOf stageAt nogoodsLong lowestLong labelLong course judge
+unfolding listing bySize numbersBelow numbersTo those ones labelOf nogoodsOf minimal follows among digit within gives someOf allOf alike sameSets agree stageOf stageAt nogoodsLong lowestLong labelLong consequents course judge
 verdict L A N J = judge L A N J
 
 -- room for n members of a label and m nogoods
 abbrev pub room : ℕ → ℕ → Limits
-room n m = record { label = n; nogoods = m; stages = 129 }
+room n m = record { label = n; nogoods = m }
 
 -- document 01's listed case
 abbrev pub worked : List Justification
@@ -52,5 +52,5 @@ pub record Cases : Type 0 where
   -- at one stage the nogoods come before the labels; at an earlier stage a label comes before them
   pub both-over : verdict (room 1 0) 3 4 (from 4 (1 ∷ []) ∷ from 4 (2 ∷ []) ∷ from 0 (3 ∷ []) ∷ []) ≡ nogoodsOver
   pub label-earlier : verdict (room 1 0) 3 5 (from 4 (1 ∷ []) ∷ from 4 (2 ∷ []) ∷ from 5 (3 ∷ []) ∷ from 0 (5 ∷ []) ∷ []) ≡ labelOver 4
-  -- the stage limit: stage 2 still differs from stage 1
-  pub not-settled : verdict (record { label = 9; nogoods = 9; stages = 1 }) 1 3 (from 2 (1 ∷ []) ∷ from 3 (2 ∷ []) ∷ []) ≡ unsettled
+  -- as deep as there are different consequents
+  pub deepest : verdict limits 1 3 (from 2 (1 ∷ []) ∷ from 3 (2 ∷ []) ∷ []) ≡ at 2 [] ((1 ∷ []) ∷ (1 ∷ []) ∷ (1 ∷ []) ∷ [])

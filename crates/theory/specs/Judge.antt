@@ -4,7 +4,7 @@ use mathlib.Core.List.{List, [], _∷_, map}
 use Prim.Native.Nat.{suc, zero, ℕ}
 use lib.Dec.{eqb, ltb}
 use lib.ListN.{length}
-use Rattle.theory.specs.Lists.{alike, choose, numbersBelow, numbersTo, someOf, those}
+use Rattle.theory.specs.Lists.{alike, choose, numbersTo, someOf}
 use Rattle.theory.specs.Stages.{Justification, follows, labelOf, nogoodsOf}
 
 -- the lists of a stage: the nogoods, and the labels of 1 to N in that order
@@ -29,11 +29,10 @@ agree s t = sameSets (s .nogoods) (t .nogoods) && alike sameSets (s .labels) (t 
 pub record Limits : Type 0 where
   pub label : ℕ
   pub nogoods : ℕ
-  pub stages : ℕ
 
 -- the product's
 abbrev pub limits : Limits
-limits = record { label = 12; nogoods = 32; stages = 129 }
+limits = record { label = 12; nogoods = 32 }
 
 unfoldable pub nogoodsLong : Limits → Stage → Bool
 nogoodsLong L s = ltb (L .nogoods) (length (s .nogoods))
@@ -50,7 +49,6 @@ pub data Verdict : Type 0 where
   settled : ℕ → Stage → Verdict
   nogoodsOver : Verdict
   labelOver : ℕ → Verdict
-  unsettled : Verdict
 
 -- stage k with its lists s: are its nogoods over, which label is over, does the next stage agree; else what later stages say
 abbrev pub ruling : ℕ → Stage → Bool → ℕ → Bool → Verdict → Verdict
@@ -59,16 +57,18 @@ ruling k s false (suc n) b later = labelOver (suc n)
 ruling k s false zero true later = settled k s
 ruling k s false zero false later = later
 
--- the d stages from k on, of the stages T
+-- the stages from k on, of the stages T; the d-th after it is the last, and needs no next one to agree
 unfoldable pub course : Limits → (ℕ → Stage) → ℕ → ℕ → Verdict
-course L T zero k = unsettled
+course L T zero k = ruling k (T k) (nogoodsLong L (T k)) (labelLong L (T k)) true (settled k (T k))
 course L T (suc d) k =
     let later : Verdict = course L T d (suc k) in
     ruling k (T k) (nogoodsLong L (T k)) (labelLong L (T k)) (agree (T k) (T (suc k))) later
 
-unfoldable pub judge : Limits → ℕ → ℕ → List Justification → Verdict
-judge L A N J = course L (stageAt A N J) (suc (L .stages)) 0
+-- the different consequents
+unfoldable pub consequents : List Justification → List ℕ
+consequents [] = []
+consequents (j ∷ J) = let later : List ℕ = consequents J in choose (someOf (eqb (j .consequent)) later) later (j .consequent ∷ later)
 
--- the different consequents, of justifications whose consequents are at most N
-unfoldable pub heads : ℕ → List Justification → List ℕ
-heads N J = those (λ n. someOf (λ (j : Justification). eqb (j .consequent) n) J) (numbersBelow (suc N))
+-- no stage after as many as there are different consequents brings anything new
+unfoldable pub judge : Limits → ℕ → ℕ → List Justification → Verdict
+judge L A N J = course L (stageAt A N J) (length (consequents J)) 0

@@ -17,6 +17,7 @@ pub enum Call {
     Open,
     Load,
     Add,
+    Withdraw,
     Ask,
     Context,
     Member,
@@ -42,6 +43,7 @@ enum Command {
     Open(u32, u32),
     Load(Vec<u8>),
     Add(u32, Vec<u32>),
+    Withdraw(u32, Vec<u32>),
     Ask(u32, Vec<u32>),
     Context(Vec<u32>),
     Member(u32, u32),
@@ -88,6 +90,9 @@ fn read(name: &[u8], fields: &[&[u8]]) -> Option<Command> {
     match (name, numbers.as_slice()) {
         (b"open", &[a, m]) => Some(Command::Open(a, m)),
         (b"add", [consequent, supports @ ..]) => Some(Command::Add(*consequent, supports.to_vec())),
+        (b"withdraw", [consequent, supports @ ..]) => {
+            Some(Command::Withdraw(*consequent, supports.to_vec()))
+        }
         (b"ask", [n, set @ ..]) if !set.contains(&0) => Some(Command::Ask(*n, set.to_vec())),
         (b"context", set) if !set.contains(&0) => Some(Command::Context(set.to_vec())),
         (b"member", &[n, place]) => Some(Command::Member(n, place)),
@@ -123,6 +128,10 @@ fn run(store: &mut Store, line: usize, command: Command) -> Reply {
         Command::Open(a, m) => (Call::Open, open(store, a, m)),
         Command::Load(bytes) => return load(store, line, &bytes),
         Command::Add(consequent, supports) => (Call::Add, add(store, consequent, &supports)),
+        Command::Withdraw(consequent, supports) => {
+            let withdrawn = store.withdraw(consequent, &supports);
+            (Call::Withdraw, withdrawn.map(|()| "done\n".to_string()))
+        }
         Command::Ask(n, set) => (Call::Ask, store.ask(n, &set).map(answer_text)),
         Command::Context(set) => (Call::Context, store.context(&set).map(context_text)),
         Command::Member(n, place) => {

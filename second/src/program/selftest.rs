@@ -1,4 +1,5 @@
-//! Two checks of this program by itself, on random cases:
+//! Checks of this program by itself: scripts worked by hand from the
+//! documents; and on random cases
 //! the two ways of finding the stages agree stage by stage where both apply;
 //! and with many assumptions, what a store answers on random sets is what the
 //! definition gives when it is followed for that one set.
@@ -7,16 +8,37 @@ use super::by_joins::ByJoins;
 use super::by_subsets::BySubsets;
 use super::random::Random;
 use super::rule::{has_one_of, inside, single, Rule, Set, STAGE_LIMIT};
+use super::script;
 use super::stages::{judge_by_joins, judge_by_subsets, Judged, Stages, FEW_ASSUMPTIONS};
 
 const SMALL_CASES: u32 = 20_000;
 const LARGE_CASES: u32 = 3_000;
 const PROBES: u32 = 60;
 
+/// Scripts worked by hand, with the replies, one call or reply a line.
+const BY_HAND: &[(&str, &str)] = &[
+    // Withdrawing a premise brings the longer label back; the spelling does not matter.
+    (
+        "open 3 1\nadd 4 1 2\nadd 4 3\nadd 4\nline 4\nwithdraw 4\nline 4\nwithdraw 4 2 2 1\nline 4\nwithdraw 4 1 2",
+        "done\ndone\ndone\ndone\n4 supported {}\ndone\n4 supported {3} {1,2}\ndone\n4 supported {3}\nrefused 18\n",
+    ),
+    // Withdrawing a nogood gives the struck members back, and the depth falls.
+    (
+        "open 2 1\nadd 3 1 2\nadd 0 2\nlist\nwithdraw 0 2\nline 3\nwithdraw 3 2 1\nlist",
+        "done\ndone\ndone\ncase 2 1 2 1\n0 nogood {2}\n1 supported {1}\n2 unsupported\n3 unsupported\n\
+         done\n3 supported {1,2}\ndone\ncase 2 1 0 0\n0 nogood\n1 supported {1}\n2 supported {2}\n3 unsupported\n",
+    ),
+    // 6 before 4 before 5 before 18.
+    (
+        "open 1 1\nwithdraw 9 0 0 0 0 0\nwithdraw 9 0\nwithdraw 2 0\nwithdraw 2 1",
+        "done\nrefused 6\nrefused 4\nrefused 5\nrefused 18\n",
+    ),
+];
+
 /// Run all; print the count; say whether all passed.
 pub fn run(seed: u64) -> bool {
     let mut random = Random::new(seed);
-    let mut failed = 0;
+    let mut failed = by_hand();
     let (mut early, mut late) = ([0; 11], [0; 11]);
     for _ in 0..SMALL_CASES {
         let case = small_case(&mut random);
@@ -36,8 +58,23 @@ pub fn run(seed: u64) -> bool {
         }
     }
     println!("large cases: {judged} judged and probed on {PROBES} sets each");
-    println!("{} passed, {} failed", SMALL_CASES + judged - failed, failed);
+    let all = BY_HAND.len() as u32 + SMALL_CASES + judged;
+    println!("{} passed, {} failed", all - failed, failed);
     failed == 0
+}
+
+/// Replay the scripts worked by hand; how many differ.
+fn by_hand() -> u32 {
+    let mut failed = 0;
+    for (input, expected) in BY_HAND {
+        let said = String::from_utf8_lossy(&script::text_of(&script::replay(input.as_bytes()))).into_owned();
+        if said != *expected {
+            println!("by hand:\n{input}\nexpected:\n{expected}said:\n{said}");
+            failed += 1;
+        }
+    }
+    println!("by hand: {} scripts", BY_HAND.len());
+    failed
 }
 
 #[derive(Debug)]

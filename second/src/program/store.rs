@@ -56,6 +56,16 @@ impl Store {
         Ok(Added::Done)
     }
 
+    /// Refusals in this order: 6, 4, 5; 18; then the stages of the smaller set.
+    pub fn withdraw(&mut self, consequent: u32, supports: &[u32]) -> Result<(), Refusal> {
+        check_support_count(supports.len() as u32)?;
+        check_numbers(self.last(), consequent, supports)?;
+        let mut smaller = self.held.clone();
+        refuse_if(!smaller.remove(&Rule::new(consequent, supports)), 18)?;
+        *self = Store::of_rules(self.a, self.m, smaller)?;
+        Ok(())
+    }
+
     pub fn ask(&self, n: u32, assumptions: &[u32]) -> Result<Answer, Refusal> {
         self.check_number(n)?;
         Ok(self.answer(n, self.set_of(assumptions)?))

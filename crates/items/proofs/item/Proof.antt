@@ -3,7 +3,8 @@ use mathlib.Core.Path.{sym, ap, _∙_}
 use native.Mathlib.Omega.{arith}
 use lib.Seq.{length-take-le}
 use borrow.Author.Needs.{needs}
-use Rattle.items.proofs.Taken.{supports-long, supports-read, supports-fault, item-unread, item-faulty, item-whole, zero-done}
+use Rattle.items.proofs.Taken.{supports-long, supports-read, supports-fault, item-unread, item-faulty, item-whole}
+use Rattle.replies.proofs.Numbers.{is-done}
 use Rattle.replies.specs.declared.Reply.the-variants.{Done}
 use Rattle.rules.specs.declared.Entry.{Entry}
 use Rattle.items.proofs.item.Statement.{statement}
@@ -40,10 +41,10 @@ returns-2 : tie.Need-returns-2
 returns-2 c = c .unread2 .ensures ∙ item-faulty _ _ _ _ _ _ (c .before .before .before .before .before .before .before .before .supports .result .next) (supports-read _ _ (c .before .before .before .before .before .before .before .before .before .before .pre .1) _ _ (c .before .before .before .before .before .before .before .before .supports .ensures) (c .before .before .before .before .before .before .before .before .before .before .pre .2) (sym (c .before .before .before .before .before .before .before .number .ensures) ∙ c .before .before .before .before .before .before .if1 .left) .0) _ (c .before .before .before .fault .ensures) (λ e. c .before .if2 .taken (c .before .before .number2 .ensures ∙ e))
 
 canonical-requires : tie.Need-canonical-requires
-canonical-requires c κs = (c .before .before .before .before .before .before .before .before .before .pre .0, sym (c .before .before .fault .ensures) ∙ zero-done _ (sym (c .before .number2 .ensures) ∙ c .if2 .left))
+canonical-requires c κs = (c .before .before .before .before .before .before .before .before .before .pre .0, sym (c .before .before .fault .ensures) ∙ is-done _ (sym (c .before .number2 .ensures) ∙ c .if2 .left))
 
 returns-3 : tie.Need-returns-3
-returns-3 c = let s = supports-read _ _ (c .before .before .before .before .before .before .before .before .before .before .pre .1) _ _ (c .before .before .before .before .before .before .before .before .supports .ensures) (c .before .before .before .before .before .before .before .before .before .before .pre .2) (sym (c .before .before .before .before .before .before .before .number .ensures) ∙ c .before .before .before .before .before .before .if1 .left) in ap (λ (e : Entry). record { reply = Done; next = c .before .before .before .before .before .before .before .before .supports .result .next; entry = e }) (c .canonical .ensures) ∙ item-whole _ _ _ _ _ _ _ (s .0) (s .1) (sym (c .before .before .before .fault .ensures) ∙ zero-done _ (sym (c .before .before .number2 .ensures) ∙ c .before .if2 .left))
+returns-3 c = let s = supports-read _ _ (c .before .before .before .before .before .before .before .before .before .before .pre .1) _ _ (c .before .before .before .before .before .before .before .before .supports .ensures) (c .before .before .before .before .before .before .before .before .before .before .pre .2) (sym (c .before .before .before .before .before .before .before .number .ensures) ∙ c .before .before .before .before .before .before .if1 .left) in ap (λ (e : Entry). record { reply = Done; next = c .before .before .before .before .before .before .before .before .supports .result .next; entry = e }) (c .canonical .ensures) ∙ item-whole _ _ _ _ _ _ _ (s .0) (s .1) (sym (c .before .before .before .fault .ensures) ∙ is-done _ (sym (c .before .before .number2 .ensures) ∙ c .before .if2 .left))
 
 pub item-spec : {M : Type 1} → statement M
 item-spec =

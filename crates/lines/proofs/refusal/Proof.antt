@@ -4,9 +4,9 @@ use Prim.Native.Nat.{_<_, _^_, _≤_, ℕ}
 use native.Mathlib.Omega.{arith}
 use lib.ListN.{length}
 use lib.Seq.{length-take-le}
-use Rattle.lines.proofs.Longest.{few-replies}
 use Rattle.lines.proofs.Fits.{refusal-rest}
 use Rattle.lines.specs.Lines.{refusalText}
+use Rattle.replies.proofs.Numbers.{few-replies}
 use Rattle.text.proofs.Lengths.{refusal-length}
 use Rattle.text.proofs.Writing.{blank-room, front-room, front-taken}
 use Rattle.text.specs.Texts.{refusal as textOf}

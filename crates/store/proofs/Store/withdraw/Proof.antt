@@ -2,13 +2,14 @@
 use mathlib.Core.Path.{_∙_, ap, sym}
 use native.Mathlib.Omega.{arith}
 use borrow.Author.Needs.{needs}
+use Rattle.replies.proofs.Numbers.{is-done}
 use Rattle.replies.specs.Replies.{numberOf}
 use Rattle.replies.specs.declared.Reply.{Reply}
 use Rattle.rules.proofs.Laws.{canonical-fits}
 use Rattle.rules.specs.Held.{fitting, meaning}
 use Rattle.rules.specs.Items.{faultOf}
 use Rattle.rules.specs.declared.Entry.{Entry}
-use Rattle.store.proofs.Judging.{is-done, withdraw-fault, withdraw-item, withdraw-shape}
+use Rattle.store.proofs.Judging.{withdraw-fault, withdraw-item, withdraw-shape}
 use Rattle.store.proofs.Shapes.{shape-elim}
 use Rattle.store.specs.Calls.{answer, partedFrom}
 use Rattle.store.specs.Shape.{top}
