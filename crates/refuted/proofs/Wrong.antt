@@ -34,7 +34,7 @@ use Rattle.promises.specs.Rows.{given}
 use Rattle.promises.specs.Standing.{AsTheyStand}
 use Rattle.promises.specs.Table.{OverCounts, ReplyTable, ShapedRows}
 use Rattle.refuted.specs.Cases.{listedBytes}
-use Rattle.refuted.specs.Wrong.{AddsNone, Depths, LoadsNone, Refuted, alwaysFull, clearing, countKept, deducing, deep, deeper, denying, emptying, forgetful, forgetting, idle, lenient, listsKept, notFreed, once, othersThan, refusing, sparing, unstruck, unstruckLists, workedOut}
+use Rattle.refuted.specs.Wrong.{AddsNone, alwaysFull, clearing, countKept, deducing, deep, deeper, denying, Depths, emptying, forgetful, forgetting, holding, idle, lenient, listsKept, LoadsNone, notFreed, once, othersThan, refusing, Refuted, sparing, unstruck, unstruckLists, welcoming, workedOut}
 use Rattle.replies.specs.Replies.{numberOf}
 use Rattle.replies.specs.declared.Reply.the-variants.{Done}
 use Rattle.replies.specs.declared.Reply.{Reply}
