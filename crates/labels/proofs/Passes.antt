@@ -9,7 +9,7 @@ use native.Mathlib.Omega.{arith}
 use lib.ListN.{drop, length, length-append, length-take, take, take-append-drop}
 use lib.Seq.{take-append-add}
 use borrow.Author.Tests.{not-true}
-use Rattle.labels.proofs.Selects.{Sound, sound-in, sound-take}
+use Rattle.labels.proofs.Selects.{Sound, placed-past, sound-in, sound-take}
 use Rattle.theory.proofs.Label.{contains-elim, contains-intro}
 use Rattle.theory.proofs.Lists.{clash, not-so, those-elim, those-intro}
 use Rattle.theory.proofs.Order.{before-asym, before-irrefl, before-trans, sorted-head, sorted-tail, sorted-those, sorted-unique}
@@ -107,13 +107,6 @@ sorted-parts [] R s x y a b = elim a [ ]
 sorted-parts (z ∷ P) R s x y a b =
     ⊎-elim (λ (q : x ≡ z). subst (λ (v : ℕ). before v y ≡ true) (sym q) (sorted-head before z s y (Memᴰ·append-right P b)))
     (λ n. sorted-parts P R (sorted-tail before z (P ++ R) s) x y n b) (List·Memᴰ·cases-cons a)
-
-placed-past : (E : ℕ) (P Q : List ℕ) → ((x : ℕ) → Mem x P → before x E ≡ true) → placed E (P ++ Q) ≡ P ++ placed E Q
-unfolding placed
-placed-past E [] Q h = refl
-placed-past E (x ∷ P) Q h =
-    ap (λ (b : Bool). choose b E x ∷ placed (choose b x E) (P ++ Q)) (not-so (before E x) (λ b. before-asym x E (h x (here refl)) b))
-    ∙ ap (λ (l : List ℕ). x ∷ l) (placed-past E P Q (λ y m. h y (there m)))
 
 placed-some : (E : ℕ) (l : List ℕ) → 1 ≤ length (placed E l)
 unfolding placed

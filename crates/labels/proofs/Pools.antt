@@ -2,16 +2,18 @@
 use mathlib.Core.Bool.{Bool, false, not, true}
 use mathlib.Core.List.{List, [], _++_, _∷_, append-assoc, append-nil}
 use mathlib.Core.Option.{Option, some}
-use mathlib.Core.Path.{_∙_, _≡_, ap, ap₂, refl, sym}
+use mathlib.Core.Path.{_∙_, _≡_, ap, ap₂, refl, subst, sym}
 use Prim.Native.Nat.{_+_, _-_, _<_, _≤_, suc, ℕ}
 use native.Mathlib.Numerals.{add-one}
 use native.Mathlib.Omega.{arith}
 use lib.ListN.{drop, getD, length, length-append, set, take}
-use lib.Seq.{drop-cons, drop-set-lt, getD-at, length-take-le, take-all, take-at, take-set-le, take-suc-set}
+use lib.Seq.{drop-cons, drop-set-lt, getD-at, getD-take, length-take-le, take-all, take-at, take-set-le, take-suc-set}
 use borrow.Author.Tests.{le-ltb, lt-ltb}
+use Rattle.labels.proofs.Selects.{placed-last}
 use Rattle.labels.specs.Pool.{Entered, Filled, boundOf, lateBy, placed, purged}
 use Rattle.labels.specs.declared.pool.Fill.{Fill}
-use Rattle.theory.specs.Lists.{choose, keep, those}
+use Rattle.theory.proofs.Order.{sorted-those}
+use Rattle.theory.specs.Lists.{choose, keep, sortedBy, those}
 use Rattle.theory.specs.Sets.{before, within}
 
 -- ---- one of two
@@ -141,3 +143,14 @@ module _ (pool pool₁ pool₂ : List ℕ) (f : Fill) (E kept last : ℕ) (same 
         ),
         refl,
       )
+
+-- ---- the last stands before the set: it goes behind all
+pub squeeze-last : (pool : List ℕ) (count E : ℕ) → count ≤ length pool → sortedBy before (take count pool) ≡ true → 0 < count → (r : Bool) → r ≡ before (getD pool (count - 1) 0) E → r ≡ true → take count pool ++ E ∷ [] ≡ placed E (take count pool)
+squeeze-last pool count E room s h r p q =
+    let long : length (take count pool) ≡ suc (count - 1) = length-take-le count pool room ∙ omega arith in
+    placed-last E (take count pool) (count - 1) long s (ap (λ (x : ℕ). before x E) (getD-take count pool (count - 1) 0 (omega arith)) ∙ sym p ∙ q)
+
+-- those that do not contain a set stand in order as before
+pub purge-sorted : (E : ℕ) (l m : List ℕ) → m ≡ purged E l → sortedBy before l ≡ true → sortedBy before m ≡ true
+unfolding purged
+purge-sorted E l m e s = subst (λ (x : List ℕ). sortedBy before x ≡ true) (sym e) (sorted-those before (λ F. not (within E F)) l s)

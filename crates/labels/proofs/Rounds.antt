@@ -2,7 +2,7 @@
 use mathlib.Core.Bool.{Bool, false, not, true}
 use mathlib.Core.List.{List, [], _++_}
 use mathlib.Core.Logic.{⊎-elim}
-use mathlib.Core.Option.{Option, none, some}
+use mathlib.Core.Option.{none, some}
 use mathlib.Core.Path.{_∙_, _≡_, ap, refl, subst, sym}
 use Prim.Native.Nat.{_+_, _<_, _≤_, ℕ}
 use native.Mathlib.Omega.{arith}
@@ -12,7 +12,7 @@ use Rattle.labels.proofs.Passes.{begin, pass, pass-grows, pass-prefix, 
 use Rattle.labels.proofs.Refusals.{by-struck, offered-append, refused-all, refused-more, well-stays}
 use Rattle.labels.proofs.Selects.{admittedAll, pass-selects, sound-none}
 use Rattle.labels.specs.Moved.{Hushed, Still}
-use Rattle.labels.specs.Pool.{Filled, Offered, Refused, Roomy, Well, boundOf, filled, offeredAll}
+use Rattle.labels.specs.Pool.{Filled, Offered, Refused, Roomy, Well, filled, offeredAll}
 use Rattle.labels.specs.Promised.{builtOf}
 use Rattle.labels.specs.declared.Built.{Built}
 use Rattle.labels.specs.declared.pool.Fill.{Fill}

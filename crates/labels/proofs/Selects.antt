@@ -6,6 +6,7 @@ use mathlib.Core.Path.{_∙_, _≡_, ap, refl, subst, sym}
 use Prim.Native.Nat.{_<_, suc, zero, ℕ}
 use native.Mathlib.Omega.{arith}
 use lib.ListN.{getD, length, take}
+use lib.Seq.{take-all, take-suc}
 use borrow.Author.Tests.{not-true}
 use Rattle.labels.specs.Pool.{placed, purged}
 use Rattle.theory.proofs.Label.{contains-elim, contains-intro}
@@ -103,6 +104,22 @@ first-before zero (y ∷ l) s h m = elim m [ ]
 first-before (suc n) (y ∷ l) s h {x} m =
     ⊎-elim (λ (q : x ≡ y). subst (λ (v : ℕ). before v (getD l n 0) ≡ true) (sym q) (sorted-head before y s (getD l n 0) (at-mem l n (omega arith))))
     (λ o. first-before n l (sorted-tail before y l s) (omega arith) o) (List·Memᴰ·cases-cons m)
+
+-- ---- a set that stands behind the others
+pub placed-past : (E : ℕ) (P Q : List ℕ) → ((x : ℕ) → Mem x P → before x E ≡ true) → placed E (P ++ Q) ≡ P ++ placed E Q
+unfolding placed
+placed-past E [] Q h = refl
+placed-past E (x ∷ P) Q h =
+    ap (λ (b : Bool). choose b E x ∷ placed (choose b x E) (P ++ Q)) (not-so (before E x) (λ b. before-asym x E (h x (here refl)) b))
+    ∙ ap (λ (l : List ℕ). x ∷ l) (placed-past E P Q (λ y m. h y (there m)))
+
+pub placed-last : (E : ℕ) (l : List ℕ) (m : ℕ) → length l ≡ suc m → sortedBy before l ≡ true → before (getD l m 0) E ≡ true → l ++ E ∷ [] ≡ placed E l
+unfolding placed
+placed-last E l m long s b =
+    sym (ap (placed E) (sym (append-nil l)) ∙ placed-past E l [] (λ x o.
+    ⊎-elim (λ a. before-trans x (getD l m 0) E (first-before m l s (omega arith) a) b)
+    (λ a. subst (λ (v : ℕ). before v E ≡ true) (sym (List·Memᴰ·eq-of-singleton a)) b)
+    (List·Memᴰ·append-cases (take m l) (subst (Mem x) (sym (take-all (suc m) l (omega arith)) ∙ take-suc l m 0 (omega arith)) o))))
 
 -- ---- what a pool may hold: clean sets among those seen, in listing order, none within another
 module _ (struck seen : List ℕ) where

@@ -1,23 +1,20 @@
 -- The walk over the candidates, list after list, where a list may be passed over whose sets are all refused already. Assumes nothing.
-use mathlib.Core.Bool.{Bool, false, true}
-use mathlib.Core.List.{List, List·Memᴰ·eq-of-singleton, List·Memᴰ as Mem, [], _++_, _∷_, map}
-use mathlib.Core.Logic.{⊎-elim}
+use mathlib.Core.Bool.{Bool, true}
+use mathlib.Core.List.{List, List·Memᴰ·eq-of-singleton, List·Memᴰ as Mem, [], _++_, _∷_}
 use mathlib.Core.Path.{_∙_, _≡_, ap, refl, subst, sym}
-use Prim.Native.Nat.{_+_, _-_, _<_, _≤_, zero, ℕ}
+use Prim.Native.Nat.{_+_, _<_, _≤_, ℕ}
 use native.Mathlib.Numerals.{add-one}
 use native.Mathlib.Omega.{arith}
 use lib.ListN.{drop, getD, length}
 use lib.Seq.{drop-cons}
 use Rattle.labels.proofs.Gathers.{joins-alone}
-use Rattle.labels.proofs.Refusals.{by-late, by-struck, late-up, offered-append, offered-skip, refused-all, refused-more, refused-stays, well-stays}
-use Rattle.labels.specs.Moved.{Hushed, Quiet, Still, stirs}
-use Rattle.labels.specs.Pool.{Filled, Gathered, Holds, Offered, Refused, Roomy, Well, boundOf, filled, lateBy, offeredAll}
+use Rattle.labels.proofs.Refusals.{by-late, late-up, offered-append, offered-skip, refused-stays, well-stays}
+use Rattle.labels.specs.Moved.{Hushed}
+use Rattle.labels.specs.Pool.{Filled, Offered, Refused, Roomy, Well, boundOf, filled, lateBy, offeredAll}
 use Rattle.labels.specs.declared.pool.Fill.{Fill}
-use Rattle.theory.proofs.Label.{contains-elim}
 use Rattle.theory.proofs.Sets.{within-zero}
-use Rattle.theory.specs.Sets.{contains}
 use Rattle.theory.specs.Stages.{Justification}
-use Rattle.theory.specs.Step.{joins, joinsFor}
+use Rattle.theory.specs.Step.{joins}
 
 -- ---- offered to a pool in its places
 module _ (struck : List ℕ) where

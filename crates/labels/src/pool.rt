@@ -1,11 +1,12 @@
 // The pool: the smallest sets seen so far, in listing order, in its first so many places. Where there is no room the last goes out:
 // it is the bound, and what does not stand before it is refused from then on.
 use sets::Set;
+ghost use mathlib.Core.Bool.{true};
 ghost use mathlib.Core.List.{[], _++_, _∷_};
 ghost use mathlib.Core.Path.{_≡_};
 ghost use Prim.Native.Nat.{_+_, _≤_};
 ghost use lib.ListN.{length, take};
-ghost use Rattle.theory.specs.Lists.{choose};
+ghost use Rattle.theory.specs.Lists.{choose, sortedBy};
 ghost use Rattle.theory.specs.Sets.{before, within};
 ghost use Rattle.labels.specs.Pool.{Entered, Roomy, boundOf, lateBy, placed, purged};
 
@@ -71,9 +72,14 @@ fn purge(pool: &mut [Set], count: usize, e: Set) -> usize
 
 // e put among the first so many sets, in listing order; the last of all is left over.
 fn squeeze(pool: &mut [Set], count: usize, e: Set) -> Set
-    requires { ⌜ count ≤ length (now pool) ⌝ }
+    requires { ⌜ (count ≤ length (now pool)) × (sortedBy before (take count (now pool)) ≡ true) ⌝ }
     ensures { λ r. ⌜ take count (now (pool .exit)) ++ r ∷ [] ≡ placed e (take count (now (pool .entry))) ⌝ }
 {
+    if 0 < count {
+        if sets::before(pool[count - 1], e) {
+            return e;
+        }
+    }
     let mut carried = e;
     let mut i = 0;
     while i < count {

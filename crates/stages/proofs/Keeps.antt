@@ -1,24 +1,18 @@
 -- A list whose supports' labels did not change in the last step loses in this one what contains a nogood, and nothing else. Assumes nothing.
-use mathlib.Core.Bool.{Bool, _&&_, false, not, true}
-use mathlib.Core.List.{List, List·Memᴰ·cases-cons, List·Memᴰ as Mem, [], _∷_, map, List·Memᴰ·head as here, List·Memᴰ·tail as there}
-use mathlib.Core.Logic.{_⊎_, inl, inr, ⊎-elim}
+use mathlib.Core.Bool.{Bool, false, not, true}
+use mathlib.Core.List.{List, List·Memᴰ as Mem, [], _∷_, List·Memᴰ·head as here, List·Memᴰ·tail as there}
+use mathlib.Core.Logic.{⊎-elim}
 use mathlib.Core.Path.{_∙_, _≡_, ap, ap₂, refl, subst, sym}
-use Prim.Native.Nat.{_*_, _+_, _-_, _<_, _≤_, suc, zero, ℕ}
+use Prim.Native.Nat.{_+_, _<_, _≤_, suc, zero, ℕ}
 use native.Mathlib.Numerals.{add-one}
 use native.Mathlib.Omega.{arith}
-use lib.Dec.{eqb}
-use lib.ListN.{drop, drop-of-length-le, getD, getD-replicate, length, replicate, set, take}
-use lib.Seq.{drop-cons, getD-set-other, getD-set-same}
-use native.Mathlib.Nat.{le-of-suc-le-suc, not-suc-le-zero}
-use borrow.Author.Tests.{eq-eqb, eqb-false, eqb-true, ne-eqb, not-true}
-use Rattle.labels.proofs.Lying.{lying-length}
-use Rattle.labels.specs.Layout.{Layout, lying}
+use lib.ListN.{getD, getD-replicate, replicate, take}
+use borrow.Author.Tests.{not-true}
 use Rattle.rules.proofs.Laws.{right-range}
-use Rattle.rules.specs.Held.{meaning, saidBy}
-use Rattle.rules.specs.declared.Entry.{Entry}
+use Rattle.rules.specs.Held.{saidBy}
 use Rattle.rules.specs.declared.Held.{Held}
 use Rattle.stages.proofs.Parts.{wide}
-use Rattle.stages.proofs.Stages.{lies, listed-taken, nogoods-lie, nogoods-listed, part-lies}
+use Rattle.stages.proofs.Stages.{listed-taken, nogoods-lie, nogoods-listed}
 use Rattle.stages.specs.Judged.{Judgeable}
 use Rattle.stages.specs.Lists.{listsOf}
 use Rattle.stages.specs.Steps.{Listed, Room, Stale, Steady, Told, sparedOf, stageBy}
@@ -27,17 +21,17 @@ use Rattle.theory.proofs.Following.{follows-keep}
 use Rattle.theory.proofs.Judgement.{same-elim, stage-label, stage-labelIn, stage-nogoods}
 use Rattle.theory.proofs.Label.{contains-elim, contains-intro, nogood-below, nogood-elim}
 use Rattle.theory.proofs.Lasting.{joins-same}
-use Rattle.theory.proofs.Lists.{all-elim, and-left, and-right, clash, not-so, those-elim, those-intro}
+use Rattle.theory.proofs.Lists.{clash, not-so, those-elim, those-intro}
 use Rattle.theory.proofs.Order.{sorted-those}
 use Rattle.theory.proofs.Select.{Selection, selection-unique}
 use Rattle.theory.proofs.Sets.{within-refl, within-trans}
 use Rattle.theory.proofs.Start.{label-selection, nogood-selection}
 use Rattle.theory.proofs.Step.{candidates-cases, candidates-join, candidates-old, labelCands, nogoodCands}
 use Rattle.theory.specs.Judge.{sameSets}
-use Rattle.theory.specs.Lists.{allOf, choose, those}
+use Rattle.theory.specs.Lists.{those}
 use Rattle.theory.specs.Sets.{before, contains, within}
 use Rattle.theory.specs.Stages.{Justification, labelAt, nogoodsAt}
-use Rattle.theory.specs.Step.{candidates, labelIn}
+use Rattle.theory.specs.Step.{candidates}
 
 pub marked-all : (n : ℕ) → n ≤ 128 → getD (replicate 129 (suc zero)) n zero ≡ zero → ⊥
 marked-all n h z = omega (arith, getD-replicate 129 n (suc zero) zero (omega arith))

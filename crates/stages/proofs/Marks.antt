@@ -23,7 +23,7 @@ use Rattle.stages.proofs.Parts.{wide}
 use Rattle.stages.proofs.Stages.{lies, nogoods-lie}
 use Rattle.stages.specs.Steps.{Fresh, Reached, Since, Stale, Touched, markOf, stageBy}
 use Rattle.stages.specs.declared.Lists.{Lists}
-use Rattle.theory.proofs.Judgement.{agree-elim, agree-intro, same-elim, same-intro, stage-label, stage-labelIn, stage-length, stage-nogoods}
+use Rattle.theory.proofs.Judgement.{agree-elim, agree-intro, same-elim, same-intro, stage-labelIn, stage-length, stage-nogoods}
 use Rattle.theory.proofs.Label.{contains-intro}
 use Rattle.theory.proofs.Lasting.{joins-same}
 use Rattle.theory.proofs.Lists.{all-elim, and-intro, and-left, and-right, clash, either, not-so, same-test, those-elim}

@@ -4,7 +4,6 @@ use mathlib.Core.Path.{_∙_, sym}
 use Prim.Native.Nat.{_-_}
 use native.Mathlib.Omega.{arith}
 use lib.Seq.{length-take-le}
-use borrow.Author.Needs.{needs}
 use borrow.Author.Tests.{not-false, not-true}
 use Rattle.labels.proofs.Rounds.{Rounding, half-hushed, half-roomy, rounding-done, rounding-full, rounding-more, rounding-none, rounding-on, rounding-roomy}
 use Rattle.labels.specs.Layout.{between, lying}

@@ -1,6 +1,6 @@
 -- `stages::relabel` meets its contract. Assumes nothing.
 use mathlib.Core.List.{[]}
-use mathlib.Core.Path.{_∙_, _≡_, ap, refl, sym}
+use mathlib.Core.Path.{_∙_, ap, sym}
 use Prim.Native.Nat.{_*_, _+_, _-_, _<_, _≤_}
 use native.Mathlib.Omega.{arith}
 use borrow.Author.Needs.{needs}

@@ -1,7 +1,7 @@
 -- `labels::pool::enter` meets its contract. Assumes nothing.
 use mathlib.Core.Path.{_∙_}
 use lib.ListN.{length-set}
-use Rattle.labels.proofs.Pools.{enter-full, enter-room}
+use Rattle.labels.proofs.Pools.{enter-full, enter-room, purge-sorted}
 use borrow.Author.Needs.{needs}
 use Rattle.labels.proofs.pool.enter.Statement.{statement}
 use Rattle.labels.proofs.pool.enter.Tie as tie
@@ -10,7 +10,7 @@ purge-requires : tie.Need-purge-requires
 purge-requires c κs = search needs
 
 squeeze-requires : tie.Need-squeeze-requires
-squeeze-requires c κs = search needs
+squeeze-requires c κs = (search needs, purge-sorted (c .before .before .before .before .before .before .args .e) _ _ (c .before .before .before .purge .ensures .1) (c .before .before .before .before .before .before .pre .well .sorted))
 
 same-length : tie.Need-same-length
 same-length c = search needs

@@ -1,7 +1,7 @@
 -- `labels::pool::purge` meets its contract. Assumes nothing.
 use mathlib.Core.List.{_++_}
 use mathlib.Core.Path.{_∙_, _≡_, ap, refl}
-use Prim.Native.Nat.{_+_, _-_, _≤_}
+use Prim.Native.Nat.{_-_, _≤_}
 use native.Mathlib.Omega.{arith}
 use lib.ListN.{drop, length, length-set, take}
 use borrow.Author.Needs.{needs}

@@ -1,12 +1,12 @@
 -- `labels::pool::squeeze` meets its contract. Assumes nothing.
 use mathlib.Core.List.{_++_}
 use mathlib.Core.Path.{_∙_, _≡_, ap, refl}
-use Prim.Native.Nat.{_+_, _-_, _≤_}
+use Prim.Native.Nat.{_-_, _≤_}
 use native.Mathlib.Omega.{arith}
 use lib.ListN.{drop, length, length-set, take}
 use borrow.Author.Needs.{needs}
 use Rattle.labels.specs.Pool.{placed}
-use Rattle.labels.proofs.Pools.{rest-all, squeeze-end, squeeze-turn}
+use Rattle.labels.proofs.Pools.{rest-all, squeeze-end, squeeze-last, squeeze-turn}
 use Rattle.labels.proofs.pool.squeeze.Statement.{statement}
 use Rattle.labels.proofs.pool.squeeze.Tie as tie
 
@@ -16,14 +16,29 @@ Inv-loop pool₀ count e carried₀ i₀ pool carried i = (i ≤ count) × (leng
 abbrev μ-loop : tie.MeasureT-loop
 μ-loop pool₀ count e carried₀ i₀ pool carried i = count - i
 
+sub-before : tie.Need-sub-before Inv-loop μ-loop
+sub-before c = omega (arith, c .if1 .taken)
+
+mul-before : tie.Need-mul-before Inv-loop μ-loop
+mul-before c = search needs
+
+slice-read-before : tie.Need-slice-read-before Inv-loop μ-loop
+slice-read-before c = omega (arith, c .before .if1 .taken, c .before .before .before .pre .0)
+
+before-requires : tie.Need-before-requires Inv-loop μ-loop
+before-requires c κs = search needs
+
+returns : tie.Need-returns Inv-loop μ-loop
+returns c = let s = c .before .before .before .before .before in squeeze-last (s .args .pool .now) (s .args .count) (s .args .e) (s .pre .0) (s .pre .1) (c .before .before .before .if1 .taken) _ (c .before .before2 .ensures) (c .if2 .taken)
+
 loop-holds : tie.Need-loop-holds Inv-loop μ-loop
-loop-holds c = (omega arith, refl, ap (placed (c .before .args .e)) (rest-all (c .before .args .pool .now) (c .before .args .count)))
+loop-holds c = let s = c .before .before in (omega arith, refl, ap (placed (s .args .e)) (rest-all (s .args .pool .now) (s .args .count)))
 
 mul-x : tie.Need-mul-x Inv-loop μ-loop
 mul-x c = search needs
 
 slice-read-x : tie.Need-slice-read-x Inv-loop μ-loop
-slice-read-x c = omega arith
+slice-read-x c = omega (arith, c .before .before .before .before .before .pre .0, c .before .loop-test .taken, c .before .before .loop .inv .1)
 
 sooner-requires : tie.Need-sooner-requires Inv-loop μ-loop
 sooner-requires c κs = search needs
@@ -32,31 +47,31 @@ mul-pool : tie.Need-mul-pool Inv-loop μ-loop
 mul-pool c = search needs
 
 slice-write-pool : tie.Need-slice-write-pool Inv-loop μ-loop
-slice-write-pool c = omega arith
+slice-write-pool c = omega (arith, c .before .before .before .before .before .before .pre .0, c .before .before .loop-test .taken, c .before .before .before .loop .inv .1)
 
 later-requires : tie.Need-later-requires Inv-loop μ-loop
 later-requires c κs = search needs
 
 add-i : tie.Need-add-i Inv-loop μ-loop
-add-i c = omega arith
+add-i c = omega (arith, c .before .before .before .loop-test .taken)
 
 loop-less : tie.Need-loop-less Inv-loop μ-loop
-loop-less c = omega arith
+loop-less c = omega (arith, c .before .before .before .loop-test .taken)
 
 loop-again : tie.Need-loop-again Inv-loop μ-loop
 loop-again c =
-    let s = c .before .before .before .before .before .before in
+    let s = c .before .before .before .before .before .before .before in
     let l = c .before .before .before .before .loop in
-    (omega arith, length-set (l .pool) (l .i) _ ∙ l .inv .1, squeeze-turn _ (l .pool) (s .args .count) (l .carried) (l .i) (omega (arith, s .pre, l .inv .1)) (l .inv .2) (c .before .before .before .loop-test .taken) _ (c .before .sooner .ensures) _ (c .later .ensures))
+    (omega (arith, c .before .before .before .loop-test .taken), length-set (l .pool) (l .i) _ ∙ l .inv .1, squeeze-turn _ (l .pool) (s .args .count) (l .carried) (l .i) (omega (arith, s .pre .0, l .inv .1)) (l .inv .2) (c .before .before .before .loop-test .taken) _ (c .before .sooner .ensures) _ (c .later .ensures))
 
 same-length : tie.Need-same-length Inv-loop μ-loop
 same-length c = c .before .loop .inv .1
 
-returns : tie.Need-returns Inv-loop μ-loop
-returns c =
-    let s = c .before .before .before in
+returns-2 : tie.Need-returns-2 Inv-loop μ-loop
+returns-2 c =
+    let s = c .before .before .before .before in
     let l = c .before .loop in
-    squeeze-end _ (l .pool) (s .args .count) (l .carried) (l .i) (omega (arith, s .pre, l .inv .1)) (l .inv .2) (l .inv .0) (c .loop-test .left)
+    squeeze-end _ (l .pool) (s .args .count) (l .carried) (l .i) (omega (arith, s .pre .0, l .inv .1)) (l .inv .2) (l .inv .0) (c .loop-test .left)
 
 pub squeeze-spec : {M : Type 1} → statement M
 squeeze-spec =
@@ -64,6 +79,11 @@ squeeze-spec =
     (tie.spec
     Inv-loop
     μ-loop
+    sub-before
+    mul-before
+    slice-read-before
+    before-requires
+    returns
     loop-holds
     mul-x
     slice-read-x
@@ -75,4 +95,4 @@ squeeze-spec =
     loop-less
     loop-again
     same-length
-    returns)
+    returns-2)
