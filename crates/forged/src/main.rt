@@ -268,7 +268,7 @@ fn calls(s: Store) {
 fn spoiled(s: Store, k: u32) -> Store {
     let held = s.held;
     let lists = s.lists;
-    if k < 15 {
+    if k < 16 {
         let worse = spoil::held(held, k);
         return Store { held: worse, lists };
     }
@@ -306,7 +306,7 @@ fn compared(base: Store) {
 
 fn main() {
     let base = listed();
-    for k in 0..31 {
+    for k in 0..32 {
         spoil::name(k);
         calls(spoiled(base, k));
     }

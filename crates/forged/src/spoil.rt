@@ -74,7 +74,7 @@ fn held_1(whole: Held, k: u32) -> Held {
     held
 }
 
-// What is held, spoiled in way k, 10 to 14.
+// What is held, spoiled in way k, 10 to 15.
 fn held_2(whole: Held, k: u32) -> Held {
     let mut held = whole;
     if k == 10 {
@@ -107,6 +107,12 @@ fn held_2(whole: Held, k: u32) -> Held {
         held.entries[255] = entry;
         return held;
     }
+    if k == 15 {
+        let mut entry = held.entries[3];
+        entry.supports[1] = 5;
+        held.entries[3] = entry;
+        return held;
+    }
     held
 }
 
@@ -121,90 +127,90 @@ pub fn held(whole: Held, k: u32) -> Held {
     held_2(whole, k)
 }
 
-// The lists, spoiled in way k, 15 to 19.
+// The lists, spoiled in way k, 16 to 20.
 fn lists_0(whole: Lists, k: u32) -> Lists {
     let mut lists = whole;
-    if k == 15 {
+    if k == 16 {
         lists.sizes[0] = 13;
         return lists;
     }
-    if k == 16 {
+    if k == 17 {
         lists.count = 33;
         return lists;
     }
-    if k == 17 {
+    if k == 18 {
         lists.members[36] = 6;
         lists.members[37] = 1;
         return lists;
     }
-    if k == 18 {
+    if k == 19 {
         lists.members[37] = 1;
         return lists;
     }
-    if k == 19 {
+    if k == 20 {
         lists.members[36] = 2;
         return lists;
     }
     lists
 }
 
-// The lists, spoiled in way k, 20 to 24.
+// The lists, spoiled in way k, 21 to 25.
 fn lists_1(whole: Lists, k: u32) -> Lists {
     let mut lists = whole;
-    if k == 20 {
+    if k == 21 {
         lists.members[48] = 8;
         return lists;
     }
-    if k == 21 {
+    if k == 22 {
         lists.nogoods[0] = 8;
         return lists;
     }
-    if k == 22 {
+    if k == 23 {
         lists.count = 2;
         lists.nogoods[0] = 6;
         lists.nogoods[1] = 3;
         return lists;
     }
-    if k == 23 {
+    if k == 24 {
         lists.count = 2;
         lists.nogoods[0] = 1;
         lists.nogoods[1] = 3;
         return lists;
     }
-    if k == 24 {
+    if k == 25 {
         lists.depth = 130;
         return lists;
     }
     lists
 }
 
-// The lists, spoiled in way k, 25 to 30.
+// The lists, spoiled in way k, 26 to 31.
 fn lists_2(whole: Lists, k: u32) -> Lists {
     let mut lists = whole;
-    if k == 25 {
+    if k == 26 {
         lists.members[1] = 1;
         return lists;
     }
-    if k == 26 {
+    if k == 27 {
         lists.nogoods[31] = 1;
         return lists;
     }
-    if k == 27 {
+    if k == 28 {
         lists.sizes[5] = 1;
         return lists;
     }
-    if k == 28 {
+    if k == 29 {
         lists.members[60] = 1;
         return lists;
     }
-    if k == 29 {
+    if k == 30 {
         lists.sizes[4] = 3;
         lists.members[48] = 1;
         lists.members[49] = 2;
         lists.members[50] = 5;
         return lists;
     }
-    if k == 30 {
+    if k == 31 {
         lists.count = 3;
         lists.nogoods[0] = 1;
         lists.nogoods[1] = 2;
@@ -216,10 +222,10 @@ fn lists_2(whole: Lists, k: u32) -> Lists {
 
 // The lists, spoiled in way k.
 pub fn lists(whole: Lists, k: u32) -> Lists {
-    if k < 20 {
+    if k < 21 {
         return lists_0(whole, k);
     }
-    if k < 25 {
+    if k < 26 {
         return lists_1(whole, k);
     }
     lists_2(whole, k)
@@ -248,28 +254,29 @@ fn name_1(k: u32) {
         12 => say(b"unused consequent not zero:"),
         13 => say(b"unused count of supports not zero:"),
         14 => say(b"unused supports not zero:"),
-        15 => say(b"members over 12:"),
-        16 => say(b"nogoods over 32:"),
-        17 => say(b"label out of order:"),
-        18 => say(b"equal members:"),
-        19 => say(b"a member inside another:"),
+        15 => say(b"a consequent among its supports:"),
+        16 => say(b"members over 12:"),
+        17 => say(b"nogoods over 32:"),
+        18 => say(b"label out of order:"),
+        19 => say(b"equal members:"),
+        20 => say(b"a member inside another:"),
         _ => {}
     }
 }
 
 fn name_2(k: u32) {
     match k {
-        20 => say(b"assumption above A in a label:"),
-        21 => say(b"assumption above A in the nogoods:"),
-        22 => say(b"nogoods out of order:"),
-        23 => say(b"a nogood inside another:"),
-        24 => say(b"depth 130:"),
-        25 => say(b"unused member not zero:"),
-        26 => say(b"unused nogood not zero:"),
-        27 => say(b"a member of a number above A+M:"),
-        28 => say(b"a place of a number above A+M not zero:"),
-        29 => say(b"{1} {2} {1,3} in a label:"),
-        30 => say(b"{1} {2} {1,3} in the nogoods:"),
+        21 => say(b"assumption above A in a label:"),
+        22 => say(b"assumption above A in the nogoods:"),
+        23 => say(b"nogoods out of order:"),
+        24 => say(b"a nogood inside another:"),
+        25 => say(b"depth 130:"),
+        26 => say(b"unused member not zero:"),
+        27 => say(b"unused nogood not zero:"),
+        28 => say(b"a member of a number above A+M:"),
+        29 => say(b"a place of a number above A+M not zero:"),
+        30 => say(b"{1} {2} {1,3} in a label:"),
+        31 => say(b"{1} {2} {1,3} in the nogoods:"),
         _ => {}
     }
 }

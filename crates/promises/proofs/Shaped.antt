@@ -27,7 +27,7 @@ use Rattle.store.specs.Shape.{heldFits, rightShape, top}
 use Rattle.store.specs.declared.Store.{Store}
 use Rattle.theory.proofs.Lists.{all-elim, all-intro, and-intro, and-left, and-right, clash, not-so, or-cases, or-left, or-right}
 use Rattle.theory.proofs.Order.{before-elim, before-fewer, before-less}
-use Rattle.theory.specs.Lists.{allOf, sortedBy}
+use Rattle.theory.specs.Lists.{allOf, someOf, sortedBy}
 use Rattle.theory.specs.Sets.{before, inRange, within}
 use Rattle.theory.specs.Stages.{Justification, ahead, lesser}
 
@@ -158,6 +158,20 @@ climbs-by N p (x ∷ l) f g =
     and-intro (lt-ltb p x (b .0))
     (and-intro (le-leb x N (b .1)) (climbs-by N x l (λ i q. (g 0 (suc i) (omega arith) (omega arith), f (suc i) (omega arith) .1)) (λ i j a q. g (suc i) (suc j) (omega arith) (omega arith))))
 
+-- c is at no place of the list
+none-at : (c : ℕ) (l : List ℕ) → someOf (eqb c) l ≡ false → (p : ℕ) → p < length l → getD l p 0 ≡ c → ⊥
+unfolding someOf
+none-at c [] h p q e = not-suc-le-zero q
+none-at c (x ∷ l) h zero q e = clash (or-left (someOf (eqb c) l) (eq-eqb c x (sym e))) h
+none-at c (x ∷ l) h (suc p) q e = none-at c l (not-so (someOf (eqb c) l) (λ t. clash (or-right (eqb c x) t) h)) p (omega arith) e
+
+none-by : (c : ℕ) (l : List ℕ) → ((p : ℕ) → p < length l → getD l p 0 ≡ c → ⊥) → someOf (eqb c) l ≡ false
+unfolding someOf
+none-by c [] f = refl
+none-by c (x ∷ l) f =
+    not-so (eqb c x || someOf (eqb c) l)
+    (λ h. ⊎-elim (λ a. f 0 (omega arith) (sym (eqb-true c x a))) (λ b. clash b (none-by c l (λ p q. f (suc p) (omega arith)))) (or-cases (eqb c x) (someOf (eqb c) l) h))
+
 module _ (N : ℕ) (e : Entry) where
   entry-says : fitting N e ≡ true → EntrySays N e
   entry-says h =
@@ -172,6 +186,7 @@ module _ (N : ℕ) (e : Entry) where
         rising = λ p q a b.
             subst (λ (x : ℕ). x < getD (e .supports) q 0) (getD-take (e .count) (e .supports) p 0 (omega arith))
             (subst (λ (y : ℕ). getD l p 0 < y) (getD-take (e .count) (e .supports) q 0 b) (climbs-rise N 0 l (f .rising) p q a (omega (arith, long))));
+        foreign = λ p q h. none-at (e .consequent) l (f .foreign) p (omega (arith, long)) (getD-take (e .count) (e .supports) p 0 q ∙ h);
         spare = λ p a b. sym (eqb-true 0 (getD (e .supports) p 0) (rest-at (eqb 0) (e .supports) (e .count) 0 (f .spare) p a (omega (arith, f .long))));
       }
 
@@ -187,6 +202,7 @@ module _ (N : ℕ) (e : Entry) where
         rising = climbs-by N 0 l (λ i q. subst (λ (x : ℕ). (0 < x) × (x ≤ N)) (sym (at i (omega (arith, long)))) (f .real i (omega (arith, long))))
             (λ i j a b.
             subst (λ (x : ℕ). x < getD l j 0) (sym (at i (omega (arith, long)))) (subst (λ (y : ℕ). getD (e .supports) i 0 < y) (sym (at j (omega (arith, long)))) (f .rising i j a (omega (arith, long)))));
+        foreign = none-by (e .consequent) l (λ p q h. f .foreign p (omega (arith, long)) (sym (at p (omega (arith, long))) ∙ h));
         long = f .places;
         spare = rest-places (eqb 0) (e .supports) (e .count) 0 (λ p a b. eq-eqb 0 (getD (e .supports) p 0) (sym (f .spare p a (omega (arith, f .places)))));
       })

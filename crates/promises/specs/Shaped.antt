@@ -57,13 +57,14 @@ Ahead d e =
     ⊎ ((d .consequent ≡ e .consequent)
     × ((d .count < e .count) ⊎ ((d .count ≡ e .count) × Earlier (take (d .count) (d .supports)) (take (e .count) (e .supports)))))
 
--- a place in use: in range; the supports strictly rising and never 0; unused places zero
+-- a place in use: in range; the supports strictly rising, never 0 and never the consequent; unused places zero
 pub record EntrySays (N : ℕ) (e : Entry) : Type 0 where
   pub consequent : e .consequent ≤ N
   pub few : e .count ≤ 4
   pub places : length (e .supports) ≡ 4
   pub real : (p : ℕ) → p < e .count → (0 < getD (e .supports) p 0) × (getD (e .supports) p 0 ≤ N)
   pub rising : (p q : ℕ) → p < q → q < e .count → getD (e .supports) p 0 < getD (e .supports) q 0
+  pub foreign : (p : ℕ) → p < e .count → getD (e .supports) p 0 ≡ e .consequent → ⊥
   pub spare : (p : ℕ) → e .count ≤ p → p < 4 → getD (e .supports) p 0 ≡ 0
 
 -- counts within the limits, justifications in range and strictly in order, unused places zero

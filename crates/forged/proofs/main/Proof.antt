@@ -5,10 +5,10 @@ use Rattle.forged.proofs.main.Statement.{statement}
 use Rattle.forged.proofs.main.Tie as tie
 
 abbrev Inv-loop : tie.InvT-loop
-Inv-loop base k₀ k = k ≤ 31
+Inv-loop base k₀ k = k ≤ 32
 
 abbrev μ-loop : tie.MeasureT-loop
-μ-loop base k₀ k = 31 - k
+μ-loop base k₀ k = 32 - k
 
 listed-requires : tie.Need-listed-requires Inv-loop μ-loop
 listed-requires c κs = search needs
