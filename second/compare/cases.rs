@@ -99,10 +99,29 @@ fn random_case(r: &mut Random, a: u32, m: u32, count: u32) -> Case {
             records.push(random_record(r, a, m, &rates));
         }
     }
+    if a + m > 0 && r.chance(4) {
+        let place = r.from_to(0, count) as usize;
+        records.insert(place, own_support(r, a + m));
+        records.truncate(256);
+    }
     Case { a, m, records }
 }
 
+/// A few tries for one that does not name its own consequent; at last that
+/// support is left out.
 fn random_record(r: &mut Random, a: u32, m: u32, rates: &Rates) -> Record {
+    for _ in 0..4 {
+        let (consequent, supports) = one_try(r, a, m, rates);
+        if !supports.contains(&consequent) {
+            return (consequent, supports);
+        }
+    }
+    let (consequent, mut supports) = one_try(r, a, m, rates);
+    supports.retain(|&n| n != consequent);
+    (consequent, supports)
+}
+
+fn one_try(r: &mut Random, a: u32, m: u32, rates: &Rates) -> Record {
     let consequent = if r.chance(rates.falsity) {
         0
     } else if m == 0 || r.chance(rates.any_consequent) {
@@ -123,7 +142,7 @@ fn random_support(r: &mut Random, a: u32, m: u32, from_claims: u32) -> u32 {
     }
 }
 
-/// One record with numbers in range, of any kind.
+/// One record with numbers in range, not its own reason, else of any kind.
 pub fn any_record(r: &mut Random, a: u32, m: u32) -> Record {
     let rates = Rates::drawn(r);
     random_record(r, a, m, &rates)
@@ -187,11 +206,8 @@ impl Builder {
         assert!(self.claims <= 96);
         let spare = r.from_to(0, (96 - self.claims).min(2));
         let mut case = Case { a: self.a, m: self.claims + spare, records: self.records };
-        if case.records.len() < 250 && case.m > 0 && r.chance(30) {
-            // A justification that names its own consequent changes no label.
-            let n = r.from_to(1, case.last());
-            let other = r.from_to(1, case.last());
-            case.records.push((n, vec![other, n]));
+        if case.records.len() < 250 && r.chance(2) {
+            case.records.push(own_support(r, case.last()));
         }
         scramble(r, &mut case);
         case
@@ -679,12 +695,12 @@ fn all_of(b: &mut Builder, numbers: &[u32]) -> u32 {
 pub fn many_records(r: &mut Random, count: u32) -> Case {
     let (a, m) = (32, r.from_to(60, 96));
     let mut records: Vec<Record> = Vec::new();
-    let grounded = a + m / 3;
+    let (grounded, next) = (a + m / 3, a + m / 2);
     while records.len() < count as usize {
         let record = match r.from_to(0, 9) {
             0..=1 => (r.from_to(a + 1, grounded), vec![r.from_to(1, a), r.from_to(1, a)]),
-            2 => (r.from_to(grounded + 1, a + m), vec![r.from_to(a + 1, grounded)]),
-            _ => own_support(r, a + m),
+            2 => (r.from_to(grounded + 1, next), vec![r.from_to(a + 1, grounded)]),
+            _ => floating(r, a, m),
         };
         let crowded = record.0 <= grounded && records.iter().filter(|x| x.0 == record.0).count() > 3;
         if !crowded && !holds(&records, &record) {
@@ -694,13 +710,28 @@ pub fn many_records(r: &mut Random, count: u32) -> Case {
     Case { a, m, records }
 }
 
-/// A justification that names its own consequent.
-fn own_support(r: &mut Random, last: u32) -> Record {
+/// A justification for one of the claims in the upper half that needs another
+/// one of them: those with no other justifications follow from nothing at all.
+pub fn floating(r: &mut Random, a: u32, m: u32) -> Record {
+    let upper = r.from_to(a + m / 2 + 1, a + m - 1);
+    let (consequent, other) = if r.chance(50) { (upper, upper + 1) } else { (a + m, upper) };
+    let mut supports = vec![other];
+    for _ in 0..r.from_to(0, 3) {
+        supports.push(r.from_to(1, a + m));
+    }
+    supports.retain(|&n| n != consequent);
+    r.shuffle(&mut supports);
+    (consequent, supports)
+}
+
+/// A justification that names its own consequent, alone or among others.
+pub fn own_support(r: &mut Random, last: u32) -> Record {
     let consequent = r.from_to(1, last);
     let mut supports = vec![consequent];
-    for _ in 0..r.from_to(1, 3) {
+    for _ in 0..r.from_to(0, 3) {
         supports.push(r.from_to(1, last));
     }
+    r.shuffle(&mut supports);
     (consequent, supports)
 }
 

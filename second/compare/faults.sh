@@ -80,5 +80,11 @@ fault "withdraw: the lists stay as they were" store.rs \
 fault "depth: no stage above 128" stages.rs 's/if next == lists {/if next == lists || depth == 128 {/'
 fault "depth: a stage 129 that differs from 128 is refused" stages.rs \
     's/^        depth += 1;/        depth += 1; if depth == 129 { return Err(Refusal::plain(10)); }/'
+fault "own reason: only where it stands alone" store.rs \
+    's/refuse_if(supports.contains(&consequent), 17)/refuse_if(!supports.is_empty() \&\& supports.iter().all(|\&n| n == consequent), 17)/'
+fault "own reason: 17 before 5" store.rs \
+    's/^    refuse_if(supports.contains(&0), 5)?;/    refuse_if(supports.contains(\&consequent), 17)?; refuse_if(supports.contains(\&0), 5)?;/'
+fault "own reason: in a file only after the last record" case_file.rs \
+    's/check_numbers(last, consequent, &supports)?;/check_numbers(last, consequent, \&supports).or_else(|x| if x.number == 17 { Ok(()) } else { Err(x) })?;/;s/^    if file.place < bytes.len() {/    if held.iter().any(|rule| rule.supports.contains(\&rule.consequent)) { return Err(at_record(count)(Refusal::plain(17))); }\n    if file.place < bytes.len() {/'
 rm -rf "$work"
 if [ $missed = 0 ]; then echo "all faults seen"; else echo "faults.sh: FAILED"; exit 1; fi

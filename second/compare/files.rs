@@ -97,8 +97,8 @@ fn odd_header(r: &mut Random) -> Vec<u8> {
     bytes
 }
 
-/// A sound case with one record (or two) made faulty: 4, 5 or 6, or several
-/// faults at once in one record.
+/// A sound case with one record (or two) made faulty: 4, 5, 6 or 17, or
+/// several faults at once in one record.
 fn record_fault(r: &mut Random, i: u32) -> Vec<u8> {
     let mut case = cases::any_case(r);
     if case.records.is_empty() {
@@ -109,7 +109,7 @@ fn record_fault(r: &mut Random, i: u32) -> Vec<u8> {
         let above = *r.pick(&[last + 1, last + 1, last + 2, 129, 300, 16_383]);
         let place = r.from_to(0, case.records.len() as u32 - 1) as usize;
         let (consequent, supports) = &mut case.records[place];
-        match i % 6 {
+        match i % 8 {
             0 => *consequent = above.max(last + 1),
             1 => put_anywhere(r, supports, above.max(last + 1)),
             2 => put_anywhere(r, supports, 0),
@@ -117,6 +117,12 @@ fn record_fault(r: &mut Random, i: u32) -> Vec<u8> {
             4 => {
                 *supports = vec![0];
                 *consequent = above;
+            }
+            5 => put_anywhere(r, supports, *consequent),
+            6 => {
+                let other = *r.pick(&[0, 0, above, above.max(last + 1)]);
+                *supports = vec![*consequent, other];
+                r.shuffle(supports);
             }
             _ => supports.resize(r.from_to(3, 7) as usize, r.from_to(0, 2)),
         }

@@ -20,6 +20,7 @@ pub fn all() -> Vec<Named> {
     cases.extend(five_supports());
     cases.extend(held_256());
     cases.extend(withdrawals());
+    cases.extend(own_reasons());
     cases
 }
 
@@ -196,31 +197,53 @@ fn five_supports() -> Vec<Named> {
     ]
 }
 
-/// 256 justifications that each name their own consequent, one of the claims
-/// 33 to 40, with one of the 32 assumptions.
+/// 256 justifications in a ring: each of the claims 33 to 40 from the next one
+/// (33 from the last) and one of the 32 assumptions, so that none follows.
 fn held_256() -> Vec<Named> {
+    let next = |c: u32| if c == 40 { 33 } else { c + 1 };
     let records: Vec<(u32, Vec<u32>)> =
-        (33..=40).flat_map(|c| (1..=32).map(move |k| (c, vec![c, k]))).collect();
+        (33..=40).flat_map(|c| (1..=32).map(move |k| (c, vec![next(c), k]))).collect();
     let adds: String = records.iter().map(|(c, s)| format!("add {c} {} {}\n", s[0], s[1])).collect();
     let unsupported: String = (33..=40).map(|c| format!("{c} unsupported\n")).collect();
     let listed = format!("case 32 8 256 0\n0 nogood\n{}{unsupported}", singles(32));
     let bytes = Case { a: 32, m: 8, records }.bytes();
-    let above = [vec![32, 8], number(257), vec![33, 1, 33]].concat();
+    let above = [vec![32, 8], number(257), vec![33, 1, 34]].concat();
     vec![
         script(
             "256 held",
-            format!("open 32 8\n{adds}add 40 32 40\nadd 40\nadd 41\nadd 40 0\nlist\n"),
+            format!("open 32 8\n{adds}add 40 32 33\nadd 40\nadd 41\nadd 40 0\nadd 40 40\nlist\n"),
             format!(
-                "done\n{}already held\nrefused 7\nrefused 4\nrefused 5\n{listed}",
+                "done\n{}already held\nrefused 7\nrefused 4\nrefused 5\nrefused 17\n{listed}",
                 "done\n".repeat(256)
             ),
         ),
         script(
             "256 held, one withdrawn",
-            format!("open 32 8\n{adds}add 40\nwithdraw 40 32 40\nadd 40\nadd 39\nwithdraw 40\nadd 40 40 32\nlist\n"),
+            format!("open 32 8\n{adds}add 40 34\nwithdraw 40 32 33\nadd 40 34\nadd 39 33\nwithdraw 40 34\nadd 40 33 32\nlist\n"),
             format!("done\n{}refused 7\ndone\ndone\nrefused 7\ndone\ndone\n{listed}", "done\n".repeat(256)),
         ),
         file("256 records", bytes, &listed),
         file("257 records", above, "refused 7 0\n"),
+    ]
+}
+
+/// No claim as its own reason: with the record it is in, after that record's 5.
+fn own_reasons() -> Vec<Named> {
+    vec![
+        file("its own reason alone", vec![0, 1, 1, 1, 1, 1], "refused 17 1\n"),
+        file("its own reason among others", vec![3, 1, 2, 4, 1, 1, 4, 3, 1, 4, 2], "refused 17 2\n"),
+        file("its own reason before a cut", vec![1, 1, 2, 2, 1, 2], "refused 17 1\n"),
+        file("its own reason and falsity", vec![1, 1, 1, 2, 2, 2, 0], "refused 5 1\n"),
+        file("falsity from falsity", vec![1, 1, 1, 0, 1, 0], "refused 5 1\n"),
+        file("its own reason above the last number", vec![1, 1, 1, 3, 1, 3], "refused 4 1\n"),
+        script(
+            "its own reason, added and withdrawn",
+            "open 3 1\nadd 4 1 4\nadd 4 4\nadd 2 2\nadd 0 0\nadd 4 4 0\nadd 5 5\nadd 4 4 4 4 4 4\n\
+             withdraw 4 1 4\nwithdraw 0 0\nline 4\n"
+                .to_string(),
+            "done\nrefused 17\nrefused 17\nrefused 17\nrefused 5\nrefused 5\nrefused 4\nrefused 6\n\
+             refused 17\nrefused 5\n4 unsupported\n"
+                .to_string(),
+        ),
     ]
 }

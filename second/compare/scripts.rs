@@ -37,7 +37,7 @@ pub fn all(r: &mut Random) -> Vec<Script> {
     take(340, "withdrawing to a limit", &mut |_| withdrawing_to_a_limit(r));
     take(100, "256 held", &mut |_| held_256(r));
     take(350, "bad lines", &mut |_| bad_lines(r));
-    take(60, "long loads", &mut |_| long_loads(r));
+    take(70, "long loads", &mut |_| long_loads(r));
     take(60, "about 65,536 bytes", &mut |i| about_65536(r, i));
     scripts
 }
@@ -224,7 +224,7 @@ fn other_store_first(r: &mut Random, lines: &mut Lines) {
 fn changes_nothing(r: &mut Random, case: &Case, lines: &mut Lines) {
     let last = case.last();
     let above = *r.pick(&[last + 1, last + 1, 300, u32::MAX]);
-    let line = match r.from_to(0, 15) {
+    let line = match r.from_to(0, 16) {
         0 => words("add", &[above, 1]),
         1 => words("add", &[0, above]),
         2 => "add 0 0".to_string(),
@@ -240,15 +240,22 @@ fn changes_nothing(r: &mut Random, case: &Case, lines: &mut Lines) {
         12 => "list".to_string(),
         13 => (*r.pick(&["withdraw 0 0", "withdraw 0 1 1 1 1 1"])).to_string(),
         14 => words("withdraw", &[above, 0]),
+        15 => own_reason(r, last.max(1)),
         _ => (*r.pick(BAD_LINES)).to_string(),
     };
     lines.line(r, &line);
 }
 
+/// A rule that names its own consequent, to be added or withdrawn.
+fn own_reason(r: &mut Random, last: u32) -> String {
+    let record = cases::own_support(r, last);
+    if r.chance(60) { add_line(&record) } else { withdraw_line(&record) }
+}
+
 /// A file that is refused for certain, for each reason there is.
 fn refused_load(r: &mut Random) -> String {
     let whole = cases::random_small(r).bytes();
-    let bytes = match r.from_to(0, 9) {
+    let bytes = match r.from_to(0, 10) {
         0 => whole[..r.from_to(0, whole.len() as u32 - 1) as usize].to_vec(),
         1 => [&whole[..], &[0]].concat(),
         2 => vec![3, 0x80, 0, 1],
@@ -258,6 +265,7 @@ fn refused_load(r: &mut Random) -> String {
         6 => vec![2, 2, 1, 5, 1, 1],
         7 => vec![2, 2, 1, 3, 1, 0],
         8 => thirteen_singles().bytes(),
+        9 => vec![2, 2, 2, 3, 1, 1, 3, 2, 1, 3],
         _ => thirty_six_pairs().bytes(),
     };
     load_line(r, &bytes)
@@ -416,6 +424,7 @@ fn perhaps_faulty(r: &mut Random, a: u32, m: u32) -> Record {
         1 => supports.push(*r.pick(&[a + m + 1, 300, u32::MAX])),
         2 => supports.insert(0, 0),
         3 => supports.resize(r.from_to(5, 9) as usize, r.from_to(0, a + m + 1)),
+        4 => supports.push(consequent),
         _ => {}
     }
     (consequent, supports)
@@ -485,26 +494,20 @@ fn held_256(r: &mut Random) -> Vec<u8> {
         let record = match r.from_to(0, 3) {
             0 => r.pick(&case.records).clone(),
             1 => perhaps_faulty(r, case.a, case.m),
-            _ => harmless(r, &case),
+            _ => cases::floating(r, case.a, case.m),
         };
         lines.line(r, &add_line(&record));
     }
     for _ in 0..6 {
         let out = r.pick(&case.records).clone();
         let line = withdraw_line(&cases::respelled(r, &out));
-        for record in [harmless(r, &case), harmless(r, &case)] {
+        for record in [cases::floating(r, case.a, case.m), cases::floating(r, case.a, case.m)] {
             lines.line(r, &add_line(&record));
         }
         lines.line(r, &line);
     }
     lines.line(r, "list");
     lines.bytes(r)
-}
-
-/// A justification that names its own consequent, so it changes no label.
-fn harmless(r: &mut Random, case: &Case) -> Record {
-    let n = r.from_to(1, case.last());
-    (n, vec![r.from_to(1, case.last()), n, r.from_to(1, case.last())])
 }
 
 /// Lines that are bad whatever the store is.

@@ -18,10 +18,10 @@ const LOADS: usize = 1;
 const CALLS: usize = 2;
 const WITHDRAWALS: usize = 3;
 const COLUMNS: [Column; 4] = [
-    Column { head: "files", replies: &[0, 3, 4, 5, 6, 7, 8, 9, 11, 12, 13, 14] },
-    Column { head: "loads", replies: &[0, 3, 4, 5, 6, 7, 8, 9, 11, 12, 13, 14] },
-    Column { head: "calls", replies: &[0, 1, 3, 4, 5, 6, 7, 8, 9, 16] },
-    Column { head: "withdraw", replies: &[0, 4, 5, 6, 8, 9, 18] },
+    Column { head: "files", replies: &[0, 3, 4, 5, 6, 7, 8, 9, 11, 12, 13, 14, 17] },
+    Column { head: "loads", replies: &[0, 3, 4, 5, 6, 7, 8, 9, 11, 12, 13, 14, 17] },
+    Column { head: "calls", replies: &[0, 1, 3, 4, 5, 6, 7, 8, 9, 16, 17] },
+    Column { head: "withdraw", replies: &[0, 4, 5, 6, 8, 9, 17, 18] },
 ];
 
 const MEANINGS: [&str; 19] = [
@@ -42,7 +42,7 @@ const MEANINGS: [&str; 19] = [
     "more than 4,096 bytes",
     "buffer too short",
     "no member there",
-    "(no meaning)",
+    "its own reason",
     "not held",
 ];
 

@@ -34,6 +34,13 @@ const BY_HAND: &[(&str, &str)] = &[
         "open 1 1\nwithdraw 9 0 0 0 0 0\nwithdraw 9 0\nwithdraw 2 0\nwithdraw 2 1",
         "done\nrefused 6\nrefused 4\nrefused 5\nrefused 18\n",
     ),
+    // Its own reason: alone or among others, after 6, 4 and 5, before 1 and 18.
+    (
+        "open 3 1\nadd 4 4\nadd 4 1 4 1\nadd 1 2 1\nadd 0 0\nadd 4 0 4\nadd 4 4 5\nadd 4 4 4 4 4 4\nwithdraw 4 4\n\
+         load 01 02 02 02 01 01 03 02 01 03\nload 01 02 02 02 02 02 01 09\nload 01 01 01 02 02 00 02\nlist",
+        "done\nrefused 17\nrefused 17\nrefused 17\nrefused 5\nrefused 5\nrefused 4\nrefused 6\nrefused 17\n\
+         refused 17 2\nrefused 17 1\nrefused 5 1\ncase 3 1 0 0\n0 nogood\n1 supported {1}\n2 supported {2}\n3 supported {3}\n4 unsupported\n",
+    ),
     // Depth 2 with two consequents, 3 with falsity too; two more rules for them add no stage.
     (
         "open 1 2\nadd 2 1\nadd 3 2\nadd 3 1 2\nadd 2\nlist\nadd 0 3\nlist",
@@ -162,6 +169,7 @@ fn random_case(random: &mut Random, a: u32, m: u32, count: u32, falsity: u32) ->
             let second = random_support(random, a, m, from_claims);
             supports.push(if supports.contains(&first) { second } else { first });
         }
+        supports.retain(|&n| n != consequent);
         held.push(Rule::new(consequent, &supports));
     }
     Case { a, m, held }

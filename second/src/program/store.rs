@@ -39,7 +39,7 @@ impl Store {
         Ok(Store { a, m, held, judged })
     }
 
-    /// Refusals in this order: 6, 4, 5; 1; 7; then the stages.
+    /// Refusals in this order: 6, 4, 5, 17; 1; 7; then the stages.
     pub fn add(&mut self, consequent: u32, supports: &[u32]) -> Result<Added, Refusal> {
         check_support_count(supports.len() as u32)?;
         check_numbers(self.last(), consequent, supports)?;
@@ -56,7 +56,7 @@ impl Store {
         Ok(Added::Done)
     }
 
-    /// Refusals in this order: 6, 4, 5; 18; then the stages of the smaller set.
+    /// Refusals in this order: 6, 4, 5, 17; 18; then the stages of the smaller set.
     pub fn withdraw(&mut self, consequent: u32, supports: &[u32]) -> Result<(), Refusal> {
         check_support_count(supports.len() as u32)?;
         check_numbers(self.last(), consequent, supports)?;
@@ -142,8 +142,10 @@ pub fn check_support_count(count: u32) -> Result<(), Refusal> {
     refuse_if(count > MOST_SUPPORTS as u32, 6)
 }
 
-/// Every number of a justification is at most `last`, and no support is 0.
+/// Every number of a justification is at most `last`, no support is 0, and
+/// none is the consequent.
 pub fn check_numbers(last: u32, consequent: u32, supports: &[u32]) -> Result<(), Refusal> {
     refuse_if(consequent > last || supports.iter().any(|&n| n > last), 4)?;
-    refuse_if(supports.contains(&0), 5)
+    refuse_if(supports.contains(&0), 5)?;
+    refuse_if(supports.contains(&consequent), 17)
 }
