@@ -1,18 +1,19 @@
 -- The first member within a set: what a search place by place finds, and that it answers every test on the list. Assumes nothing.
-use mathlib.Core.Bool.{Bool, _||_, false, not, true}
+use mathlib.Core.Bool.{Bool, _&&_, _||_, false, not, true}
 use mathlib.Core.List.{List, [], _∷_}
-use mathlib.Core.Logic.{⊎-elim}
-use mathlib.Core.Path.{_∙_, _≡_, ap, ap₂, sym}
+use mathlib.Core.Path.{_∙_, _≡_, ap, ap₂, refl, subst, sym}
 use Prim.Native.Nat.{_+_, _<_, _≤_, suc, ℕ}
-use native.Mathlib.Nat.{eq-or-lt-of-le}
 use native.Mathlib.Numerals.{add-one}
 use native.Mathlib.Omega.{arith}
-use lib.Dec.{eqb, ltb}
+use lib.Dec.{ltb}
 use lib.ListN.{drop, drop-of-length-le, getD, length}
 use lib.Seq.{drop-cons}
-use borrow.Author.Tests.{eq-eqb, le-ltb, lt-ltb, ltb-true, ne-eqb}
+use borrow.Author.Tests.{le-ltb, lt-ltb, ltb-true}
+use Rattle.labels.proofs.Selects.{at-mem}
 use Rattle.labels.specs.Promised.{firstWithin}
-use Rattle.theory.proofs.Lists.{same-test}
+use Rattle.theory.proofs.Label.{contains-intro}
+use Rattle.theory.proofs.Lists.{and-intro, same-test}
+use Rattle.theory.proofs.Sets.{within-refl}
 use Rattle.theory.specs.Lists.{choose, someOf}
 use Rattle.theory.specs.Sets.{contains, within}
 use Rattle.theory.specs.Step.{free}
@@ -55,17 +56,42 @@ module _ (l : List ℕ) (E i : ℕ) (inv : firstWithin l E ≡ i + firstWithin (
   unfolding firstWithin
   first-none h k = let e : firstWithin (drop i l) E ≡ 0 = ap (λ (m : List ℕ). firstWithin m E) (drop-of-length-le l {i = i} k) in omega arith
 
--- ---- whether E contains no set of either list
-module _ (struck found : List ℕ) (E a : ℕ) (p : a ≡ firstWithin struck E) where
-  pub struck-inside : a < length struck → false ≡ free struck found E
-  unfolding free
-  struck-inside h = let k : contains struck E ≡ true = contains-first struck E ∙ ap (λ (x : ℕ). ltb x (length struck)) (sym p) ∙ lt-ltb a (length struck) h in rw k
+-- the first member within E lies within E
+first-at : (l : List ℕ) (E : ℕ) → firstWithin l E < length l → within (getD l (firstWithin l E) 0) E ≡ true
+unfolding firstWithin
+first-at [] E h = absurd (omega arith)
+first-at (F ∷ l) E h = go (within F E) refl h (first-at l E)
+  where
+    go : (b : Bool) → within F E ≡ b → choose b 0 (suc (firstWithin l E)) < suc (length l) → (firstWithin l E < length l → within (getD l (firstWithin l E) 0) E ≡ true)
+        → within (getD (F ∷ l) (choose b 0 (suc (firstWithin l E))) 0) E ≡ true
+    go true e k ih = e
+    go false e k ih = ih (omega arith)
 
-  pub found-inside : length struck ≤ a → (b : ℕ) → b ≡ firstWithin found E → eqb b (length found) ≡ free struck found E
+-- ---- the first set of two lists that lies within E
+module _ (l : List ℕ) (E i : ℕ) (p : i ≡ firstWithin l E) where
+  found-within : i < length l → within (getD l i 0) E ≡ true
+  found-within h = subst (λ (v : ℕ). within (getD l v 0) E ≡ true) (sym p) (first-at l E (omega arith))
+
+  found-self : i < length l → contains l (getD l i 0) ≡ true
+  found-self h = contains-intro (getD l i 0) (at-mem l i h) (within-refl (getD l i 0))
+
+  found-none : length l ≤ i → contains l E ≡ false
+  found-none h = contains-first l E ∙ le-ltb (firstWithin l E) (length l) (omega arith)
+
+module _ (struck list : List ℕ) (E i : ℕ) (p : i ≡ firstWithin struck E) where
+  pub bar-struck : i < length struck → (free struck list (getD struck i 0) ≡ false) × (within (getD struck i 0) E ≡ true)
   unfolding free
-  found-inside h b q =
-      let k : contains struck E ≡ false = contains-first struck E ∙ ap (λ (x : ℕ). ltb x (length struck)) (sym p) ∙ le-ltb a (length struck) h in
-      rw (k, contains-first found E, ← q) (ends b (length found) (omega (arith, first-most found E)))
-    where
-      ends : (b n : ℕ) → b ≤ n → eqb b n ≡ not (ltb b n)
-      ends b n h = ⊎-elim (λ (e : b ≡ n). eq-eqb b n e ∙ ap not (sym (le-ltb b n (omega arith)))) (λ (l : b < n). ne-eqb b n (λ e. omega arith) ∙ ap not (sym (lt-ltb b n l))) (eq-or-lt-of-le h)
+  bar-struck h = (ap (λ (b : Bool). not b && not (contains list (getD struck i 0))) (found-self struck E i p h), found-within struck E i p h)
+
+  module _ (k : ℕ) (q : k ≡ firstWithin list E) where
+    pub bar-list : k < length list → (free struck list (getD list k 0) ≡ false) × (within (getD list k 0) E ≡ true)
+    unfolding free
+    bar-list h = (and-none (not (contains struck (getD list k 0))) (ap not (found-self list E k q h)), found-within list E k q h)
+      where
+        and-none : (a : Bool) {b : Bool} → b ≡ false → a && b ≡ false
+        and-none true e = e
+        and-none false e = refl
+
+    pub bar-none : length struck ≤ i → length list ≤ k → free struck list E ≡ true
+    unfolding free
+    bar-none h l = and-intro (ap not (found-none struck E i p h)) (ap not (found-none list E k q l))

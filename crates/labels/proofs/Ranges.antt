@@ -1,13 +1,15 @@
 -- The entries held, and each part of them, have few supports, and each of them a label. Assumes nothing.
 use mathlib.Core.Bool.{true}
-use mathlib.Core.List.{List, List·Memᴰ as Mem, [], _∷_, List·Memᴰ·head as here, List·Memᴰ·tail as there}
+use mathlib.Core.List.{List, List·Memᴰ·eq-of-singleton, List·Memᴰ as Mem, [], _∷_, map, List·Memᴰ·head as here, List·Memᴰ·tail as there}
 use mathlib.Core.Path.{_∙_, _≡_, ap, refl, subst, sym}
 use Prim.Native.Nat.{_+_, _-_, _<_, _≤_, suc, zero, ℕ}
-use native.Mathlib.Nat.{le-of-suc-le-suc, not-suc-le-zero}
 use native.Mathlib.Omega.{arith}
 use lib.ListN.{drop, getD, length, length-drop, length-take, take}
 use lib.Seq.{getD-drop, getD-take}
+use Rattle.labels.proofs.Selects.{at-mem}
 use Rattle.labels.specs.Layout.{Few, Joinable, Ranged, between}
+use Rattle.labels.specs.Moved.{Hushed}
+use Rattle.labels.specs.Pool.{Filled}
 use Rattle.rules.proofs.Entries.{Fits, fits-elim}
 use Rattle.rules.proofs.Laws.{climbs-between}
 use Rattle.rules.proofs.Scan.{right-elim}
@@ -15,11 +17,7 @@ use Rattle.rules.proofs.Steps.{all-first}
 use Rattle.rules.specs.Held.{fitting, heldRight, meaning}
 use Rattle.rules.specs.declared.Entry.{Entry}
 use Rattle.rules.specs.declared.Held.{Held}
-
-mem-at : (l : List ℕ) (i : ℕ) → i < length l → Mem (getD l i 0) l
-mem-at [] i h = absurd (not-suc-le-zero h)
-mem-at (x ∷ l) zero h = here refl
-mem-at (x ∷ l) (suc i) h = there (mem-at l i (le-of-suc-le-suc h))
+use Rattle.theory.specs.Stages.{Justification}
 
 module _ (h : Held) (right : heldRight h ≡ true) (wide : h .assumptions + h .claims ≤ 128) (j : ℕ) (z : Entry) (low : j < h .count) where
   fits : Fits (h .assumptions + h .claims) (getD (h .entries) j z)
@@ -34,7 +32,7 @@ module _ (h : Held) (right : heldRight h ≡ true) (wide : h .assumptions + h .c
   held-ranged = record {
     range = λ i p.
         let l : List ℕ = meaning (getD (h .entries) j z) .supports in
-        let w = climbs-between (h .assumptions + h .claims) 0 l (fits .rising) (getD l i 0) (mem-at l i p) in
+        let w = climbs-between (h .assumptions + h .claims) 0 l (fits .rising) (getD l i 0) (at-mem l i p) in
         (w .0, omega (arith, w .1, wide));
   }
 
@@ -61,6 +59,11 @@ joinable-part l n lo hi h ok = joinable-at (between l lo hi) (λ j z p.
     let k : lo + j < length (take n l) = omega (arith, length-take (hi - lo) (drop lo l), length-drop lo l, length-take n l) in
     as-entry (getD (between l lo hi) j z) (getD (take n l) (lo + j) z) (getD-take (hi - lo) (drop lo l) j z q ∙ getD-drop lo l j z ∙ sym (getD-take n l (lo + j) z r)) (ok .few (lo + j) z k) (ok .ranged (lo + j) z k))
 
+mem-meant : (l : List Entry) (i : ℕ) (z : Entry) → i < length l → Mem (meaning (getD l i z)) (map meaning l)
+mem-meant [] i z h = absurd (omega arith)
+mem-meant (e ∷ l) zero z h = here refl
+mem-meant (e ∷ l) (suc i) z h = there (mem-meant l i z (omega arith))
+
 -- each place of a part
 module _ (l : List Entry) (lo hi j : ℕ) (z : Entry) (ok : Joinable (between l lo hi)) (low : lo ≤ j) (high : j < hi) (room : hi ≤ length l) where
   abbrev k : ℕ
@@ -77,3 +80,12 @@ module _ (l : List Entry) (lo hi j : ℕ) (z : Entry) (ok : Joinable (between l 
 
   pub part-ranged : Ranged (meaning (getD l j z) .supports)
   part-ranged = as-entry (getD l j z) (getD (between l lo hi) k z) same (ok .few k z inside) (ok .ranged k z inside) .1
+
+  part-mem : Mem (meaning (getD l j z)) (map meaning (between l lo hi))
+  part-mem = subst (λ (e : Entry). Mem (meaning e) (map meaning (between l lo hi))) (sym same) (mem-meant (between l lo hi) k z inside)
+
+  pub part-hushed : (L : ℕ → List ℕ) (n : ℕ) (struck moved : List ℕ) (f : Filled) → Hushed L (map meaning (between l lo hi)) n struck moved f → Hushed L (meaning (getD l j z) ∷ []) n struck moved f
+  part-hushed L n struck moved f h = record {
+    long = h .long;
+    refused = λ r m. h .refused r (subst (λ (i : Justification). Mem i (map meaning (between l lo hi))) (sym (List·Memᴰ·eq-of-singleton m)) part-mem);
+  }

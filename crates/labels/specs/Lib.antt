@@ -1,5 +1,5 @@
-pub mod Picked
 pub mod Pool
 pub mod Layout
+pub mod Moved
 pub mod Promised
 pub mod Readings

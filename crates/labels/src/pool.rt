@@ -1,13 +1,35 @@
-// The pool: the smallest sets seen so far, in listing order, in its first so many places; where there is no room the last goes out.
+// The pool: the smallest sets seen so far, in listing order, in its first so many places. Where there is no room the last goes out:
+// it is the bound, and what does not stand before it is refused from then on.
 use sets::Set;
-ghost use mathlib.Core.Bool.{true};
 ghost use mathlib.Core.List.{[], _++_, _∷_};
 ghost use mathlib.Core.Path.{_≡_};
 ghost use Prim.Native.Nat.{_+_, _≤_};
 ghost use lib.ListN.{length, take};
 ghost use Rattle.theory.specs.Lists.{choose};
 ghost use Rattle.theory.specs.Sets.{before, within};
-ghost use Rattle.labels.specs.Pool.{Entered, Roomy, closed, inUse, placed, purged};
+ghost use Rattle.labels.specs.Pool.{Entered, Roomy, boundOf, lateBy, placed, purged};
+
+// How many sets a pool holds, whether one went out, and which did last; why what was just offered is refused from now on.
+pub(crate) struct Fill {
+    pub(crate) count: usize,
+    pub(crate) out: bool,
+    pub(crate) bound: Set,
+    pub(crate) why: Set,
+}
+
+impl Fill {
+    // The same, with another reason.
+    pub(crate) fn because(self, why: Set) -> Fill
+        ensures { λ r. ⌜ r ≡ record { count = self .count; out = self .out; bound = self .bound; why = why } ⌝ }
+    {
+        Fill {
+            count: self.count,
+            out: self.out,
+            bound: self.bound,
+            why,
+        }
+    }
+}
 
 // One place more where x does not contain e.
 fn counted(kept: usize, e: Set, x: Set) -> usize
@@ -63,48 +85,38 @@ fn squeeze(pool: &mut [Set], count: usize, e: Set) -> Set
     carried
 }
 
-// How many sets a count tells of; a count above the room tells too that one went out.
-pub(crate) fn used(room: usize, count: usize) -> usize
-    ensures { λ r. ⌜ r ≡ inUse room count ⌝ }
+// Whether one went out and e does not stand before it.
+pub(crate) fn late(fill: Fill, e: Set) -> bool
+    ensures { λ r. ⌜ r ≡ lateBy (boundOf fill) e ⌝ }
 {
-    if room < count {
-        count - room - 1
+    if fill.out {
+        !sets::before(e, fill.bound)
     } else {
-        count
-    }
-}
-
-// Whether the pool is full and e does not stand before its last set.
-pub(crate) fn shut(pool: &[Set], full: bool, e: Set) -> bool
-    requires { ⌜ (full ≡ true → 1 ≤ length (now pool)) ⌝ }
-    ensures { λ r. ⌜ r ≡ closed full (now (pool .entry)) e ⌝ }
-{
-    if !full {
-        return false;
-    }
-    if sets::before(e, pool[pool.len() - 1]) {
         false
-    } else {
-        true
     }
 }
 
 // e taken in, and those that contain it put out; where there is no room the last goes out.
-pub(crate) fn enter(pool: &mut [Set], count: usize, e: Set) -> usize
-    requires { ⌜ Roomy (now pool) count ⌝ }
-    ensures { λ r. ⌜ Entered (now (pool .entry)) count e (now (pool .exit)) r ⌝ }
+pub(crate) fn enter(pool: &mut [Set], fill: Fill, e: Set) -> Fill
+    requires { ⌜ Roomy (now pool) fill ⌝ }
+    ensures { λ r. ⌜ Entered (now (pool .entry)) fill e (now (pool .exit)) r ⌝ }
 {
     let room = pool.len();
-    let most = used(room, count);
-    let kept = purge(pool, most, e);
+    let kept = purge(pool, fill.count, e);
     let last = squeeze(pool, kept, e);
     if room <= kept {
-        return room + room + 1;
+        return Fill {
+            count: room,
+            out: true,
+            bound: last,
+            why: e,
+        };
     }
     pool[kept] = last;
-    if room < count {
-        room + kept + 2
-    } else {
-        kept + 1
+    Fill {
+        count: kept + 1,
+        out: fill.out,
+        bound: fill.bound,
+        why: e,
     }
 }

@@ -76,8 +76,8 @@ module _ (A count : ℕ) (places : List ℕ) where
   list-says l =
       let long : length (take count places) ≡ count = length-take-le count places (l .few) in
       let pair : (i j : ℕ) → i < j → j < count → (before (getD places i 0) (getD places j 0) ≡ true) × (within (getD places i 0) (getD places j 0) ≡ false) × (within (getD places j 0) (getD places i 0) ≡ false) = λ i j p q.
-          apart-elim (getD places i 0) (getD places j 0)
-          (sym (ap₂ (λ (F E : ℕ). apart F E) (getD-take count places i 0 (omega arith)) (getD-take count places j 0 q)) ∙ sorted-at apart 0 (take count places) (l .sorted) i j p (omega (arith, long))) in
+      apart-elim (getD places i 0) (getD places j 0)
+      (sym (ap₂ (λ (F E : ℕ). apart F E) (getD-take count places i 0 (omega arith)) (getD-take count places j 0 q)) ∙ sorted-at apart 0 (take count places) (l .sorted) i j p (omega (arith, long))) in
       record {
         few = l .few;
         order = λ i j p q. before-elim (getD places i 0) (getD places j 0) (pair i j p q .0);
@@ -250,12 +250,14 @@ module _ (d e : Entry) (n : length (take (d .count) (d .supports)) ≡ d .count)
       let f : Bool = eqb (length l) (length k) in
       let rest : Bool = ltb (length l) (length k) || (f && lesser l k) in
       ⊎-elim (λ a. inl (ltb-true (d .consequent) (e .consequent) a))
-      (λ b. inr (eqb-true (d .consequent) (e .consequent) (and-left c rest b),
-      ⊎-elim (λ x. inl (omega (arith, ltb-true (length l) (length k) x)))
-      (λ y.
-      let g : length l ≡ length k = eqb-true (length l) (length k) (and-left f (lesser l k) y) in
-      inr (omega arith, lesser-earlier l k g (and-right f (lesser l k) y)))
-      (or-cases (ltb (length l) (length k)) (f && lesser l k) (and-right c rest b))))
+      (λ b. inr (
+        eqb-true (d .consequent) (e .consequent) (and-left c rest b),
+        ⊎-elim (λ x. inl (omega (arith, ltb-true (length l) (length k) x)))
+            (λ y.
+            let g : length l ≡ length k = eqb-true (length l) (length k) (and-left f (lesser l k) y) in
+            inr (omega arith, lesser-earlier l k g (and-right f (lesser l k) y)))
+            (or-cases (ltb (length l) (length k)) (f && lesser l k) (and-right c rest b)),
+      ))
       (or-cases (ltb (d .consequent) (e .consequent)) (c && rest) h)
 
   says-ahead : Ahead d e → ahead (meaning d) (meaning e) ≡ true

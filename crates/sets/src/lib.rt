@@ -1,6 +1,6 @@
 // Sets of assumptions as numbers: assumption k is worth 2^(k-1).
 ghost use Prim.Native.Nat.{_≤_};
-ghost use Rattle.sets.specs.Promised.{Before, Has, Low, Only, Union, Within, Without};
+ghost use Rattle.sets.specs.Promised.{Before, Has, Low, Meet, Only, Union, Within, Without};
 
 pub type Set = u32;
 
@@ -9,6 +9,13 @@ pub fn union(a: Set, b: Set) -> Set
     ensures { λ r. ⌜ Union a b r ⌝ }
 {
     a | b
+}
+
+// The assumptions in a and in b.
+pub fn meet(a: Set, b: Set) -> Set
+    ensures { λ r. ⌜ Meet a b r ⌝ }
+{
+    a & b
 }
 
 // Whether a is a subset of b.

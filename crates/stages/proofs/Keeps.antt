@@ -11,7 +11,7 @@ use lib.ListN.{drop, drop-of-length-le, getD, getD-replicate, length, replicate,
 use lib.Seq.{drop-cons, getD-set-other, getD-set-same}
 use native.Mathlib.Nat.{le-of-suc-le-suc, not-suc-le-zero}
 use borrow.Author.Tests.{eq-eqb, eqb-false, eqb-true, ne-eqb, not-true}
-use Rattle.labels.proofs.Visits.{lying-length}
+use Rattle.labels.proofs.Lying.{lying-length}
 use Rattle.labels.specs.Layout.{Layout, lying}
 use Rattle.rules.proofs.Laws.{right-range}
 use Rattle.rules.specs.Held.{meaning, saidBy}
@@ -21,7 +21,7 @@ use Rattle.stages.proofs.Parts.{wide}
 use Rattle.stages.proofs.Stages.{lies, listed-taken, nogoods-lie, nogoods-listed, part-lies}
 use Rattle.stages.specs.Judged.{Judgeable}
 use Rattle.stages.specs.Lists.{listsOf}
-use Rattle.stages.specs.Steps.{Fresh, Listed, Reached, Room, Steady, Told, Untouched, sameLabel, sparedOf, stageBy}
+use Rattle.stages.specs.Steps.{Listed, Room, Stale, Steady, Told, sparedOf, stageBy}
 use Rattle.stages.specs.declared.Lists.{Lists}
 use Rattle.theory.proofs.Following.{follows-keep}
 use Rattle.theory.proofs.Judgement.{same-elim, stage-label, stage-labelIn, stage-nogoods}
@@ -39,7 +39,7 @@ use Rattle.theory.specs.Sets.{before, contains, within}
 use Rattle.theory.specs.Stages.{Justification, labelAt, nogoodsAt}
 use Rattle.theory.specs.Step.{candidates, labelIn}
 
-marked-all : (n : ℕ) → n ≤ 128 → getD (replicate 129 (suc zero)) n zero ≡ zero → ⊥
+pub marked-all : (n : ℕ) → n ≤ 128 → getD (replicate 129 (suc zero)) n zero ≡ zero → ⊥
 marked-all n h z = omega (arith, getD-replicate 129 n (suc zero) zero (omega arith))
 
 told : (b : Bool) → not b ≡ false → b ≡ true
@@ -58,7 +58,7 @@ spared-below l F H w c =
 
 -- ---- over the definitions
 -- what contains a nogood contains one at the next stage
-nogoods-grow : (A : ℕ) (J : List Justification) (k H : ℕ) → not (contains (nogoodsAt A J (suc k)) H) ≡ true → not (contains (nogoodsAt A J k) H) ≡ true
+pub nogoods-grow : (A : ℕ) (J : List Justification) (k H : ℕ) → not (contains (nogoodsAt A J (suc k)) H) ≡ true → not (contains (nogoodsAt A J k) H) ≡ true
 nogoods-grow A J k H c =
     ap not (not-so (contains (nogoodsAt A J k) H) (λ h.
     let g = contains-elim (nogoodsAt A J k) H h in
@@ -125,7 +125,7 @@ module _ (h : Held) (ok : Judgeable h) (k : ℕ) where
       ∙ nogoods-still A J (d .before) (same-at 0 d) ∙ sym (ap (λ (m : ℕ). stageBy h m .nogoods) (d .next) ∙ stage-nogoods A N J (suc (d .before)))
 
   -- ---- a label without a mark
-  module _ (stale : List ℕ) (f : Fresh h k stale) (i : ℕ) (low : i < N) (z : getD stale (i + 1) 0 ≡ 0) where
+  module _ (stale : List ℕ) (f : Stale h k stale) (i : ℕ) (low : i < N) (z : getD stale (i + 1) 0 ≡ 0) where
     steady : Steady h k (i + 1)
     steady = f (i + 1) (omega (arith, wide h ok)) z
 
@@ -153,103 +153,13 @@ module _ (h : Held) (ok : Judgeable h) (k : ℕ) where
 
   -- ---- whether the nogoods changed
   pub news-told : (l : Lists) → l ≡ listsOf k (stageBy h k) → Room (stageBy h k) → (many : ℕ) (later : List ℕ) → Listed (stageBy h (k + 1) .nogoods) many later
-      → (r : Bool) → r ≡ not (eqb (l .count) many && sameSets (l .nogoods) later) → Told h k r
-  news-told l is room many later n r e z =
-      let q : eqb (l .count) many && sameSets (l .nogoods) later ≡ true = told (eqb (l .count) many && sameSets (l .nogoods) later) (sym e ∙ z) in
-      let c : l .count ≡ many = eqb-true (l .count) many (and-left (eqb (l .count) many) (sameSets (l .nogoods) later) q) in
-      let s : l .nogoods ≡ later = same-elim (l .nogoods) later (and-right (eqb (l .count) many) (sameSets (l .nogoods) later) q) in
-      sym (listed-taken (stageBy h (k + 1) .nogoods) many later n) ∙ sym (ap₂ (λ (n : ℕ) (m : List ℕ). take n m) c s) ∙ nogoods-lie k (stageBy h k) room l is
+      → (r : Bool) → r ≡ not (sameSets (take many later) (take (l .count) (l .nogoods))) → r ≡ not (sameSets (stageBy h (k + 1) .nogoods) (stageBy h k .nogoods))
+  news-told l is room many later n r e =
+      e ∙ ap₂ (λ (x y : List ℕ). not (sameSets x y)) (listed-taken (stageBy h (k + 1) .nogoods) many later n) (nogoods-lie k (stageBy h k) room l is)
+
+  pub told-news : (r : Bool) → r ≡ not (sameSets (stageBy h (k + 1) .nogoods) (stageBy h k .nogoods)) → Told h k r
+  told-news r e z = same-elim (stageBy h (k + 1) .nogoods) (stageBy h k .nogoods) (told (sameSets (stageBy h (k + 1) .nogoods) (stageBy h k .nogoods)) (sym e ∙ z))
 
   -- no support of falsity changed: the nogoods stay
   pub kept-listed : Steady h k 0 → (l : Lists) → l ≡ listsOf k (stageBy h k) → Room (stageBy h k) → Listed (stageBy h (k + 1) .nogoods) (l .count) (l .nogoods)
   kept-listed d l is room = subst (λ (n : List ℕ). Listed n (l .count) (l .nogoods)) (sym (nogoods-keep d)) (nogoods-listed k (stageBy h k) room l is)
-
--- ---- the tests of the code
-module _ (a b : ℕ) (t : Bool) where
-  pub news-count : (a ≡ b → ⊥) → true ≡ not (eqb a b && t)
-  news-count h = ap (λ (c : Bool). not (c && t)) (sym (ne-eqb a b h))
-
-  pub news-sets : a ≡ b → (r : Bool) → r ≡ t → not r ≡ not (eqb a b && t)
-  news-sets h r e = ap₂ (λ (c d : Bool). not (c && d)) (sym (eq-eqb a b h)) e
-
-module _ (members sizes later counts : List ℕ) (a : Layout members sizes) (b : Layout later counts) (n : ℕ) (low : 1 ≤ n) (high : n ≤ 128) where
-  pub label-differs : (getD sizes (n - 1) 0 ≡ getD counts (n - 1) 0 → ⊥) → false ≡ sameLabel members sizes later counts n
-  label-differs h =
-      sym (not-so (sameLabel members sizes later counts n) (λ e.
-      h (sym (lying-length members sizes a n low high) ∙ ap length (same-elim (lying members sizes n) (lying later counts n) e) ∙ lying-length later counts b n low high)))
-
-  pub label-compared : getD sizes (n - 1) 0 ≡ getD counts (n - 1) 0 → (r : Bool)
-      → r ≡ sameSets (take (12 * (n - 1) + getD sizes (n - 1) 0 - 12 * (n - 1)) (drop (12 * (n - 1)) members)) (take (12 * (n - 1) + getD sizes (n - 1) 0 - 12 * (n - 1)) (drop (12 * (n - 1)) later))
-      → r ≡ sameLabel members sizes later counts n
-  label-compared e r q =
-      let i : n - 1 + 1 ≡ n = omega arith in
-      q ∙ ap₂ sameSets (part-lies members sizes (n - 1) ∙ ap (lying members sizes) i)
-      (ap (λ (c : ℕ). take (12 * (n - 1) + c - 12 * (n - 1)) (drop (12 * (n - 1)) later)) e ∙ part-lies later counts (n - 1) ∙ ap (lying later counts) i)
-
-module _ (p : ℕ → Bool) (l : List ℕ) (i : ℕ) (inv : allOf p l ≡ allOf p (drop i l)) where
-  pub all-no : i < length l → (r : Bool) → r ≡ p (getD l i 0) → not r ≡ true → false ≡ allOf p l
-  unfolding allOf
-  all-no h r e q = sym (inv ∙ ap (allOf p) (drop-cons l i 0 h) ∙ ap (λ (b : Bool). b && allOf p (drop (suc i) l)) (sym e ∙ not-true r q))
-
-  pub all-on : i < length l → (r : Bool) → r ≡ p (getD l i 0) → not r ≡ false → allOf p l ≡ allOf p (drop (i + 1) l)
-  unfolding allOf
-  all-on h r e q = inv ∙ ap (allOf p) (drop-cons l i 0 h) ∙ ap₂ (λ (b : Bool) (m : ℕ). b && allOf p (drop m l)) (sym e ∙ told r q) (sym (add-one i))
-
-  pub all-end : length l ≤ i → true ≡ allOf p l
-  unfolding allOf
-  all-end h = sym (inv ∙ ap (allOf p) (drop-of-length-le l {i = i} h))
-
--- ---- the marks, justification by justification
-mem-more : (entries : List Entry) (j : ℕ) (z : Entry) → j < length entries → {r : Justification} → Mem r (map meaning (take (suc j) entries)) → Mem r (map meaning (take j entries)) ⊎ (r ≡ meaning (getD entries j z))
-mem-more [] j z h m = absurd (not-suc-le-zero h)
-mem-more (e ∷ l) zero z h m = ⊎-elim inr (λ o. elim o [ ]) (List·Memᴰ·cases-cons m)
-mem-more (e ∷ l) (suc j) z h m = ⊎-elim (λ q. inl (here q)) (λ o. ⊎-elim (λ a. inl (there a)) inr (mem-more l j z (le-of-suc-le-suc h) o)) (List·Memᴰ·cases-cons m)
-
-module _ (same : ℕ → Bool) where
-  pub touched-none : (marks : List ℕ) → Untouched same [] marks
-  touched-none marks = λ n low z r m q. elim m [ ]
-
-  pub touched-turn : (entries : List Entry) (j : ℕ) (z : Entry) → j < length entries → (marks : List ℕ) → Untouched same (map meaning (take j entries)) marks
-      → getD entries j z .consequent < length marks → (v : ℕ) → v ≡ choose (allOf same (meaning (getD entries j z) .supports)) (getD marks (getD entries j z .consequent) 0) 1
-      → Untouched same (map meaning (take (j + 1) entries)) (set marks (getD entries j z .consequent) v)
-  touched-turn entries j z h marks inv low v e = λ n top o r m q.
-      let m′ : Mem r (map meaning (take (suc j) entries)) = subst (λ (i : ℕ). Mem r (map meaning (take i entries))) (add-one j) m in
-      go n top o r (mem-more entries j z h m′) q (eqb n c) refl
-    where
-      c : ℕ
-      c = getD entries j z .consequent
-
-      t : Bool
-      t = allOf same (meaning (getD entries j z) .supports)
-
-      told : (b : Bool) → v ≡ choose b (getD marks c 0) 1 → v ≡ 0 → (b ≡ true) × (getD marks c 0 ≡ 0)
-      told true w o = (refl, sym w ∙ o)
-      told false w o = absurd (omega arith)
-
-      go : (n : ℕ) → n ≤ 128 → getD (set marks c v) n 0 ≡ 0 → (r : Justification) → Mem r (map meaning (take j entries)) ⊎ (r ≡ meaning (getD entries j z)) → r .consequent ≡ n → (b : Bool) → eqb n c ≡ b → allOf same (r .supports) ≡ true
-      go n top o r m q true w =
-          let i : n ≡ c = eqb-true n c w in
-          let k = told t e (sym (getD-set-same marks c v 0 low) ∙ ap (λ (x : ℕ). getD (set marks c v) x 0) (sym i) ∙ o) in
-          ⊎-elim (λ a. inv n top (ap (λ (x : ℕ). getD marks x 0) i ∙ k .1) r a q) (λ a. ap (λ (x : Justification). allOf same (x .supports)) a ∙ k .0) m
-      go n top o r m q false w =
-          let d : n ≡ c → ⊥ = eqb-false n c w in
-          ⊎-elim (λ a. inv n top (sym (getD-set-other marks c n v 0 d) ∙ o) r a q) (λ a. absurd (d (sym q ∙ ap (λ (x : Justification). x .consequent) a))) m
-
-  pub touched-end : (entries : List Entry) (count j : ℕ) → j ≤ count → count ≤ j → (marks : List ℕ) → Untouched same (map meaning (take j entries)) marks → Untouched same (map meaning (take count entries)) marks
-  touched-end entries count j a b marks u = let e : j ≡ count = omega arith in subst (λ (i : ℕ). Untouched same (map meaning (take i entries)) marks) e u
-
--- ---- from one stage to the next
-pub fresh-start : (h : Held) (k : ℕ) → Fresh h k (replicate 129 1)
-fresh-start h k = λ n low z. absurd (marked-all n low z)
-
-pub fresh-on : (h : Held) (l m : Lists) → Reached h l → Reached h m → m .depth ≡ l .depth + 1 → (marks : List ℕ) → Untouched (sameLabel (l .members) (l .sizes) (m .members) (m .sizes)) (saidBy h) marks → Fresh h (m .depth) marks
-fresh-on h l m a b e marks u = λ n low z. record {
-  before = l .depth;
-  next = e ∙ add-one (l .depth);
-  same = λ r i q s t.
-      let top : s ≤ 128 = omega (arith, right-range h (a .judgeable .right) r i .between s t .1, wide h (a .judgeable)) in
-      let w : lying (l .members) (l .sizes) s ≡ lying (m .members) (m .sizes) s =
-      same-elim (lying (l .members) (l .sizes) s) (lying (m .members) (m .sizes) s) (all-elim (sameLabel (l .members) (l .sizes) (m .members) (m .sizes)) (u n low z r i q) t) in
-      ap (λ (k : ℕ). labelIn (stageBy h k .labels) s) (sym (e ∙ add-one (l .depth)))
-      ∙ sym (lies (m .depth) (stageBy h (m .depth)) (b .room) m (b .is) s top) ∙ sym w ∙ lies (l .depth) (stageBy h (l .depth)) (a .room) l (a .is) s top;
-}

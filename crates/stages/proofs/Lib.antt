@@ -5,5 +5,7 @@ pub mod Stages
 pub mod Nexts
 pub mod Keeps
 pub mod Spared
-pub mod Same
+pub mod Compares
+pub mod Marks
+pub mod Relabels
 pub mod Walk

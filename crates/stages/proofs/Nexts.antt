@@ -146,16 +146,16 @@ module _ (k : ℕ) (s : Stage) where
         ap (λ (x : Lists). record { reply = Done; lists = x }) e ∙ ap (λ (m : ℕ). fittedBy false m (listsOf k s)) (sym z) ∙ by-both (listsOf k s)
 
 -- ---- the labels one after the other
-module _ (h : Held) (k i : ℕ) (so : (j : ℕ) → j < i → length (getD (stageBy h k .labels) j []) ≤ 12) where
-  pub over-at : i < length (stageBy h k .labels) → 12 < length (getD (stageBy h k .labels) i []) → (members sizes : List ℕ) → Relabelled h k members sizes (i + 1)
+module _ (h : Held) (k i : ℕ) (so : (j : ℕ) → j < i → length (getD (stageBy h (k + 1) .labels) j []) ≤ 12) where
+  pub over-at : i < length (stageBy h (k + 1) .labels) → 12 < length (getD (stageBy h (k + 1) .labels) i []) → (members sizes marks : List ℕ) → Relabelled h k members sizes marks (i + 1)
   unfolding labelLong
-  over-at low long members sizes =
-      let w : lowestLong 12 1 (stageBy h k .labels) ≡ 1 + i = lowest-at 12 1 (stageBy h k .labels) i low so long in
-      record { over = omega (arith, w); members-are = λ z. absurd (omega arith); sizes-are = λ z. absurd (omega arith) }
+  over-at low long members sizes marks =
+      let w : lowestLong 12 1 (stageBy h (k + 1) .labels) ≡ 1 + i = lowest-at 12 1 (stageBy h (k + 1) .labels) i low so long in
+      record { over = omega (arith, w); members-are = λ z. absurd (omega arith); sizes-are = λ z. absurd (omega arith); marks-are = λ z. absurd (omega arith) }
 
-  pub over-none : length (stageBy h k .labels) ≤ i → 0 ≡ labelLong limits (stageBy h k)
+  pub over-none : length (stageBy h (k + 1) .labels) ≤ i → 0 ≡ labelLong limits (stageBy h (k + 1))
   unfolding labelLong
-  over-none low = sym (lowest-none 12 1 (stageBy h k .labels) (λ j p. so j (omega arith)))
+  over-none low = sym (lowest-none 12 1 (stageBy h (k + 1) .labels) (λ j p. so j (omega arith)))
 
 -- ---- no label so far is over
 module _ (s : Stage) (i : ℕ) where

@@ -138,7 +138,7 @@ module _ (h : Held) (ok : Judgeable h) where
     part-inside : hi ≤ h .count
     part-inside = omega (arith, below-more J n, those-few (λ j. ltb (j .consequent) (n + 1)) J, held-long)
 
-    part-is : map meaning (between (h .entries) lo hi) ≡ those (λ j. eqb (j .consequent) n) J
+    pub part-is : map meaning (between (h .entries) lo hi) ≡ those (λ j. eqb (j .consequent) n) J
     part-is =
         let k : hi - lo ≡ manyOf J n = omega arith in
         said-part (h .entries) (h .count) lo (hi - lo) (omega (arith, part-inside)) (right-inside h (ok .right)) ∙ ap₂ (λ (x y : ℕ). take x (drop y J)) k begin
@@ -182,6 +182,9 @@ module _ (h : Held) (ok : Judgeable h) where
 
     pub first-low : getD t 0 0 ≤ 256
     first-low = omega (arith, tally-low t e 0 0 (omega arith) (sym (below-none J)))
+
+    pub first-is : map meaning (between (h .entries) 0 (getD t 0 0)) ≡ those (λ j. eqb (j .consequent) 0) (saidBy h)
+    first-is = part-is 0 0 (getD t 0 0) (sym (below-none J)) (sym first-end ∙ tally-end t e 0 0 (omega arith) (sym (below-none J)))
 
     pub first-candidates : (L : ℕ → List ℕ) (old : List ℕ) → candidates L old (map meaning (between (h .entries) 0 (getD t 0 0))) 0 ≡ candidates L old J 0
     first-candidates = part-candidates 0 0 (getD t 0 0) (sym (below-none J)) (sym first-end ∙ tally-end t e 0 0 (omega arith) (sym (below-none J)))

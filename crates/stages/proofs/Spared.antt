@@ -19,7 +19,7 @@ use Rattle.stages.proofs.Keeps.{label-struck}
 use Rattle.stages.proofs.Parts.{wide}
 use Rattle.stages.proofs.Stages.{lies, room-short}
 use Rattle.stages.proofs.Tables.{replicate-table}
-use Rattle.stages.specs.Steps.{Fresh, Reached, sparedOf, stageBy}
+use Rattle.stages.specs.Steps.{Reached, Stale, sparedOf, stageBy}
 use Rattle.stages.specs.declared.Lists.{Lists}
 use Rattle.theory.proofs.Depth.{count-all}
 use Rattle.theory.specs.Lists.{keep, those}
@@ -87,7 +87,7 @@ pub left-came : (list struck : List ℕ) {sets sets′ : List ℕ} {count count�
 left-came list struck i s e l = record { inside = l .inside; counted = e ∙ l .counted; lie = s ∙ l .lie }
 
 -- ---- a label without a mark, struck by the nogoods of the next stage
-module _ (h : Held) (l : Lists) (re : Reached h l) (stale : List ℕ) (f : Fresh h (l .depth) stale) (i : ℕ) (low : i < h .assumptions + h .claims) (z : getD stale (i + 1) 0 ≡ 0) where
+module _ (h : Held) (l : Lists) (re : Reached h l) (stale : List ℕ) (f : Stale h (l .depth) stale) (i : ℕ) (low : i < h .assumptions + h .claims) (z : getD stale (i + 1) 0 ≡ 0) where
   abbrev next : List ℕ
   next = getD (stageBy h (l .depth + 1) .labels) i []
 

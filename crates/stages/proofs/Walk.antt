@@ -16,11 +16,10 @@ use Rattle.rules.specs.Held.{saidBy}
 use Rattle.rules.specs.declared.Held.{Held}
 use Rattle.stages.proofs.Nexts.{lowest-none}
 use Rattle.stages.proofs.Parts.{wide}
-use Rattle.stages.proofs.Same.{same-agree}
 use Rattle.stages.proofs.Stages.{start-is}
-use Rattle.stages.specs.Judged.{Judgeable, judgedBy}
+use Rattle.stages.specs.Judged.{Judgeable, judgedBy, refusal}
 use Rattle.stages.specs.Lists.{firstStage, listsOf}
-use Rattle.stages.specs.Steps.{Reached, Room, fitted, fittedBy, sameLists, stageBy}
+use Rattle.stages.specs.Steps.{Reached, Room, fitted, fittedBy, stageBy}
 use Rattle.stages.specs.declared.Judged.{Judged}
 use Rattle.stages.specs.declared.Lists.{Lists}
 use Rattle.theory.proofs.Depth.{consequents-few}
@@ -48,6 +47,26 @@ module _ (k : ℕ) (s : Stage) (r : Judged) (is : r ≡ fitted k s) (n : ℕ) (n
   step-none : (n ≡ 0 → ⊥) → Room s → ⊥
   unfolding fitted
   step-none z o = z (number ∙ ap (λ (x : Judged). numberOf (x .reply)) (is ∙ ap₂ (λ (b : Bool) (m : ℕ). fittedBy b m (listsOf k s)) (o .few) (o .short)))
+
+-- a refusal has no lists, and what is no refusal is done
+module _ (k : ℕ) (s : Stage) (r : Judged) (is : r ≡ fitted k s) where
+  pub refused-is : (numberOf (r .reply) ≡ 0 → ⊥) → refusal (r .reply) ≡ r
+  unfolding fitted
+  refused-is n = go (nogoodsLong limits s) (labelLong limits s) is
+    where
+      go : (b : Bool) (m : ℕ) → r ≡ fittedBy b m (listsOf k s) → refusal (r .reply) ≡ r
+      go true m e = ap (λ (x : Judged). refusal (x .reply)) e ∙ sym e
+      go false (suc m) e = ap (λ (x : Judged). refusal (x .reply)) e ∙ sym e
+      go false zero e = absurd (n (ap (λ (x : Judged). numberOf (x .reply)) e))
+
+  pub done-is : numberOf (r .reply) ≡ 0 → r .reply ≡ Done
+  unfolding fitted
+  done-is z = go (nogoodsLong limits s) (labelLong limits s) is
+    where
+      go : (b : Bool) (m : ℕ) → r ≡ fittedBy b m (listsOf k s) → r .reply ≡ Done
+      go true m e = absurd (omega (arith, z, ap (λ (x : Judged). numberOf (x .reply)) e))
+      go false (suc m) e = absurd (omega (arith, z, ap (λ (x : Judged). numberOf (x .reply)) e))
+      go false zero e = ap (λ (x : Judged). x .reply) e
 
 -- ---- the stages T, each with N labels, which agree from stage e on
 module _ (T : ℕ → Stage) (N : ℕ) (wide : N ≤ 128) (long : (k : ℕ) → length (T k .labels) ≡ N) (e : ℕ) (last : (k : ℕ) → e ≤ k → agree (T k) (T (suc k)) ≡ true) where
@@ -88,12 +107,7 @@ module _ (T : ℕ → Stage) (N : ℕ) (wide : N ≤ 128) (long : (k : ℕ) → 
         let none : Room (T (k + 1)) → ⊥ = step-none (k + 1) (T (k + 1)) r made n number z in
         from-over (k + 1) r made none ∙ sym (ap judgedBy (so ∙ from-on k room (agree-not k room none)))
 
-    module _ (z : n ≡ 0) (b : Bool) (same : b ≡ sameLists l (r .lists)) where
-      agreed : b ≡ agree (T k) (T (k + 1))
-      agreed =
-          same ∙ ap₂ sameLists is (step-lists (k + 1) (T (k + 1)) r made n number z)
-          ∙ same-agree N wide (T k) (T (k + 1)) (long k) (long (k + 1)) room (step-room (k + 1) (T (k + 1)) r made n number z) k (k + 1)
-
+    module _ (z : n ≡ 0) (b : Bool) (agreed : b ≡ agree (T k) (T (k + 1))) where
       turn-settled : b ≡ true → _≡_ {A = Judged} (record { reply = Done; lists = l }) (judgedBy v)
       turn-settled a = ap (λ (x : Lists). record { reply = Done; lists = x }) is ∙ sym (ap judgedBy (so ∙ from-here k room (sym agreed ∙ a)))
 
@@ -172,7 +186,7 @@ module _ (h : Held) (l : Lists) (re : Reached h l) (v : Verdict) (so : v ≡ fro
     unfolding listsOf
     depth-is = ap (λ (x : Lists). x .depth) lists-is
 
-    module _ (b : Bool) (same : b ≡ sameLists l (r .lists)) where
+    module _ (b : Bool) (same : b ≡ agree (stageBy h (l .depth)) (stageBy h (l .depth + 1))) where
       pub judge-settled : b ≡ true → _≡_ {A = Judged} (record { reply = Done; lists = l }) (judgedBy v)
       judge-settled = turn-settled (stageBy h) N (wide h (re .judgeable)) long (most h) last (l .depth) l (re .is) (re .room) v so r made n number z b same
 

@@ -1,8 +1,9 @@
 -- One label more written into its twelve places. Assumes nothing.
+use mathlib.Core.Bool.{Bool, false}
 use mathlib.Core.List.{List, [], _++_, _∷_, append-nil}
 use mathlib.Core.Logic.{⊎-elim}
 use mathlib.Core.Path.{_∙_, _≡_, ap, ap₂, refl, subst, sym}
-use Prim.Native.Nat.{_%_, _*_, _+_, _-_, _/_, _<_, _≤_, suc, ℕ}
+use Prim.Native.Nat.{_%_, _*_, _+_, _-_, _/_, _<_, _≤_, suc, zero, ℕ}
 use native.Mathlib.Decide.{decLt}
 use native.Mathlib.Numerals.{add-one}
 use native.Mathlib.Omega.{arith}
@@ -12,12 +13,14 @@ use lib.Seq.{getD-append-add, getD-drop, getD-take, length-paste, length-paste-h
 use borrow.Author.Tests.{eqb-false, eqb-true}
 use Rattle.stages.proofs.Tables.{set-table, table-same}
 use Rattle.stages.specs.Lists.{listsOf}
-use Rattle.stages.specs.Steps.{Listed}
+use Rattle.stages.specs.Steps.{Listed, markOf}
 use Rattle.stages.specs.declared.Lists.{Lists}
 use Rattle.theory.proofs.Lists.{either}
 use Rattle.theory.proofs.Places.{getD-table, is-table, length-table}
-use Rattle.theory.specs.Judge.{Stage}
+use Rattle.theory.specs.Judge.{Stage, sameSets}
+use Rattle.theory.specs.Lists.{choose}
 use Rattle.theory.specs.Places.{padded, table}
+use Rattle.theory.specs.Step.{labelIn}
 
 -- ---- twelve places written one after the other
 pub write-turn : (m₀ m : List ℕ) (from k : ℕ) (s : List ℕ) → from + 12 ≤ length m₀ → 12 ≤ length s → k < 12 → m ≡ paste m₀ from s k → set m (from + k) (getD s k 0) ≡ paste m₀ from s (k + 1)
@@ -186,3 +189,26 @@ module _ (old new : List (List ℕ)) (n : ℕ) (low : n < length new) where
 
   pub members-written : n < 128 → (l : List ℕ) → l ≡ table 1536 (member (mixed old new n)) → (s : List ℕ) → s ≡ padded 0 32 (getD new n []) → (m : List ℕ) → m ≡ paste l (12 * n) s 12 → m ≡ table 1536 (member (mixed old new (n + 1)))
   members-written h l q s e m w = w ∙ ap₂ (λ (x y : List ℕ). paste x (12 * n) y 12) q e ∙ write-members (mixed old new n) (mixed old new (n + 1)) n h (getD new n []) mixed-here mixed-others
+
+  -- ---- the marks
+  pub marks-kept : getD new n [] ≡ getD old n [] → (l : List ℕ) → l ≡ table 129 (markOf old (mixed old new n)) → l ≡ table 129 (markOf old (mixed old new (n + 1)))
+  unfolding markOf labelIn
+  marks-kept e l q = q ∙ table-same 129 (markOf old (mixed old new n)) (markOf old (mixed old new (n + 1))) 0 (λ i h. go i)
+    where
+      go : (i : ℕ) → markOf old (mixed old new n) i ≡ markOf old (mixed old new (n + 1)) i
+      go zero = refl
+      go (suc i) = ap (λ (x : List ℕ). choose (sameSets x (getD old i [])) 0 1) (mixed-still e i)
+
+  pub marks-written : n < 128 → sameSets (getD new n []) (getD old n []) ≡ false → (l : List ℕ) → l ≡ table 129 (markOf old (mixed old new n)) → set l (n + 1) 1 ≡ table 129 (markOf old (mixed old new (n + 1)))
+  unfolding markOf labelIn
+  marks-written h d l q =
+      ap (λ (x : List ℕ). set x (n + 1) 1) q
+      ∙ set-table 129 (markOf old (mixed old new n)) (markOf old (mixed old new (n + 1))) (n + 1) 1 0 (omega arith)
+      (ap (markOf old (mixed old new (n + 1))) (add-one n) ∙ ap (λ (x : List ℕ). choose (sameSets x (getD old n [])) 0 1) mixed-here ∙ ap (λ (b : Bool). choose b 0 1) d) (λ i ne. go i ne)
+    where
+      past : (i : ℕ) → (suc i ≡ n + 1 → ⊥) → i ≡ n → ⊥
+      past i ne e = ne (ap suc e ∙ sym (add-one n))
+
+      go : (i : ℕ) → (i ≡ n + 1 → ⊥) → markOf old (mixed old new n) i ≡ markOf old (mixed old new (n + 1)) i
+      go zero ne = refl
+      go (suc i) ne = ap (λ (x : List ℕ). choose (sameSets x (getD old i [])) 0 1) (mixed-others i (past i ne))

@@ -1,11 +1,13 @@
 -- One stage after the other, as the code hands them on. Assumes nothing.
-use mathlib.Core.Bool.{Bool, _&&_, false, not, true}
+use mathlib.Core.Bool.{Bool, false, not, true}
 use mathlib.Core.List.{List, List·Memᴰ as Mem}
 use mathlib.Core.Path.{_≡_}
-use Prim.Native.Nat.{_+_, _≤_, suc, zero, ℕ}
+use Prim.Native.Nat.{_*_, _+_, _≤_, suc, zero, ℕ}
 use lib.Dec.{eqb}
-use lib.ListN.{getD, length}
-use Rattle.labels.specs.Layout.{lying}
+use lib.ListN.{getD, length, set}
+use lib.Seq.{paste}
+use Rattle.labels.specs.Moved.{stirs}
+use Rattle.labels.specs.declared.Built.{Built}
 use Rattle.replies.specs.declared.Reply.the-variants.{Done, Label, Nogoods}
 use Rattle.rules.specs.Held.{saidBy}
 use Rattle.rules.specs.declared.Held.{Held}
@@ -13,12 +15,13 @@ use Rattle.stages.specs.Judged.{Judgeable, refusal}
 use Rattle.stages.specs.Lists.{listsOf}
 use Rattle.stages.specs.declared.Judged.{Judged}
 use Rattle.stages.specs.declared.Lists.{Lists}
-use Rattle.theory.specs.Lists.{allOf, those}
+use Rattle.stages.specs.declared.Step.{Step}
+use Rattle.theory.specs.Lists.{choose, those}
 use Rattle.theory.specs.Places.{padded, table}
 use Rattle.theory.specs.Sets.{contains}
 use Rattle.theory.specs.Stages.{Justification}
 use Rattle.theory.specs.Step.{labelIn}
-use Rattle.theory.specs.Judge.{Stage, labelLong, limits, nogoodsLong, sameSets, stageAt}
+use Rattle.theory.specs.Judge.{Stage, agree, labelLong, limits, nogoodsLong, sameSets, stageAt}
 
 -- stage k of the justifications held
 abbrev pub stageBy : Held → ℕ → Stage
@@ -54,11 +57,16 @@ lists members sizes count nogoods depth = record { sizes = sizes; members = memb
 abbrev pub LabelsLie : Held → ℕ → List ℕ → List ℕ → Type 0
 LabelsLie h k members sizes = (count : ℕ) × (nogoods : List ℕ) × Reached h (lists members sizes count nogoods k)
 
--- r is the lowest number whose label is over at stage k; where none is, members and sizes are those of its labels
-pub record Relabelled (h : Held) (k : ℕ) (members sizes : List ℕ) (r : ℕ) : Type 0 where
-  pub over : r ≡ labelLong limits (stageBy h k)
-  pub members-are : r ≡ 0 → members ≡ listsOf k (stageBy h k) .members
-  pub sizes-are : r ≡ 0 → sizes ≡ listsOf k (stageBy h k) .sizes
+-- 1 where the label of n is another
+unfoldable pub markOf : List (List ℕ) → List (List ℕ) → ℕ → ℕ
+markOf old new n = choose (sameSets (labelIn new n) (labelIn old n)) 0 1
+
+-- r is the lowest number whose label is over after stage k; where none is, members and sizes are those of the labels, and the marks tell which changed
+pub record Relabelled (h : Held) (k : ℕ) (members sizes marks : List ℕ) (r : ℕ) : Type 0 where
+  pub over : r ≡ labelLong limits (stageBy h (k + 1))
+  pub members-are : r ≡ 0 → members ≡ listsOf (k + 1) (stageBy h (k + 1)) .members
+  pub sizes-are : r ≡ 0 → sizes ≡ listsOf (k + 1) (stageBy h (k + 1)) .sizes
+  pub marks-are : r ≡ 0 → marks ≡ table 129 (markOf (stageBy h k .labels) (stageBy h (k + 1) .labels))
 
 -- how many justifications of n are in the list
 abbrev pub manyOf : List Justification → ℕ → ℕ
@@ -74,18 +82,6 @@ pub record Listed (nogoods : List ℕ) (count : ℕ) (places : List ℕ) : Type 
   pub few : count ≤ 32
   pub lie : places ≡ padded 0 32 nogoods
 
--- all labels and nogoods are the same
-unfoldable pub sameLists : Lists → Lists → Bool
-sameLists l m = eqb (l .count) (m .count) && (sameSets (l .sizes) (m .sizes) && (sameSets (l .members) (m .members) && sameSets (l .nogoods) (m .nogoods)))
-
--- the label of n is the same in both, as they lie
-abbrev pub sameLabel : List ℕ → List ℕ → List ℕ → List ℕ → ℕ → Bool
-sameLabel members sizes later counts n = sameSets (lying members sizes n) (lying later counts n)
-
--- where the mark of n is 0, every support of its justifications passes the test
-abbrev pub Untouched : (ℕ → Bool) → List Justification → List ℕ → Type 0
-Untouched same J marks = (n : ℕ) → n ≤ 128 → getD marks n 0 ≡ 0 → (r : Justification) → Mem r J → r .consequent ≡ n → allOf same (r .supports) ≡ true
-
 -- no label that the list of n is made of changed in the step to stage k
 pub record Steady (h : Held) (k n : ℕ) : Type 0 where
   pub before : ℕ
@@ -93,8 +89,22 @@ pub record Steady (h : Held) (k n : ℕ) : Type 0 where
   pub same : (r : Justification) → Mem r (saidBy h) → r .consequent ≡ n → (s : ℕ) → Mem s (r .supports) → labelIn (stageBy h (suc before) .labels) s ≡ labelIn (stageBy h before .labels) s
 
 -- each list without a mark is so
-abbrev pub Fresh : Held → ℕ → List ℕ → Type 0
-Fresh h k stale = (n : ℕ) → n ≤ 128 → getD stale n 0 ≡ 0 → Steady h k n
+abbrev pub Stale : Held → ℕ → List ℕ → Type 0
+Stale h k stale = (n : ℕ) → n ≤ 128 → getD stale n 0 ≡ 0 → Steady h k n
+
+-- a mark for each number; where there is none at place 0, each label without one is that of the stage before
+pub record Since (h : Held) (k : ℕ) (moved : List ℕ) : Type 0 where
+  pub before : ℕ
+  pub next : k ≡ suc before
+  pub same : (s : ℕ) → s ≤ 128 → getD moved s 0 ≡ 0 → labelIn (stageBy h (suc before) .labels) s ≡ labelIn (stageBy h before .labels) s
+
+pub record Fresh (h : Held) (k : ℕ) (moved : List ℕ) : Type 0 where
+  pub long : length moved ≡ 129
+  pub since : getD moved 0 0 ≡ 0 → Since h k moved
+
+-- where the mark of n is 0 it is not the first step, and no justification of n is stirred
+abbrev pub Touched : List ℕ → List Justification → List ℕ → Type 0
+Touched moved J marks = (n : ℕ) → n ≤ 128 → getD marks n 0 ≡ 0 → (getD moved 0 0 ≡ 0) × ((r : Justification) → Mem r J → r .consequent ≡ n → stirs moved (r .supports) ≡ false)
 
 -- no news: the nogoods are the same at the next stage
 abbrev pub Told : Held → ℕ → Bool → Type 0
@@ -103,3 +113,14 @@ Told h k news = news ≡ false → stageBy h (k + 1) .nogoods ≡ stageBy h k .n
 -- those of the list that contain no set struck
 abbrev pub sparedOf : List ℕ → List ℕ → List ℕ
 sparedOf struck l = those (λ E. not (contains struck E)) l
+
+-- a label is put in its places, with its size and a mark; or nothing where it is the old one
+abbrev pub Put : Bool → ℕ → Built → List ℕ → List ℕ → List ℕ → List ℕ → List ℕ → List ℕ → Type 0
+Put same at label later counts marks later′ counts′ marks′ =
+    (later′ ≡ choose same later (paste later (12 * at) (label .sets) 12)) × (counts′ ≡ choose same counts (set counts at (label .count))) × (marks′ ≡ choose same marks (set marks (at + 1) 1))
+
+-- r is the step from stage k to the next
+pub record Stepped (h : Held) (k : ℕ) (r : Step) : Type 0 where
+  pub answer : _≡_ {A = Judged} (record { reply = r .reply; lists = r .lists }) (fitted (k + 1) (stageBy h (k + 1)))
+  pub fresh : r .reply ≡ Done → Fresh h (k + 1) (r .moved)
+  pub agrees : r .reply ≡ Done → r .same ≡ agree (stageBy h k) (stageBy h (k + 1))

@@ -5,17 +5,19 @@ use rules::Entry;
 use rules::Held;
 ghost use mathlib.Core.Bool.{_&&_, not};
 ghost use mathlib.Core.Path.{_≡_};
-ghost use Prim.Native.Nat.{_+_, _≤_};
+ghost use Prim.Native.Nat.{_+_, _<_, _≤_};
 ghost use lib.Dec.{eqb};
-ghost use lib.ListN.{getD, length, take};
+ghost use lib.ListN.{getD, length, replicate, take};
 ghost use lib.Seq.{paste};
 ghost use Rattle.theory.specs.Lists.{allOf, choose};
 ghost use Rattle.rules.specs.Held.{meaning, saidBy};
-ghost use Rattle.labels.specs.Layout.{Few, Layout, Ranged};
+ghost use Rattle.labels.specs.Layout.{Few, Ranged};
+ghost use Rattle.labels.specs.Moved.{stirs};
 ghost use Rattle.labels.specs.Promised.{builtOf};
 ghost use Rattle.theory.specs.Judge.{sameSets};
 ghost use Rattle.stages.specs.Judged.{Judge, Judgeable, Start, refusal};
-ghost use Rattle.stages.specs.Steps.{Fresh, LabelsLie, Reached, Relabelled, Steady, Told, Untouched, fitted, lists, sameLabel, sameLists, sparedOf, stageBy, tallied};
+ghost use Rattle.stages.specs.Lists.{noLists};
+ghost use Rattle.stages.specs.Steps.{Fresh, LabelsLie, Put, Reached, Relabelled, Stale, Steady, Stepped, Told, Touched, lists, sparedOf, stageBy, tallied};
 
 // The labels and nogoods of a stage: label n at its own twelve places 12 (n - 1) up, its size beside it; unused places zero.
 pub struct Lists {
@@ -72,15 +74,38 @@ pub fn start(assumptions: u8) -> Lists
     }
 }
 
+// A step to the next stage: its lists or the refusal, a mark for each label that changed in it, and whether no list did.
+struct Step {
+    reply: Reply,
+    lists: Lists,
+    moved: [u8; 129],
+    same: bool,
+}
+
+// A refusal, with no lists.
+fn stopped(reply: Reply) -> Step
+    ensures { λ r. ⌜ (r .reply ≡ reply) × (r .lists ≡ noLists) ⌝ }
+{
+    let none = refused(reply);
+    let lists = none.lists;
+    Step {
+        reply,
+        lists,
+        moved: [0u8; 129],
+        same: false,
+    }
+}
+
 impl Lists {
     // The lists of the next stage, or the refusal: its nogoods first, then every label with those nogoods.
-    fn next(self, held: Held, tallies: [u16; 129], stale: [u8; 129]) -> Judged
-        requires { ⌜ Reached held self × (tallies ≡ tallied held) × Fresh held (self .depth) stale ⌝ }
-        ensures { λ r. ⌜ r ≡ fitted (self .depth + 1) (stageBy held (self .depth + 1)) ⌝ }
+    fn next(self, held: Held, tallies: [u16; 129], moved: [u8; 129]) -> Step
+        requires { ⌜ Reached held self × (tallies ≡ tallied held) × Fresh held (self .depth) moved ⌝ }
+        ensures { λ r. ⌜ Stepped held (self .depth) r ⌝ }
     {
         let before = self.count;
         let nogoods = self.nogoods;
         let depth = self.depth;
+        let stale = touched(held, &moved);
         let built = refuted(
             held,
             tallies[0] as usize,
@@ -90,19 +115,22 @@ impl Lists {
             nogoods,
             before,
             stale[0],
+            &moved,
         );
         let count = built.count;
         if 32 < count {
-            return refused(Reply::Nogoods);
+            return stopped(Reply::Nogoods);
         }
         let struck = built.sets;
-        let news = changed(before, nogoods, count, struck);
+        let news = differs(built, &nogoods[..before]);
         let mut members = self.members;
         let mut sizes = self.sizes;
+        let mut marks = [0u8; 129];
         let over = relabel(
             held,
             tallies,
             stale,
+            &moved,
             news,
             depth,
             &self.members,
@@ -110,11 +138,13 @@ impl Lists {
             &struck[..count],
             &mut members,
             &mut sizes,
+            &mut marks,
         );
         if over != 0 {
-            return refused(Reply::Label(over));
+            return stopped(Reply::Label(over));
         }
-        Judged {
+        let same = still(news, &marks);
+        Step {
             reply: Reply::Done,
             lists: Lists {
                 sizes,
@@ -123,23 +153,9 @@ impl Lists {
                 nogoods: struck,
                 depth: depth + 1,
             },
+            moved: marks,
+            same,
         }
-    }
-
-    // Whether all labels and nogoods are the same.
-    fn same(self, other: Lists) -> bool
-        ensures { λ r. ⌜ r ≡ sameLists self other ⌝ }
-    {
-        if self.count != other.count {
-            return false;
-        }
-        if same_sizes(&self.sizes, &other.sizes) {
-            if same_sets(&self.members, &other.members) {
-                return same_sets(&self.nogoods, &other.nogoods);
-            }
-            return false;
-        }
-        false
     }
 }
 
@@ -153,8 +169,9 @@ fn refuted<'a>(
     old: [u32; 32],
     count: usize,
     stale: u8,
+    moved: &[u8],
 ) -> Built
-    requires { ⌜ Reached held (lists (now members) (now sizes) count old depth) × (end ≡ getD (tallied held) 0 0) × (stale ≡ 0 → Steady held depth 0) ⌝ }
+    requires { ⌜ Reached held (lists (now members) (now sizes) count old depth) × (end ≡ getD (tallied held) 0 0) × (stale ≡ 0 → Steady held depth 0) × Fresh held depth (now moved) ⌝ }
     ensures { λ r. ⌜ r ≡ builtOf 32 (take (32 + 1) (stageBy held (depth + 1) .nogoods)) ⌝ }
 {
     if stale == 0 {
@@ -170,15 +187,17 @@ fn refuted<'a>(
         sizes,
         &old[..count],
         &none[..0],
+        moved,
         32,
     )
 }
 
-// The labels of the next stage over the old ones: those that are stale built, of the others what the nogoods leave where they changed. The lowest number whose label is over, or 0.
+// The labels of the next stage over the old ones, a mark for each that changed: those that are stale built, of the others what the nogoods leave where they changed. The lowest number whose label is over, or 0.
 fn relabel<'a>(
     held: Held,
     tallies: [u16; 129],
     stale: [u8; 129],
+    moved: &[u8],
     news: bool,
     depth: u8,
     members: &'a [u32],
@@ -186,54 +205,87 @@ fn relabel<'a>(
     struck: &'a [u32],
     later: &mut [u32],
     counts: &mut [u8],
+    marks: &mut [u8],
 ) -> u8
-    requires { ⌜ LabelsLie held depth (now members) (now sizes) × (tallies ≡ tallied held) × (now struck ≡ stageBy held (depth + 1) .nogoods) × Fresh held depth stale × Told held depth news × (now later ≡ now members) × (now counts ≡ now sizes) ⌝ }
-    ensures { λ r. ⌜ Relabelled held (depth + 1) (now (later .exit)) (now (counts .exit)) r ⌝ }
+    requires { ⌜ LabelsLie held depth (now members) (now sizes) × (tallies ≡ tallied held) × (now struck ≡ stageBy held (depth + 1) .nogoods) × Stale held depth stale × Fresh held depth (now moved) × Told held depth news × (now later ≡ now members) × (now counts ≡ now sizes) × (now marks ≡ replicate 129 0) ⌝ }
+    ensures { λ r. ⌜ Relabelled held depth (now (later .exit)) (now (counts .exit)) (now (marks .exit)) r ⌝ }
 {
     let top = held.assumptions + held.claims;
-    let mut lo = tallies[0] as usize;
+    let mut hi = tallies[0] as usize;
     let mut i = 0u8;
     while i < top {
         let at = i as usize;
-        let hi = lo + tallies[at + 1] as usize;
+        let lo = hi;
+        hi = lo + tallies[at + 1] as usize;
+        i += 1;
         let from = 12 * at;
         let end = from + sizes[at] as usize;
+        let old = &members[from..end];
         if stale[at + 1] != 0 {
-            let label = labels::build(
-                held,
-                lo,
-                hi,
-                i + 1,
-                members,
-                sizes,
-                &members[from..end],
-                struck,
-                12,
-            );
+            let label = labels::build(held, lo, hi, i, members, sizes, old, struck, moved, 12);
             if 12 < label.count {
-                return i + 1;
+                return i;
             }
-            write(later, from, label);
-            counts[at] = label.count as u8;
-        } else if news {
-            let label = strike(&members[from..end], struck);
-            write(later, from, label);
-            counts[at] = label.count as u8;
+            put(later, counts, marks, at, label, old);
+            continue;
         }
-        lo = hi;
-        i += 1;
+        if !news {
+            continue;
+        }
+        let label = strike(old, struck);
+        put(later, counts, marks, at, label, old);
     }
     0
 }
 
-// Whether the nogoods changed.
-fn changed(count: usize, nogoods: [u32; 32], many: usize, later: [u32; 32]) -> bool
-    ensures { λ r. ⌜ r ≡ not (eqb count many && sameSets nogoods later) ⌝ }
+// A label put in its places with its size and a mark, where it is another than the old one.
+fn put(later: &mut [u32], counts: &mut [u8], marks: &mut [u8], at: usize, label: Built, old: &[u32])
+    requires { ⌜ (label .count ≤ 12) × (at < 128) × (length (now later) ≡ 1536) × (length (now counts) ≡ 128) × (length (now marks) ≡ 129) ⌝ }
+    ensures { λ _. ⌜ Put (sameSets (take (label .count) (label .sets)) (now (old .entry))) at label (now (later .entry)) (now (counts .entry)) (now (marks .entry)) (now (later .exit)) (now (counts .exit)) (now (marks .exit)) ⌝ }
 {
-    if count != many {
+    if !differs(label, old) {
+        return;
+    }
+    write(later, 12 * at, label);
+    counts[at] = label.count as u8;
+    marks[at + 1] = 1;
+}
+
+// Whether a list as it was built is another than the old one.
+fn differs(list: Built, old: &[u32]) -> bool
+    requires { ⌜ list .count ≤ 32 ⌝ }
+    ensures { λ r. ⌜ r ≡ not (sameSets (take (list .count) (list .sets)) (now (old .entry))) ⌝ }
+{
+    let count = list.count;
+    if old.len() != count {
         return true;
     }
-    !same_sets(&nogoods, &later)
+    let sets = list.sets;
+    let mut i = 0;
+    while i < count {
+        if sets[i] != old[i] {
+            return true;
+        }
+        i += 1;
+    }
+    false
+}
+
+// Whether there is no news and no mark.
+fn still(news: bool, marks: &[u8]) -> bool
+    ensures { λ r. ⌜ r ≡ not news && allOf (eqb 0) (now (marks .entry)) ⌝ }
+{
+    if news {
+        return false;
+    }
+    let mut i = 0;
+    while i < marks.len() {
+        if marks[i] != 0 {
+            return false;
+        }
+        i += 1;
+    }
+    true
 }
 
 // Those of a list that contain no set struck.
@@ -285,117 +337,31 @@ fn tally(held: Held) -> [u16; 129]
     tallies
 }
 
-// Whether two lists of sizes of one length are the same.
-fn same_sizes(a: &[u8], b: &[u8]) -> bool
-    requires { ⌜ length (now a) ≡ length (now b) ⌝ }
-    ensures { λ r. ⌜ r ≡ sameSets (now (a .entry)) (now (b .entry)) ⌝ }
+// The mark of the consequent after one justification of it more: 1 where it is stirred.
+fn marked(entry: Entry, mark: u8, moved: &[u8]) -> u8
+    requires { ⌜ Few entry × Ranged (meaning entry .supports) × (length (now moved) ≡ 129) ⌝ }
+    ensures { λ r. ⌜ r ≡ choose (stirs (now (moved .entry)) (meaning entry .supports)) 1 mark ⌝ }
 {
-    let mut i = 0;
-    while i < a.len() {
-        if a[i] != b[i] {
-            return false;
-        }
-        i += 1;
-    }
-    true
-}
-
-// Whether two lists of sets of one length are the same.
-fn same_sets(a: &[u32], b: &[u32]) -> bool
-    requires { ⌜ length (now a) ≡ length (now b) ⌝ }
-    ensures { λ r. ⌜ r ≡ sameSets (now (a .entry)) (now (b .entry)) ⌝ }
-{
-    let mut i = 0;
-    while i < a.len() {
-        if a[i] != b[i] {
-            return false;
-        }
-        i += 1;
-    }
-    true
-}
-
-// Whether the label of n is the same in both.
-fn same_label<'a>(
-    n: u8,
-    members: &'a [u32],
-    sizes: &'a [u8],
-    later: &'a [u32],
-    counts: &'a [u8],
-) -> bool
-    requires { ⌜ (1 ≤ n) × (n ≤ 128) × Layout (now members) (now sizes) × Layout (now later) (now counts) ⌝ }
-    ensures { λ r. ⌜ r ≡ sameLabel (now (members .entry)) (now (sizes .entry)) (now (later .entry)) (now (counts .entry)) n ⌝ }
-{
-    let i = n as usize - 1;
-    if sizes[i] != counts[i] {
-        return false;
-    }
-    let size = sizes[i] as usize;
-    let from = 12 * i;
-    let end = from + size;
-    same_sets(&members[from..end], &later[from..end])
-}
-
-// Whether the labels of all supports are the same in both.
-fn steady<'a>(
-    supports: &[u8],
-    members: &'a [u32],
-    sizes: &'a [u8],
-    later: &'a [u32],
-    counts: &'a [u8],
-) -> bool
-    requires { ⌜ Ranged (now supports) × Layout (now members) (now sizes) × Layout (now later) (now counts) ⌝ }
-    ensures { λ r. ⌜ r ≡ allOf (sameLabel (now (members .entry)) (now (sizes .entry)) (now (later .entry)) (now (counts .entry))) (now (supports .entry)) ⌝ }
-{
-    let mut i = 0;
-    while i < supports.len() {
-        if !same_label(supports[i], members, sizes, later, counts) {
-            return false;
-        }
-        i += 1;
-    }
-    true
-}
-
-// The mark of the consequent after one justification of it more: 1 where the label of a support changed.
-fn marked<'a>(
-    entry: Entry,
-    mark: u8,
-    members: &'a [u32],
-    sizes: &'a [u8],
-    later: &'a [u32],
-    counts: &'a [u8],
-) -> u8
-    requires { ⌜ Few entry × Ranged (meaning entry .supports) × Layout (now members) (now sizes) × Layout (now later) (now counts) ⌝ }
-    ensures { λ r. ⌜ r ≡ choose (allOf (sameLabel (now (members .entry)) (now (sizes .entry)) (now (later .entry)) (now (counts .entry))) (meaning entry .supports)) mark 1 ⌝ }
-{
-    let most = entry.count as usize;
-    let supports = entry.supports;
-    if steady(&supports[..most], members, sizes, later, counts) {
-        mark
-    } else {
+    if labels::stirred(entry, moved) {
         1
+    } else {
+        mark
     }
 }
 
-// A mark for each list that has to be built at the next stage: the label of a support of one of its justifications changed.
-fn touched<'a>(
-    held: Held,
-    members: &'a [u32],
-    sizes: &'a [u8],
-    later: &'a [u32],
-    counts: &'a [u8],
-) -> [u8; 129]
-    requires { ⌜ Judgeable held × Layout (now members) (now sizes) × Layout (now later) (now counts) ⌝ }
-    ensures { λ r. ⌜ Untouched (sameLabel (now (members .entry)) (now (sizes .entry)) (now (later .entry)) (now (counts .entry))) (saidBy held) r ⌝ }
+// A mark for each list that has to be built: one of its justifications is stirred. In the first step all are marked.
+fn touched(held: Held, moved: &[u8]) -> [u8; 129]
+    requires { ⌜ Judgeable held × (length (now moved) ≡ 129) ⌝ }
+    ensures { λ r. ⌜ Touched (now (moved .entry)) (saidBy held) r ⌝ }
 {
     let count = held.count;
-    let mut marks = [0u8; 129];
+    let first = moved[0];
+    let mut marks = [first; 129];
     let mut j = 0;
     while j < count {
         let entry = held.entries[j];
         let n = entry.consequent as usize;
-        marks[n] = marked(entry, marks[n], members, sizes, later, counts);
+        marks[n] = marked(entry, marks[n], moved);
         j += 1;
     }
     marks
@@ -408,27 +374,22 @@ pub fn judge(held: Held) -> Judged
 {
     let tallies = tally(held);
     let mut lists = start(held.assumptions);
-    let mut stale = [1u8; 129];
+    let mut moved = [1u8; 129];
     loop {
-        let step = lists.next(held, tallies, stale);
+        let step = lists.next(held, tallies, moved);
         let reply = step.reply;
         if replies::number(reply) != 0 {
-            return step;
+            return refused(reply);
         }
-        let later = step.lists;
-        if lists.same(later) {
+        if step.same {
             return Judged {
                 reply: Reply::Done,
                 lists,
             };
         }
-        stale = touched(
-            held,
-            &lists.members,
-            &lists.sizes,
-            &later.members,
-            &later.sizes,
-        );
+        let marks = step.moved;
+        moved = marks;
+        let later = step.lists;
         lists = later;
     }
 }

@@ -1,25 +1,24 @@
 -- `labels::gather` meets its contract: its measure is the number of supports left. Assumes nothing.
-use mathlib.Core.Path.{sym}
-use Prim.Native.Nat.{_-_, _<_, _≤_, ℕ}
+use mathlib.Core.Path.{_∙_, sym}
+use Prim.Native.Nat.{_-_, _<_, ℕ}
 use native.Mathlib.Omega.{arith}
-use lib.ListN.{drop, getD, length}
+use lib.ListN.{getD, length}
 use lib.Seq.{length-take-le}
 use borrow.Author.Needs.{needs}
 use borrow.Fn.Kinds.{In}
 use borrow.Fn.PlainCycle.{Measures, and, falls, is}
-use Rattle.labels.proofs.Offering.{Left, gather-cut, gather-end, joins-first, joins-next, joins-past, left-all, left-end, left-roomy, left-turn, offer-in}
-use Rattle.labels.proofs.Pools.{full-some}
-use Rattle.labels.proofs.Visits.{left-fewer, left-ranged}
-use Rattle.labels.specs.Layout.{lying}
-use Rattle.theory.specs.Lists.{each}
-use Rattle.theory.specs.Sets.{union}
-use Rattle.theory.specs.Step.{joins}
+use Rattle.labels.proofs.Gathers.{gather-barred, gather-end}
+use Rattle.labels.proofs.Loops.{Turning, turn-late, turn-passed, turn-visited, turning-end, turning-none, turning-roomy}
+use Rattle.labels.proofs.Lying.{left-fewer, left-ranged}
 use Rattle.labels.proofs.gather.Reads as gather
 use Rattle.labels.proofs.gather.Kinds as gather-kinds
 use Rattle.labels.proofs.+gather.Lts-gather as gather-lts
-use Rattle.labels.proofs.passes.Reads as passes-reads
+use Rattle.labels.proofs.barred.Reads as barred-reads
+use Rattle.labels.proofs.first_within.Reads as first-within-reads
+use Rattle.labels.proofs.pool.Fill.because.Reads as because-reads
 use Rattle.labels.proofs.pool.enter.Reads as enter-reads
-use Rattle.labels.proofs.pool.used.Reads as used-reads
+use Rattle.labels.proofs.pool.late.Reads as late-reads
+use Rattle.sets.proofs.meet.Reads as meet-reads
 use Rattle.sets.proofs.union.Reads as union-reads
 use Rattle.labels.proofs.+gather.{statement}
 use Rattle.labels.proofs.+gather.Tie.{close}
@@ -34,36 +33,58 @@ abbrev gather-below : ℕ → In 4 gather-kinds.ps
 gather-below t = and 4 gather-kinds.ps (falls 4 gather-kinds.ps _<_ μ-gather t) gather.Pre
 
 abbrev gather-Inv-loop : gather-lts.InvT-loop
-gather-Inv-loop members sizes supports struck joined pool₀ count room used full most i size from left now₀ k₀ pool now k =
-    (k ≤ size) × Left struck (joins (lying members sizes) joined supports) pool₀ count (each (λ F. joins (lying members sizes) (union joined F) (drop 1 supports)) (drop k (lying members sizes (getD supports 0 0)))) pool now
+gather-Inv-loop members sizes supports struck joined pool₀ count i size from left spent₀ n₀ why₀ now₀ k₀ pool spent n why now k =
+    Turning members sizes supports struck joined pool₀ now₀ pool spent n why now k
 
 abbrev gather-μ-loop : gather-lts.MeasureT-loop
-gather-μ-loop members sizes supports struck joined pool₀ count room used full most i size from left now₀ k₀ pool now k = size - k
+gather-μ-loop members sizes supports struck joined pool₀ count i size from left spent₀ n₀ why₀ now₀ k₀ pool spent n why now k = size - k
 
 abbrev claims : ℕ → gather-lts.Claims
-claims t = (used-reads.Asked, used-reads.Learnt, passes-reads.Asked, passes-reads.Learnt, enter-reads.Asked, enter-reads.Learnt, union-reads.Asked, union-reads.Learnt, gather-below t, gather.Post)
+claims t = (
+  barred-reads.Asked,
+  barred-reads.Learnt,
+  because-reads.Asked,
+  because-reads.Learnt,
+  enter-reads.Asked,
+  enter-reads.Learnt,
+  union-reads.Asked,
+  union-reads.Learnt,
+  late-reads.Asked,
+  late-reads.Learnt,
+  first-within-reads.Asked,
+  first-within-reads.Learnt,
+  gather-below t,
+  gather.Post,
+  meet-reads.Asked,
+  meet-reads.Learnt,
+)
 
 module _ (t : ℕ) where
-  used-requires : gather-lts.Need-used-requires (claims t) (gather-at t) gather.Post gather-Inv-loop gather-μ-loop
-  used-requires c κs = search needs
+  slice-reshare-prefix-barred : gather-lts.Need-slice-reshare-prefix-barred (claims t) (gather-at t) gather.Post gather-Inv-loop gather-μ-loop
+  slice-reshare-prefix-barred c = omega (arith, c .before .before .before .before .before .pre .1 .2 .fits)
 
-  add-full : gather-lts.Need-add-full (claims t) (gather-at t) gather.Post gather-Inv-loop gather-μ-loop
-  add-full c = omega (arith, c .before .before .before .before .before .before .pre .1 .2 .few)
+  slice-aggregate-barred : gather-lts.Need-slice-aggregate-barred (claims t) (gather-at t) gather.Post gather-Inv-loop gather-μ-loop
+  slice-aggregate-barred c = sym (length-take-le _ _ (c .before .before .before .before .before .before .pre .1 .2 .fits))
 
-  slice-reshare-prefix-passes : gather-lts.Need-slice-reshare-prefix-passes (claims t) (gather-at t) gather.Post gather-Inv-loop gather-μ-loop
-  slice-reshare-prefix-passes c = omega (arith, c .used .ensures, c .before .before .before .before .before .before .pre .1 .2 .fits)
+  barred-requires : gather-lts.Need-barred-requires (claims t) (gather-at t) gather.Post gather-Inv-loop gather-μ-loop
+  barred-requires c κs = search needs
 
-  slice-aggregate-passes : gather-lts.Need-slice-aggregate-passes (claims t) (gather-at t) gather.Post gather-Inv-loop gather-μ-loop
-  slice-aggregate-passes c = sym (length-take-le (c .before .used .result) (c .before .before .before .before .before .before .before .args .pool .now) (omega (arith, c .before .used .ensures, c .before .before .before .before .before .before .before .pre .1 .2 .fits)))
+  enum-known-bar : gather-lts.Need-enum-known-bar (claims t) (gather-at t) gather.Post gather-Inv-loop gather-μ-loop
+  enum-known-bar c = search needs
 
-  passes-requires : gather-lts.Need-passes-requires (claims t) (gather-at t) gather.Post gather-Inv-loop gather-μ-loop
-  passes-requires c κs = full-some (c .before .before .before .before .before .before .before .args .pool .now) _ _ (c .before .before .before .before .before .before .before .pre .1 .2) (c .before .used .ensures)
+  because-requires : gather-lts.Need-because-requires (claims t) (gather-at t) gather.Post gather-Inv-loop gather-μ-loop
+  because-requires c κs = search needs
 
   same-length : gather-lts.Need-same-length (claims t) (gather-at t) gather.Post gather-Inv-loop gather-μ-loop
   same-length c = search needs
 
   returns : gather-lts.Need-returns (claims t) (gather-at t) gather.Post gather-Inv-loop gather-μ-loop
-  returns c = gather-cut _ _ (c .before .before .before .before .before .before .before .before .before .args .pool .now) (c .before .before .before .before .before .before .before .before .before .args .count) (c .before .before .before .before .before .before .before .before .before .pre .1 .2 .fits) _ (c .before .before .before .used .ensures) _ (c .before .passes .ensures) _ (c .before .before .before .before .before .before .before .before .before .args .supports .now) (c .if1 .taken)
+  returns c =
+      let s = c .before .before .before .before .before .before .before .before .before .before .before in
+      gather-barred _ _ (s .args .supports .now) (s .args .joined) (s .args .pool .now) (s .args .fill) (s .pre .1 .2 .fits) _ (c .before .before .before .before .barred .ensures) _ (c .before .before .bar .given .1) _ (c .because .ensures)
+
+  enum-told : gather-lts.Need-enum-told (claims t) (gather-at t) gather.Post gather-Inv-loop gather-μ-loop
+  enum-told c = search needs
 
   enter-requires : gather-lts.Need-enter-requires (claims t) (gather-at t) gather.Post gather-Inv-loop gather-μ-loop
   enter-requires c κs = c .before .before .before .before .before .before .before .before .before .before .before .pre .1 .2
@@ -74,25 +95,25 @@ module _ (t : ℕ) where
   returns-2 : gather-lts.Need-returns-2 (claims t) (gather-at t) gather.Post gather-Inv-loop gather-μ-loop
   returns-2 c =
       let s = c .before .before .before .before .before .before .before .before .before .before .before .before .before .before in
-      gather-end _ _ (s .args .supports .now) (s .args .joined) (s .args .pool .now) (s .args .count) _ _ (c .before .before .before .before .if2 .taken) (offer-in _ _ (s .args .pool .now) (s .args .count) (s .pre .1 .2 .fits) _ (c .before .before .before .before .before .before .before .before .used .ensures) _ (c .before .before .before .before .before .before .passes .ensures) (c .before .before .before .before .before .if1 .left) _ _ (c .before .before .enter .ensures))
+      gather-end _ _ (s .args .supports .now) (s .args .joined) (s .args .pool .now) (s .args .fill) (s .pre .1 .2 .fits) _ (c .before .before .before .before .before .before .before .barred .ensures) (c .before .before .before .before .before .enum-told .given .1) (s .pre .1 .2 .well) (s .pre .1 .3) (c .before .before .before .before .if1 .taken) _ (c .before .before .enter .result) (c .before .before .enter .ensures)
 
   shared-slice-read-i : gather-lts.Need-shared-slice-read-i (claims t) (gather-at t) gather.Post gather-Inv-loop gather-μ-loop
   shared-slice-read-i c = omega arith
 
   cast-i : gather-lts.Need-cast-i (claims t) (gather-at t) gather.Post gather-Inv-loop gather-μ-loop
-  cast-i c = omega (arith, c .before .before .before .before .before .before .before .before .before .before .before .pre .1 .1 .range 0 (c .before .if2 .left) .1)
+  cast-i c = omega (arith, c .before .before .before .before .before .before .before .before .before .before .before .pre .1 .1 .range 0 (c .before .if1 .left) .1)
 
   sub-i : gather-lts.Need-sub-i (claims t) (gather-at t) gather.Post gather-Inv-loop gather-μ-loop
-  sub-i c = omega (arith, c .before .before .before .before .before .before .before .before .before .before .before .pre .1 .1 .range 0 (c .before .if2 .left) .0)
+  sub-i c = omega (arith, c .before .before .before .before .before .before .before .before .before .before .before .pre .1 .1 .range 0 (c .before .if1 .left) .0)
 
   shared-slice-read-size : gather-lts.Need-shared-slice-read-size (claims t) (gather-at t) gather.Post gather-Inv-loop gather-μ-loop
-  shared-slice-read-size c = omega (arith, c .before .before .before .before .before .before .before .before .before .before .before .before .pre .1 .1 .range 0 (c .before .before .if2 .left) .1, c .before .before .before .before .before .before .before .before .before .before .before .before .pre .1 .1 .range 0 (c .before .before .if2 .left) .0, c .before .before .before .before .before .before .before .before .before .before .before .before .pre .1 .0 .sizes-length)
+  shared-slice-read-size c = let s = c .before .before .before .before .before .before .before .before .before .before .before .before in omega (arith, s .pre .1 .1 .range 0 (c .before .before .if1 .left) .1, s .pre .1 .1 .range 0 (c .before .before .if1 .left) .0, s .pre .1 .0 .sizes-length)
 
   cast-size : gather-lts.Need-cast-size (claims t) (gather-at t) gather.Post gather-Inv-loop gather-μ-loop
-  cast-size c = omega (arith, c .before .before .before .before .before .before .before .before .before .before .before .before .pre .1 .0 .sizes-small (getD (c .before .before .before .before .before .before .before .before .before .before .before .before .args .supports .now) 0 0 - 1))
+  cast-size c = let s = c .before .before .before .before .before .before .before .before .before .before .before .before in omega (arith, s .pre .1 .0 .sizes-small (getD (s .args .supports .now) 0 0 - 1))
 
   mul-from : gather-lts.Need-mul-from (claims t) (gather-at t) gather.Post gather-Inv-loop gather-μ-loop
-  mul-from c = omega (arith, c .before .before .before .before .before .before .before .before .before .before .before .before .pre .1 .1 .range 0 (c .before .before .if2 .left) .1)
+  mul-from c = omega (arith, c .before .before .before .before .before .before .before .before .before .before .before .before .pre .1 .1 .range 0 (c .before .before .if1 .left) .1)
 
   sub-left : gather-lts.Need-sub-left (claims t) (gather-at t) gather.Post gather-Inv-loop gather-μ-loop
   sub-left c = search needs
@@ -104,57 +125,109 @@ module _ (t : ℕ) where
   part-left-end c = search needs
 
   loop-holds : gather-lts.Need-loop-holds (claims t) (gather-at t) gather.Post gather-Inv-loop gather-μ-loop
-  loop-holds c =
-      let s = c .before .before .before .before .before .before .before .before .before .before .before .before .before in
-      (omega arith, left-all _ _ _ _ _ (s .pre .1 .2) (joins-first _ _ (s .args .supports .now) (s .pre .1 .0) (s .pre .1 .1) (s .args .joined) (c .before .before .before .if2 .left)))
+  loop-holds c = turning-none _ _ _ _ _ _ _ (c .before .before .before .before .before .before .before .before .before .before .before .before .before .pre .1 .2) _
 
   add-union : gather-lts.Need-add-union (claims t) (gather-at t) gather.Post gather-Inv-loop gather-μ-loop
-  add-union c = omega (arith, c .before .before .before .before .before .before .before .before .before .before .before .before .before .before .before .pre .1 .1 .range 0 (c .before .before .before .before .before .if2 .left) .1, c .before .before .before .before .before .before .before .before .before .before .before .before .before .before .before .pre .1 .0 .sizes-small (getD (c .before .before .before .before .before .before .before .before .before .before .before .before .before .before .before .args .supports .now) 0 0 - 1), c .loop-test .taken)
+  add-union c = let s = c .before .before .before .before .before .before .before .before .before .before .before .before .before .before .before in omega (arith, s .pre .1 .1 .range 0 (c .before .before .before .before .before .if1 .left) .1, s .pre .1 .0 .sizes-small (getD (s .args .supports .now) 0 0 - 1), c .loop-test .taken)
 
   mul-union : gather-lts.Need-mul-union (claims t) (gather-at t) gather.Post gather-Inv-loop gather-μ-loop
-  mul-union c = omega (arith, c .before .before .before .before .before .before .before .before .before .before .before .before .before .before .before .pre .1 .1 .range 0 (c .before .before .before .before .before .if2 .left) .1, c .before .before .before .before .before .before .before .before .before .before .before .before .before .before .before .pre .1 .0 .sizes-small (getD (c .before .before .before .before .before .before .before .before .before .before .before .before .before .before .before .args .supports .now) 0 0 - 1), c .loop-test .taken)
+  mul-union c = let s = c .before .before .before .before .before .before .before .before .before .before .before .before .before .before .before in omega (arith, s .pre .1 .1 .range 0 (c .before .before .before .before .before .if1 .left) .1, s .pre .1 .0 .sizes-small (getD (s .args .supports .now) 0 0 - 1), c .loop-test .taken)
 
   shared-slice-read-union : gather-lts.Need-shared-slice-read-union (claims t) (gather-at t) gather.Post gather-Inv-loop gather-μ-loop
-  shared-slice-read-union c = omega (arith, c .before .before .before .before .before .before .before .before .before .before .before .before .before .before .before .before .pre .1 .1 .range 0 (c .before .before .before .before .before .before .if2 .left) .1, c .before .before .before .before .before .before .before .before .before .before .before .before .before .before .before .before .pre .1 .1 .range 0 (c .before .before .before .before .before .before .if2 .left) .0, c .before .before .before .before .before .before .before .before .before .before .before .before .before .before .before .before .pre .1 .0 .sizes-small (getD (c .before .before .before .before .before .before .before .before .before .before .before .before .before .before .before .before .args .supports .now) 0 0 - 1), c .before .before .before .before .before .before .before .before .before .before .before .before .before .before .before .before .pre .1 .0 .members-length, c .before .loop-test .taken)
+  shared-slice-read-union c = let s = c .before .before .before .before .before .before .before .before .before .before .before .before .before .before .before .before in omega (arith, s .pre .1 .1 .range 0 (c .before .before .before .before .before .before .if1 .left) .1, s .pre .1 .1 .range 0 (c .before .before .before .before .before .before .if1 .left) .0, s .pre .1 .0 .sizes-small (getD (s .args .supports .now) 0 0 - 1), s .pre .1 .0 .members-length, c .before .loop-test .taken)
 
   union-requires : gather-lts.Need-union-requires (claims t) (gather-at t) gather.Post gather-Inv-loop gather-μ-loop
   union-requires c κs = search needs
 
-  gather-requires : gather-lts.Need-gather-requires (claims t) (gather-at t) gather.Post gather-Inv-loop gather-μ-loop
-  gather-requires c κs =
-      let s = c .before .before .before .before .before .before .before .before .before .before .before .before .before .before .before .before .before .before in
-      (omega (arith, s .pre .0, left-fewer (s .args .supports .now) (c .before .before .before .before .before .before .before .before .if2 .left)), (s .pre .1 .0, left-ranged _ (s .pre .1 .1), left-roomy _ _ _ _ _ _ _ (s .pre .1 .2) (c .before .before .before .before .loop .inv .1)))
-
   add-k : gather-lts.Need-add-k (claims t) (gather-at t) gather.Post gather-Inv-loop gather-μ-loop
-  add-k c = omega (arith, c .before .before .before .before .before .before .before .before .before .before .before .before .before .before .before .before .before .before .before .before .before .pre .1 .0 .sizes-small (getD (c .before .before .before .before .before .before .before .before .before .before .before .before .before .before .before .before .before .before .before .before .before .args .supports .now) 0 0 - 1), c .before .before .before .before .before .before .loop-test .taken)
+  add-k c = let s = c .before .before .before .before .before .before .before .before .before .before .before .before .before .before .before .before .before in omega (arith, s .pre .1 .0 .sizes-small (getD (s .args .supports .now) 0 0 - 1), c .before .before .loop-test .taken)
+
+  late-requires : gather-lts.Need-late-requires (claims t) (gather-at t) gather.Post gather-Inv-loop gather-μ-loop
+  late-requires c κs = search needs
+
+  union-requires-2 : gather-lts.Need-union-requires-2 (claims t) (gather-at t) gather.Post gather-Inv-loop gather-μ-loop
+  union-requires-2 c κs = search needs
 
   loop-less : gather-lts.Need-loop-less (claims t) (gather-at t) gather.Post gather-Inv-loop gather-μ-loop
-  loop-less c = omega arith
+  loop-less c = omega (arith, c .before .before .before .before .before .loop-test .taken)
 
   loop-again : gather-lts.Need-loop-again (claims t) (gather-at t) gather.Post gather-Inv-loop gather-μ-loop
   loop-again c =
-      let s = c .before .before .before .before .before .before .before .before .before .before .before .before .before .before .before .before .before .before .before .before .before in
-      let l = c .before .before .before .before .before .before .before .loop in
-      (omega arith, left-turn _ _ _ _ _ _ _ _ _ (l .inv .1) (joins-next _ _ (s .args .supports .now) (s .pre .1 .0) (s .pre .1 .1) (s .args .joined) (c .before .before .before .before .before .before .before .before .before .before .before .if2 .left) (l .k) (c .before .before .before .before .before .before .loop-test .taken) _ (c .before .before .before .before .union .ensures)) _ _ (c .before .before .gather .kept .1 .1 .1 .1 .1 .0) (c .before .before .gather .ensures))
+      let s = c .before .before .before .before .before .before .before .before .before .before .before .before .before .before .before .before .before .before .before .before in
+      let l = c .before .before .before .before .before .before .loop in
+      turn-late _ _ _ _ _ _ _ (s .pre .1 .0) (s .pre .1 .1) (c .before .before .before .before .before .before .before .before .before .before .if1 .left) _ _ _ _ _ (l .k) (l .inv) (c .before .before .before .before .before .loop-test .taken) _ (c .before .before .before .union .ensures) _ (c .before .before .late .ensures) (c .before .if2 .taken) _ (c .union2 .ensures)
+
+  array-share-prefix-spent : gather-lts.Need-array-share-prefix-spent (claims t) (gather-at t) gather.Post gather-Inv-loop gather-μ-loop
+  array-share-prefix-spent c = let s = c .before .before .before .before .before .before .before .before .before .before .before .before .before .before .before .before .before .before .before in let l = c .before .before .before .before .before .loop in omega (arith, l .inv .few, l .inv .low, l .inv .long, s .pre .1 .0 .sizes-small (getD (s .args .supports .now) 0 0 - 1))
+
+  slice-aggregate-first-within : gather-lts.Need-slice-aggregate-first-within (claims t) (gather-at t) gather.Post gather-Inv-loop gather-μ-loop
+  slice-aggregate-first-within c = let s = c .before .before .before .before .before .before .before .before .before .before .before .before .before .before .before .before .before .before .before .before in let l = c .before .before .before .before .before .before .loop in sym (length-take-le (l .n) (l .spent) (omega (arith, l .inv .few, l .inv .low, l .inv .long, s .pre .1 .0 .sizes-small (getD (s .args .supports .now) 0 0 - 1))))
+
+  first-within-requires : gather-lts.Need-first-within-requires (claims t) (gather-at t) gather.Post gather-Inv-loop gather-μ-loop
+  first-within-requires c κs = search needs
+
+  loop-less-2 : gather-lts.Need-loop-less-2 (claims t) (gather-at t) gather.Post gather-Inv-loop gather-μ-loop
+  loop-less-2 c = omega (arith, c .before .before .before .before .before .before .before .loop-test .taken)
+
+  loop-again-2 : gather-lts.Need-loop-again-2 (claims t) (gather-at t) gather.Post gather-Inv-loop gather-μ-loop
+  loop-again-2 c =
+      let s = c .before .before .before .before .before .before .before .before .before .before .before .before .before .before .before .before .before .before .before .before .before .before in
+      let l = c .before .before .before .before .before .before .before .before .loop in
+      turn-passed _ _ _ _ _ _ _ (s .pre .1 .0) (s .pre .1 .1) (c .before .before .before .before .before .before .before .before .before .before .before .before .if1 .left) _ _ _ _ _ (l .k) (l .inv) (c .before .before .before .before .before .before .before .loop-test .taken) _ (c .before .before .before .before .before .union .ensures) _ (c .before .first-within .ensures) (c .if3 .taken) (omega (arith, l .inv .few, l .inv .low, s .pre .1 .0 .sizes-small (getD (s .args .supports .now) 0 0 - 1)))
+
+  gather-requires : gather-lts.Need-gather-requires (claims t) (gather-at t) gather.Post gather-Inv-loop gather-μ-loop
+  gather-requires c κs =
+      let s = c .before .before .before .before .before .before .before .before .before .before .before .before .before .before .before .before .before .before .before .before .before .before .before in
+      let l = c .before .before .before .before .before .before .before .before .before .loop in
+      (omega (arith, s .pre .0, left-fewer (s .args .supports .now) (c .before .before .before .before .before .before .before .before .before .before .before .before .before .if1 .left)), (s .pre .1 .0, left-ranged _ (s .pre .1 .1), turning-roomy _ _ _ _ _ _ _ _ _ _ _ _ _ (s .pre .1 .2) (l .inv), sym (c .before .before .before .before .before .late .ensures) ∙ c .before .before .before .before .if2 .left))
+
+  union-requires-3 : gather-lts.Need-union-requires-3 (claims t) (gather-at t) gather.Post gather-Inv-loop gather-μ-loop
+  union-requires-3 c κs = search needs
+
+  meet-requires : gather-lts.Need-meet-requires (claims t) (gather-at t) gather.Post gather-Inv-loop gather-μ-loop
+  meet-requires c κs = search needs
+
+  mul-spent : gather-lts.Need-mul-spent (claims t) (gather-at t) gather.Post gather-Inv-loop gather-μ-loop
+  mul-spent c = let s = c .before .before .before .before .before .before .before .before .before .before .before .before .before .before .before .before .before .before .before .before .before .before .before .before .before .before .before .before in let l = c .before .before .before .before .before .before .before .before .before .before .before .before .before .before .loop in omega (arith, l .inv .few, c .before .before .before .before .before .before .before .before .before .before .before .before .before .loop-test .taken, s .pre .1 .0 .sizes-small (getD (s .args .supports .now) 0 0 - 1))
+
+  array-write-spent : gather-lts.Need-array-write-spent (claims t) (gather-at t) gather.Post gather-Inv-loop gather-μ-loop
+  array-write-spent c = let s = c .before .before .before .before .before .before .before .before .before .before .before .before .before .before .before .before .before .before .before .before .before .before .before .before .before .before .before .before in let l = c .before .before .before .before .before .before .before .before .before .before .before .before .before .before .loop in omega (arith, l .inv .few, l .inv .long, c .before .before .before .before .before .before .before .before .before .before .before .before .before .loop-test .taken, s .pre .1 .0 .sizes-small (getD (s .args .supports .now) 0 0 - 1))
+
+  add-n : gather-lts.Need-add-n (claims t) (gather-at t) gather.Post gather-Inv-loop gather-μ-loop
+  add-n c = let s = c .before .before .before .before .before .before .before .before .before .before .before .before .before .before .before .before .before .before .before .before .before .before .before .before .before .before .before .before in let l = c .before .before .before .before .before .before .before .before .before .before .before .before .before .before .loop in omega (arith, l .inv .few, c .before .before .before .before .before .before .before .before .before .before .before .before .before .loop-test .taken, s .pre .1 .0 .sizes-small (getD (s .args .supports .now) 0 0 - 1))
+
+  loop-less-3 : gather-lts.Need-loop-less-3 (claims t) (gather-at t) gather.Post gather-Inv-loop gather-μ-loop
+  loop-less-3 c = omega (arith, c .before .before .before .before .before .before .before .before .before .before .before .before .before .loop-test .taken)
+
+  loop-again-3 : gather-lts.Need-loop-again-3 (claims t) (gather-at t) gather.Post gather-Inv-loop gather-μ-loop
+  loop-again-3 c =
+      let s = c .before .before .before .before .before .before .before .before .before .before .before .before .before .before .before .before .before .before .before .before .before .before .before .before .before .before .before .before in
+      let l = c .before .before .before .before .before .before .before .before .before .before .before .before .before .before .loop in
+      turn-visited _ _ _ _ _ _ _ (s .pre .1 .0) (s .pre .1 .1) (c .before .before .before .before .before .before .before .before .before .before .before .before .before .before .before .before .before .before .if1 .left) _ _ _ _ _ (l .k) (l .inv) (c .before .before .before .before .before .before .before .before .before .before .before .before .before .loop-test .taken) _ (c .before .before .before .before .before .before .before .before .before .before .before .union .ensures) (omega (arith, l .inv .few, c .before .before .before .before .before .before .before .before .before .before .before .before .before .loop-test .taken, s .pre .1 .0 .sizes-small (getD (s .args .supports .now) 0 0 - 1))) _ _ (c .before .before .before .before .gather .kept .1 .1 .1 .1 .1 .0) (c .before .before .before .before .gather .ensures) _ (c .before .union3 .ensures) _ (c .meet .ensures)
+
+  because-requires-2 : gather-lts.Need-because-requires-2 (claims t) (gather-at t) gather.Post gather-Inv-loop gather-μ-loop
+  because-requires-2 c κs = search needs
 
   same-length-3 : gather-lts.Need-same-length-3 (claims t) (gather-at t) gather.Post gather-Inv-loop gather-μ-loop
-  same-length-3 c = c .before .loop .inv .1 .same
+  same-length-3 c = c .before .before .loop .inv .same
 
   returns-3 : gather-lts.Need-returns-3 (claims t) (gather-at t) gather.Post gather-Inv-loop gather-μ-loop
   returns-3 c =
-      let s = c .before .before .before .before .before .before .before .before .before .before .before .before .before .before .before in
-      left-end _ _ _ _ _ _ _ (c .before .loop .inv .1) (joins-past _ _ (s .args .supports .now) (s .pre .1 .0) (s .pre .1 .1) (s .args .joined) (c .before .before .before .before .before .if2 .left) (c .before .loop .k) (c .loop-test .left))
+      let s = c .before .before .before .before .before .before .before .before .before .before .before .before .before .before .before .before in
+      let l = c .before .before .loop in
+      turning-end _ _ _ _ _ _ _ (s .pre .1 .0) (s .pre .1 .1) (c .before .before .before .before .before .before .if1 .left) _ _ _ _ _ (l .k) (l .inv) (c .before .loop-test .left) _ (c .because2 .ensures)
 
 pub +gather-spec : {M : Type 1} → statement M
 +gather-spec =
     close μ-gather (λ t. gather-lts.spec (claims t) (gather-at t) gather.Post gather-Inv-loop gather-μ-loop
-    (used-requires t)
-    (add-full t)
-    (slice-reshare-prefix-passes t)
-    (slice-aggregate-passes t)
-    (passes-requires t)
+    (slice-reshare-prefix-barred t)
+    (slice-aggregate-barred t)
+    (barred-requires t)
+    (enum-known-bar t)
+    (because-requires t)
     (same-length t)
     (returns t)
+    (enum-told t)
     (enter-requires t)
     (same-length-2 t)
     (returns-2 t)
@@ -172,9 +245,24 @@ pub +gather-spec : {M : Type 1} → statement M
     (mul-union t)
     (shared-slice-read-union t)
     (union-requires t)
-    (gather-requires t)
     (add-k t)
+    (late-requires t)
+    (union-requires-2 t)
     (loop-less t)
     (loop-again t)
+    (array-share-prefix-spent t)
+    (slice-aggregate-first-within t)
+    (first-within-requires t)
+    (loop-less-2 t)
+    (loop-again-2 t)
+    (gather-requires t)
+    (union-requires-3 t)
+    (meet-requires t)
+    (mul-spent t)
+    (array-write-spent t)
+    (add-n t)
+    (loop-less-3 t)
+    (loop-again-3 t)
+    (because-requires-2 t)
     (same-length-3 t)
     (returns-3 t))

@@ -1,10 +1,12 @@
 -- `labels::build` meets its contract. Assumes nothing.
 use mathlib.Core.List.{map}
-use mathlib.Core.Path.{_∙_, refl, sym}
-use Prim.Native.Nat.{_+_, _-_}
+use mathlib.Core.Path.{_∙_, sym}
+use Prim.Native.Nat.{_-_}
 use native.Mathlib.Omega.{arith}
 use lib.Seq.{length-take-le}
-use Rattle.labels.proofs.Turns.{Passing, half-roomy, pass-done, pass-on, pass-roomy, passing-none}
+use borrow.Author.Needs.{needs}
+use borrow.Author.Tests.{not-false, not-true}
+use Rattle.labels.proofs.Rounds.{Rounding, half-hushed, half-roomy, rounding-done, rounding-full, rounding-more, rounding-none, rounding-on, rounding-roomy}
 use Rattle.labels.specs.Layout.{between, lying}
 use Rattle.rules.specs.Held.{meaning}
 use Rattle.theory.specs.Step.{candidates, joinsFor}
@@ -12,73 +14,65 @@ use Rattle.labels.proofs.build.Statement.{statement}
 use Rattle.labels.proofs.build.Tie as tie
 
 abbrev Inv-loop : tie.InvT-loop
-Inv-loop held lo hi n members sizes old struck limit pool₀ count₀ turn₀ pool count turn = Passing struck (candidates (lying members sizes) old (map meaning (between (held .entries) lo hi)) n) limit pool count turn
+Inv-loop held lo hi n members sizes old struck moved limit pool₀ count₀ pool count = Rounding struck old (joinsFor (lying members sizes) n (map meaning (between (held .entries) lo hi))) limit pool count
 
 abbrev μ-loop : tie.MeasureT-loop
-μ-loop held lo hi n members sizes old struck limit pool₀ count₀ turn₀ pool count turn = limit + 1 - turn
+μ-loop held lo hi n members sizes old struck moved limit pool₀ count₀ pool count = limit - count
 
 loop-holds : tie.Need-loop-holds Inv-loop μ-loop
-loop-holds c = passing-none _ _ _
+loop-holds c = rounding-none _ _ _ _
 
 slice-aggregate-pour : tie.Need-slice-aggregate-pour Inv-loop μ-loop
-slice-aggregate-pour c = sym (c .before .before .loop .inv .long)
+slice-aggregate-pour c = sym (c .before .loop .inv .long)
 
 pour-requires : tie.Need-pour-requires Inv-loop μ-loop
-pour-requires c κs = pass-roomy _ _ _ _ _ _ (c .before .before .loop .inv)
+pour-requires c κs = let s = c .before .before .before .before .before .before .before in (s .pre .0, rounding-roomy _ (s .args .old .now) (joinsFor (lying (s .args .members .now) (s .args .sizes .now)) (s .args .n) (map meaning (between (s .args .held .entries) (s .args .lo) (s .args .hi)))) (s .args .limit) (s .pre .3) (c .before .loop .pool) (c .before .loop .count) (c .before .loop .inv))
 
 slice-aggregate-pooled : tie.Need-slice-aggregate-pooled Inv-loop μ-loop
-slice-aggregate-pooled c = sym (c .before .before .pour .kept .1 .1 .0 ∙ c .before .before .before .before .before .loop .inv .long)
+slice-aggregate-pooled c = sym (c .before .before .pour .kept .1 .1 .1 .1 .0 ∙ c .before .before .before .before .loop .inv .long)
 
 pooled-requires : tie.Need-pooled-requires Inv-loop μ-loop
-unfolding candidates
 pooled-requires c κs =
     let s = c .before .before .before .before .before .before .before .before .before .before in
-    (s .pre .0, s .pre .1, s .pre .2, half-roomy _ _ _ _ _ _ (c .before .before .before .before .before .loop .inv) (s .args .old .now) (joinsFor (lying (s .args .members .now) (s .args .sizes .now)) (s .args .n) (map meaning (between (s .args .held .entries) (s .args .lo) (s .args .hi)))) refl _ _ (c .before .before .pour .kept .1 .1 .0) (c .before .before .pour .ensures))
+    (s .pre .0, s .pre .1, s .pre .2, half-roomy _ (s .args .old .now) (joinsFor (lying (s .args .members .now) (s .args .sizes .now)) (s .args .n) (map meaning (between (s .args .held .entries) (s .args .lo) (s .args .hi)))) (s .args .limit) (s .pre .3) (c .before .before .before .before .loop .pool) (c .before .before .before .before .loop .count) (c .before .before .before .before .loop .inv) _ (c .before .before .pour .result) (c .before .before .pour .kept .1 .1 .1 .1 .0) (c .before .before .pour .ensures), half-hushed _ (s .args .old .now) (joinsFor (lying (s .args .members .now) (s .args .sizes .now)) (s .args .n) (map meaning (between (s .args .held .entries) (s .args .lo) (s .args .hi)))) (s .args .limit) (s .pre .3) (c .before .before .before .before .loop .pool) (c .before .before .before .before .loop .count) (c .before .before .before .before .loop .inv) _ (c .before .before .pour .result) (c .before .before .pour .kept .1 .1 .1 .1 .0) (c .before .before .pour .ensures) _ _ _ _ (s .pre .4))
 
 array-share-prefix-pool : tie.Need-array-share-prefix-pool Inv-loop μ-loop
-array-share-prefix-pool c = omega (arith, c .if1 .taken, c .before .before .pooled .kept .1 .1 .1 .1 .1 .1 .1 .0, c .before .before .before .before .before .pour .kept .1 .1 .0, c .before .before .before .before .before .before .before .before .loop .inv .long)
+array-share-prefix-pool c = omega (arith, c .before .before .before .pooled .ensures .1, c .before .before .before .pooled .kept .1 .1 .1 .1 .1 .1 .1 .1 .0, c .before .before .before .before .before .before .pour .kept .1 .1 .1 .1 .0, c .before .before .before .before .before .before .before .before .loop .inv .long)
 
 slice-aggregate-drawn : tie.Need-slice-aggregate-drawn Inv-loop μ-loop
-slice-aggregate-drawn c = sym (length-take-le _ _ (omega (arith, c .before .if1 .taken, c .before .before .before .pooled .kept .1 .1 .1 .1 .1 .1 .1 .0, c .before .before .before .before .before .before .pour .kept .1 .1 .0, c .before .before .before .before .before .before .before .before .before .loop .inv .long)))
+slice-aggregate-drawn c = sym (length-take-le _ _ (omega (arith, c .before .before .before .before .pooled .ensures .1, c .before .before .before .before .pooled .kept .1 .1 .1 .1 .1 .1 .1 .1 .0, c .before .before .before .before .before .before .before .pour .kept .1 .1 .1 .1 .0, c .before .before .before .before .before .before .before .before .before .loop .inv .long)))
 
 drawn-requires : tie.Need-drawn-requires Inv-loop μ-loop
-drawn-requires c κs = c .before .before .before .before .before .before .before .before .before .before .before .before .before .before .pre .3
+drawn-requires c κs = c .before .before .before .before .before .before .before .before .before .before .before .before .before .before .before .pre .3
 
 returns : tie.Need-returns Inv-loop μ-loop
 unfolding candidates
 returns c =
-    let s = c .before .before .before .before .before .before .before .before .before .before .before .before .before .before .before in
-    pass-done _ _ _ _ _ _ (c .before .before .before .before .before .before .before .before .before .before .loop .inv) (s .args .old .now) (joinsFor (lying (s .args .members .now) (s .args .sizes .now)) (s .args .n) (map meaning (between (s .args .held .entries) (s .args .lo) (s .args .hi)))) refl _ _ (c .before .before .before .before .before .before .before .pour .kept .1 .1 .0) (c .before .before .before .before .before .before .before .pour .ensures) _ _ (c .before .before .before .before .pooled .kept .1 .1 .1 .1 .1 .1 .1 .0) (c .before .before .before .before .pooled .ensures) (c .before .before .if1 .taken) _ (c .drawn .ensures)
+    let s = c .before .before .before .before .before .before .before .before .before .before .before .before .before .before .before .before in
+    rounding-done _ (s .args .old .now) (joinsFor (lying (s .args .members .now) (s .args .sizes .now)) (s .args .n) (map meaning (between (s .args .held .entries) (s .args .lo) (s .args .hi)))) (s .args .limit) (s .pre .3) (c .before .before .before .before .before .before .before .before .before .before .loop .pool) (c .before .before .before .before .before .before .before .before .before .before .loop .count) (c .before .before .before .before .before .before .before .before .before .before .loop .inv) _ (c .before .before .before .before .before .before .before .before .pour .result) (c .before .before .before .before .before .before .before .before .pour .kept .1 .1 .1 .1 .0) (c .before .before .before .before .before .before .before .before .pour .ensures) _ (c .before .before .before .before .before .pooled .result) (c .before .before .before .before .before .pooled .kept .1 .1 .1 .1 .1 .1 .1 .1 .0) (c .before .before .before .before .before .pooled .ensures) (not-true _ (c .before .before .if1 .taken)) _ (c .drawn .ensures)
 
-plain-requires : tie.Need-plain-requires Inv-loop μ-loop
-plain-requires c κs = c .before .before .before .before .before .before .before .before .before .before .before .before .before .before .pre
+array-share-prefix-pool-2 : tie.Need-array-share-prefix-pool-2 Inv-loop μ-loop
+array-share-prefix-pool-2 c = omega (arith, c .before .before .before .before .pooled .ensures .1, c .before .before .before .before .pooled .kept .1 .1 .1 .1 .1 .1 .1 .1 .0, c .before .before .before .before .before .before .before .pour .kept .1 .1 .1 .1 .0, c .before .before .before .before .before .before .before .before .before .loop .inv .long)
+
+slice-aggregate-drawn-2 : tie.Need-slice-aggregate-drawn-2 Inv-loop μ-loop
+slice-aggregate-drawn-2 c = sym (length-take-le _ _ (omega (arith, c .before .before .before .before .before .pooled .ensures .1, c .before .before .before .before .before .pooled .kept .1 .1 .1 .1 .1 .1 .1 .1 .0, c .before .before .before .before .before .before .before .before .pour .kept .1 .1 .1 .1 .0, c .before .before .before .before .before .before .before .before .before .before .loop .inv .long)))
+
+drawn-requires-2 : tie.Need-drawn-requires-2 Inv-loop μ-loop
+drawn-requires-2 c κs = c .before .before .before .before .before .before .before .before .before .before .before .before .before .before .before .before .pre .3
 
 returns-2 : tie.Need-returns-2 Inv-loop μ-loop
-returns-2 c = c .plain .ensures
-
-sub-count : tie.Need-sub-count Inv-loop μ-loop
-sub-count c = omega (arith, c .before .if1 .left)
-
-sub-count-2 : tie.Need-sub-count-2 Inv-loop μ-loop
-sub-count-2 c = omega (arith, c .before .if1 .left)
-
-add-turn : tie.Need-add-turn Inv-loop μ-loop
-add-turn c = omega (arith, c .before .before .before .before .before .before .before .before .loop-test .taken, c .before .before .before .before .before .before .before .before .before .before .before .before .before .before .pre .3)
+unfolding candidates
+returns-2 c =
+    let s = c .before .before .before .before .before .before .before .before .before .before .before .before .before .before .before .before .before in
+    rounding-full _ (s .args .old .now) (joinsFor (lying (s .args .members .now) (s .args .sizes .now)) (s .args .n) (map meaning (between (s .args .held .entries) (s .args .lo) (s .args .hi)))) (s .args .limit) (s .pre .3) (c .before .before .before .before .before .before .before .before .before .before .before .loop .pool) (c .before .before .before .before .before .before .before .before .before .before .before .loop .count) (c .before .before .before .before .before .before .before .before .before .before .before .loop .inv) _ (c .before .before .before .before .before .before .before .before .before .pour .result) (c .before .before .before .before .before .before .before .before .before .pour .kept .1 .1 .1 .1 .0) (c .before .before .before .before .before .before .before .before .before .pour .ensures) _ (c .before .before .before .before .before .before .pooled .result) (c .before .before .before .before .before .before .pooled .kept .1 .1 .1 .1 .1 .1 .1 .1 .0) (c .before .before .before .before .before .before .pooled .ensures) (c .before .before .if2 .taken) _ (c .drawn2 .ensures)
 
 loop-less : tie.Need-loop-less Inv-loop μ-loop
-loop-less c = omega (arith, c .before .before .before .before .before .before .before .before .loop-test .taken)
+loop-less c = let s = c .before .before .before .before .before .before .before .before .before .before .before .before .before .before .before in omega (arith, c .if2 .left, rounding-more _ (s .args .old .now) (joinsFor (lying (s .args .members .now) (s .args .sizes .now)) (s .args .n) (map meaning (between (s .args .held .entries) (s .args .lo) (s .args .hi)))) (s .args .limit) (s .pre .3) (c .before .before .before .before .before .before .before .before .before .loop .pool) (c .before .before .before .before .before .before .before .before .before .loop .count) (c .before .before .before .before .before .before .before .before .before .loop .inv) _ (c .before .before .before .before .before .before .before .pour .result) (c .before .before .before .before .before .before .before .pour .kept .1 .1 .1 .1 .0) (c .before .before .before .before .before .before .before .pour .ensures) _ (c .before .before .before .before .pooled .result) (c .before .before .before .before .pooled .kept .1 .1 .1 .1 .1 .1 .1 .1 .0) (c .before .before .before .before .pooled .ensures) (not-false _ (c .before .if1 .left)))
 
 loop-again : tie.Need-loop-again Inv-loop μ-loop
-unfolding candidates
 loop-again c =
-    let s = c .before .before .before .before .before .before .before .before .before .before .before .before .before .before in
-    pass-on _ _ _ _ _ _ (c .before .before .before .before .before .before .before .before .before .loop .inv) (s .args .old .now) (joinsFor (lying (s .args .members .now) (s .args .sizes .now)) (s .args .n) (map meaning (between (s .args .held .entries) (s .args .lo) (s .args .hi)))) refl _ _ (c .before .before .before .before .before .before .pour .kept .1 .1 .0) (c .before .before .before .before .before .before .pour .ensures) _ _ (c .before .before .before .pooled .kept .1 .1 .1 .1 .1 .1 .1 .0) (c .before .before .before .pooled .ensures) (c .before .if1 .left) (c .before .before .before .before .before .before .before .before .loop-test .taken)
-
-plain-requires-2 : tie.Need-plain-requires-2 Inv-loop μ-loop
-plain-requires-2 c κs = c .before .before .before .before .before .before .pre
-
-returns-3 : tie.Need-returns-3 Inv-loop μ-loop
-returns-3 c = c .plain2 .ensures
+    let s = c .before .before .before .before .before .before .before .before .before .before .before .before .before .before .before in
+    rounding-on _ (s .args .old .now) (joinsFor (lying (s .args .members .now) (s .args .sizes .now)) (s .args .n) (map meaning (between (s .args .held .entries) (s .args .lo) (s .args .hi)))) (s .args .limit) (s .pre .3) (c .before .before .before .before .before .before .before .before .before .loop .pool) (c .before .before .before .before .before .before .before .before .before .loop .count) (c .before .before .before .before .before .before .before .before .before .loop .inv) _ (c .before .before .before .before .before .before .before .pour .result) (c .before .before .before .before .before .before .before .pour .kept .1 .1 .1 .1 .0) (c .before .before .before .before .before .before .before .pour .ensures) _ (c .before .before .before .before .pooled .result) (c .before .before .before .before .pooled .kept .1 .1 .1 .1 .1 .1 .1 .1 .0) (c .before .before .before .before .pooled .ensures) (c .if2 .left)
 
 pub build-spec : {M : Type 1} → statement M
 build-spec =
@@ -95,12 +89,9 @@ build-spec =
     slice-aggregate-drawn
     drawn-requires
     returns
-    plain-requires
+    array-share-prefix-pool-2
+    slice-aggregate-drawn-2
+    drawn-requires-2
     returns-2
-    sub-count
-    sub-count-2
-    add-turn
     loop-less
-    loop-again
-    plain-requires-2
-    returns-3)
+    loop-again)

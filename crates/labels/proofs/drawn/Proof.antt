@@ -2,7 +2,7 @@
 use Prim.Native.Nat.{_-_}
 use native.Mathlib.Omega.{arith}
 use borrow.Author.Needs.{needs}
-use Rattle.labels.proofs.Builds.{Drawn, drawn-all, drawn-full, drawn-more, drawn-none}
+use Rattle.labels.proofs.Drawing.{Drawn, drawn-all, drawn-full, drawn-more, drawn-none}
 use Rattle.labels.proofs.drawn.Statement.{statement}
 use Rattle.labels.proofs.drawn.Tie as tie
 

@@ -1,45 +1,62 @@
 -- `labels::joined` meets its contract. Assumes nothing.
-use mathlib.Core.Path.{_≡_, sym}
+use mathlib.Core.Path.{_∙_, _≡_, sym}
 use native.Mathlib.Omega.{arith}
 use lib.ListN.{length}
 use lib.Seq.{length-take-le}
+use borrow.Author.Needs.{needs}
 use Rattle.labels.proofs.Candidates.{joins-not, joins-so}
-use Rattle.labels.proofs.Offering.{as-offered, none-offered}
+use Rattle.labels.proofs.Stirring.{hushed-offered}
+use Rattle.labels.proofs.Walks.{all-late, as-offered, none-offered}
 use Rattle.labels.specs.Layout.{lying}
 use Rattle.rules.specs.Held.{meaning}
-use borrow.Author.Needs.{needs}
 use Rattle.labels.proofs.joined.Statement.{statement}
 use Rattle.labels.proofs.joined.Tie as tie
 
 returns : tie.Need-returns
-returns c = none-offered _ _ (c .before .before .before .before .before .before .args .pool .now) (c .before .before .before .before .before .before .args .count) (c .before .before .before .before .before .before .pre .3 .fits) (joins-not (lying (c .before .before .before .before .before .before .args .members .now) (c .before .before .before .before .before .before .args .sizes .now)) _ (meaning (c .before .before .before .before .before .before .args .entry)) (c .if1 .taken))
+returns c = let s = c .before .before .before .before .before .before .before in none-offered _ _ (s .args .pool .now) (s .args .fill) (s .pre .3 .fits) (joins-not (lying (s .args .members .now) (s .args .sizes .now)) _ (meaning (s .args .entry)) (c .if1 .taken))
+
+stirred-requires : tie.Need-stirred-requires
+stirred-requires c κs = let s = c .before .before .before .before .before .before .before in (s .pre .1, s .pre .2, s .pre .4 .long)
+
+returns-2 : tie.Need-returns-2
+returns-2 c = let s = c .before .before .before .before .before .before .before .before .before in hushed-offered (lying (s .args .members .now) (s .args .sizes .now)) _ (meaning (s .args .entry)) _ _ (s .args .pool .now) (s .args .fill) (s .pre .3 .fits) (s .pre .4) (c .before .before .if1 .left) _ (c .before .stirred .ensures) (c .if2 .taken)
+
+late-requires : tie.Need-late-requires
+late-requires c κs = search needs
+
+returns-3 : tie.Need-returns-3
+returns-3 c = let s = c .before .before .before .before .before .before .before .before .before .before .before in all-late _ _ (s .args .pool .now) (s .args .fill) (s .pre .3 .fits) _ (c .before .late .ensures) (c .if3 .taken)
 
 cast-most : tie.Need-cast-most
 cast-most c = search needs
 
 array-share-prefix-supports : tie.Need-array-share-prefix-supports
-array-share-prefix-supports c = let e : length (c .before .before .before .before .before .before .before .before .args .entry .supports) ≡ 4 = search needs in omega (arith, c .before .before .before .before .before .before .before .before .pre .1)
+array-share-prefix-supports c = let s = c .before .before .before .before .before .before .before .before .before .before .before .before .before in let e : length (s .args .entry .supports) ≡ 4 = search needs in omega (arith, s .pre .1)
 
 slice-aggregate-gather : tie.Need-slice-aggregate-gather
-slice-aggregate-gather c = let e : length (c .before .before .before .before .before .before .before .before .before .args .entry .supports) ≡ 4 = search needs in sym (length-take-le _ _ (omega (arith, c .before .before .before .before .before .before .before .before .before .pre .1)))
+slice-aggregate-gather c = let s = c .before .before .before .before .before .before .before .before .before .before .before .before .before .before in let e : length (s .args .entry .supports) ≡ 4 = search needs in sym (length-take-le _ _ (omega (arith, s .pre .1)))
 
 gather-requires : tie.Need-gather-requires
-gather-requires c κs = (c .before .before .before .before .before .before .before .before .before .before .pre .0, c .before .before .before .before .before .before .before .before .before .before .pre .2, c .before .before .before .before .before .before .before .before .before .before .pre .3)
+gather-requires c κs = let s = c .before .before .before .before .before .before .before .before .before .before .before .before .before .before .before in (s .pre .0, s .pre .2, s .pre .3, sym (c .before .before .before .before .before .late .ensures) ∙ c .before .before .before .before .if3 .left)
 
 same-length : tie.Need-same-length
 same-length c = search needs
 
-returns-2 : tie.Need-returns-2
-returns-2 c = as-offered _ _ _ (c .before .before .before .before .before .before .before .before .before .before .before .before .before .args .pool .now) (c .before .before .before .before .before .before .before .before .before .before .before .before .before .args .count) _ _ (joins-so (lying (c .before .before .before .before .before .before .before .before .before .before .before .before .before .args .members .now) (c .before .before .before .before .before .before .before .before .before .before .before .before .before .args .sizes .now)) _ (meaning (c .before .before .before .before .before .before .before .before .before .before .before .before .before .args .entry)) (c .before .before .before .before .before .before .before .if1 .left)) (c .before .before .gather .ensures)
+returns-4 : tie.Need-returns-4
+returns-4 c = let s = c .before .before .before .before .before .before .before .before .before .before .before .before .before .before .before .before .before .before in as-offered _ _ _ (s .args .pool .now) (s .args .fill) _ (c .before .before .gather .result) (joins-so (lying (s .args .members .now) (s .args .sizes .now)) _ (meaning (s .args .entry)) (c .before .before .before .before .before .before .before .before .before .before .before .if1 .left)) (c .before .before .gather .ensures .0)
 
 pub joined-spec : {M : Type 1} → statement M
 joined-spec =
     tie.close
     (tie.spec
     returns
+    stirred-requires
+    returns-2
+    late-requires
+    returns-3
     cast-most
     array-share-prefix-supports
     slice-aggregate-gather
     gather-requires
     same-length
-    returns-2)
+    returns-4)

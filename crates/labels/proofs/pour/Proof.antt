@@ -1,41 +1,56 @@
 -- `labels::pour` meets its contract. Assumes nothing.
-use mathlib.Core.Path.{refl}
+use mathlib.Core.Path.{_∙_, refl, sym}
 use Prim.Native.Nat.{_-_, _≤_}
 use native.Mathlib.Omega.{arith}
 use lib.ListN.{drop, drop-of-length-le, length}
 use borrow.Author.Needs.{needs}
-use Rattle.labels.proofs.Offering.{Left, left-all, left-end, left-roomy, left-turn, list-on}
+use Rattle.labels.proofs.Lying.{ranged-none}
+use Rattle.labels.proofs.Walks.{Left, alone-offered, late-offered, left-all, left-end, left-roomy, left-turn, list-on}
 use Rattle.labels.proofs.pour.Statement.{statement}
 use Rattle.labels.proofs.pour.Tie as tie
 
 abbrev Inv-loop : tie.InvT-loop
-Inv-loop list struck pool₀ count now₀ i₀ pool now i = (i ≤ length list) × Left struck list pool₀ count (drop i list) pool now
+Inv-loop list members sizes struck pool₀ none now₀ i₀ pool now i = (i ≤ length list) × Left struck list pool₀ now₀ (drop i list) pool now
 
 abbrev μ-loop : tie.MeasureT-loop
-μ-loop list struck pool₀ count now₀ i₀ pool now i = length list - i
+μ-loop list members sizes struck pool₀ none now₀ i₀ pool now i = length list - i
+
+slice-aggregate-none : tie.Need-slice-aggregate-none Inv-loop μ-loop
+slice-aggregate-none c = search needs
 
 loop-holds : tie.Need-loop-holds Inv-loop μ-loop
-loop-holds c = (omega arith, left-all _ _ _ _ _ (c .before .before .before .pre) refl)
+loop-holds c = (omega arith, left-all _ _ _ _ _ (c .before .before .before .before .before .before .pre .1) refl)
 
-mul-admit : tie.Need-mul-admit Inv-loop μ-loop
-mul-admit c = search needs
+mul-e : tie.Need-mul-e Inv-loop μ-loop
+mul-e c = search needs
 
-shared-slice-read-admit : tie.Need-shared-slice-read-admit Inv-loop μ-loop
-shared-slice-read-admit c = omega arith
-
-admit-requires : tie.Need-admit-requires Inv-loop μ-loop
-admit-requires c κs = left-roomy _ _ _ _ _ _ _ (c .before .before .before .before .before .before .before .pre) (c .before .before .before .loop .inv .1)
+shared-slice-read-e : tie.Need-shared-slice-read-e Inv-loop μ-loop
+shared-slice-read-e c = omega arith
 
 add-i : tie.Need-add-i Inv-loop μ-loop
 add-i c = omega arith
+
+late-requires : tie.Need-late-requires Inv-loop μ-loop
+late-requires c κs = search needs
 
 loop-less : tie.Need-loop-less Inv-loop μ-loop
 loop-less c = omega arith
 
 loop-again : tie.Need-loop-again Inv-loop μ-loop
 loop-again c =
-    let l = c .before .before .before .before .before .before .loop in
-    (omega arith, left-turn _ _ _ _ _ _ _ _ _ (l .inv .1) (list-on _ (l .i) (omega arith)) _ _ (c .before .before .admit .kept .1 .0) (c .before .before .admit .ensures))
+    let l = c .before .before .before .before .loop in
+    (omega arith, left-turn _ _ _ _ _ _ _ _ _ (l .inv .1) (list-on _ (l .i) (omega arith)) _ _ refl (late-offered _ _ (l .pool) (l .now) (left-roomy _ _ _ _ _ _ _ (c .before .before .before .before .before .before .before .before .before .before .before .pre .1) (l .inv .1) .fits) _ (c .before .late .ensures) (c .if1 .taken)))
+
+gather-requires : tie.Need-gather-requires Inv-loop μ-loop
+gather-requires c κs = (c .before .before .before .before .before .before .before .before .before .before .before .before .pre .0, ranged-none (c .before .before .before .before .before .before .before .before .before .before .before .before .args .sizes .now), left-roomy _ _ _ _ _ _ _ (c .before .before .before .before .before .before .before .before .before .before .before .before .pre .1) (c .before .before .before .before .before .loop .inv .1), sym (c .before .before .late .ensures) ∙ c .before .if1 .left)
+
+loop-less-2 : tie.Need-loop-less-2 Inv-loop μ-loop
+loop-less-2 c = omega (arith, c .before .before .before .before .before .before .before .loop-test .taken)
+
+loop-again-2 : tie.Need-loop-again-2 Inv-loop μ-loop
+loop-again-2 c =
+    let l = c .before .before .before .before .before .before .before .before .loop in
+    (omega (arith, c .before .before .before .before .before .before .before .loop-test .taken), left-turn _ _ _ _ _ _ _ _ _ (l .inv .1) (list-on _ (l .i) (c .before .before .before .before .before .before .before .loop-test .taken)) _ _ (c .before .before .gather .kept .1 .1 .1 .1 .1 .0) (alone-offered _ _ _ _ (omega arith) (l .pool) (l .now) _ (c .before .before .gather .result) (c .before .before .gather .ensures .0)))
 
 same-length : tie.Need-same-length Inv-loop μ-loop
 same-length c = c .before .loop .inv .1 .same
@@ -49,12 +64,16 @@ pour-spec =
     (tie.spec
     Inv-loop
     μ-loop
+    slice-aggregate-none
     loop-holds
-    mul-admit
-    shared-slice-read-admit
-    admit-requires
+    mul-e
+    shared-slice-read-e
     add-i
+    late-requires
     loop-less
     loop-again
+    gather-requires
+    loop-less-2
+    loop-again-2
     same-length
     returns)

@@ -1,6 +1,6 @@
 -- `stages::refuted` meets its contract. Assumes nothing.
 use mathlib.Core.List.{[]}
-use mathlib.Core.Path.{refl, subst, sym}
+use mathlib.Core.Path.{_∙_, ap, refl, subst, sym}
 use Prim.Native.Nat.{ℕ}
 use native.Mathlib.Omega.{arith}
 use lib.ListN.{take}
@@ -8,9 +8,12 @@ use lib.Seq.{length-take-le}
 use borrow.Author.Needs.{needs}
 use Rattle.labels.specs.Layout.{between}
 use Rattle.labels.specs.Promised.{Build}
+use Rattle.rules.specs.Held.{meaning}
+use mathlib.Core.List.{map}
 use Rattle.stages.proofs.Keeps.{kept-listed}
+use Rattle.stages.proofs.Marks.{nogood-still}
 use Rattle.stages.proofs.Nexts.{listed-built, nogoods-built}
-use Rattle.stages.proofs.Parts.{first-inside, first-low, part-joinable}
+use Rattle.stages.proofs.Parts.{first-inside, first-is, first-low, part-joinable}
 use Rattle.stages.proofs.Stages.{layout, nogoods-few, nogoods-long}
 use Rattle.stages.specs.Steps.{lists, tallied}
 use Rattle.stages.specs.declared.Lists.{Lists}
@@ -19,20 +22,20 @@ use Rattle.stages.proofs.refuted.Tie as tie
 
 returns : tie.Need-returns
 returns c =
-    let p = c .before .before .before .pre in
-    let a = c .before .before .before .args in
+    let p = c .before .before .before .before .pre in
+    let a = c .before .before .before .before .args in
     let was : Lists = lists (a .members .now) (a .sizes .now) (a .count) (a .t6) (a .depth) in
     listed-built _ _ _ (kept-listed (a .held) (p .0 .judgeable) (a .depth) (p .2 (c .if1 .taken)) was (p .0 .is) (p .0 .room))
 
 array-share-prefix-old : tie.Need-array-share-prefix-old
 array-share-prefix-old c =
-    let p = c .before .before .before .pre .0 in
+    let p = c .before .before .before .before .pre .0 in
     omega (arith, nogoods-few _ _ (p .room) _ (p .is), nogoods-long _ _ (p .room) _ (p .is))
 
 slice-aggregate-build : tie.Need-slice-aggregate-build
 slice-aggregate-build c =
-    let p = c .before .before .before .before .pre .0 in
-    let a = c .before .before .before .before .args in
+    let p = c .before .before .before .before .before .pre .0 in
+    let a = c .before .before .before .before .before .args in
     sym (length-take-le (a .count) (a .t6) (omega (arith, nogoods-few _ _ (p .room) _ (p .is), nogoods-long _ _ (p .room) _ (p .is))))
 
 array-share-prefix-none : tie.Need-array-share-prefix-none
@@ -43,18 +46,29 @@ slice-aggregate-build-2 c = search needs
 
 build-requires : tie.Need-build-requires
 build-requires c κs =
-    let p = c .before .before .before .before .before .pre in
-    let a = c .before .before .before .before .before .args in
+    let p = c .before .before .before .before .before .before .pre in
+    let a = c .before .before .before .before .before .before .args in
+    let was : Lists = lists (a .members .now) (a .sizes .now) (a .count) (a .t6) (a .depth) in
     let low = first-low (a .held) (p .0 .judgeable) (tallied (a .held)) refl in
-    (layout _ _ (p .0 .room) _ (p .0 .is), part-joinable (a .held) (p .0 .judgeable) 0 (a .end) (omega (arith, p .1, first-inside (a .held) (p .0 .judgeable) (tallied (a .held)) refl)), omega (arith, p .1, low), omega arith)
+    let is = ap (λ (e : ℕ). map meaning (between (a .held .entries) 0 e)) (p .1) ∙ first-is (a .held) (p .0 .judgeable) (tallied (a .held)) refl in
+    (layout _ _ (p .0 .room) _ (p .0 .is), part-joinable (a .held) (p .0 .judgeable) 0 (a .end) (omega (arith, p .1, first-inside (a .held) (p .0 .judgeable) (tallied (a .held)) refl)), omega (arith, p .1, low), omega arith, nogood-still (a .held) was (p .0) _ (p .3) _ is)
 
 returns-2 : tie.Need-returns-2
 returns-2 c =
-    let p = c .before .before .before .before .before .before .pre in
-    let a = c .before .before .before .before .before .before .args in
+    let p = c .before .before .before .before .before .before .before .pre in
+    let a = c .before .before .before .before .before .before .before .args in
     let was : Lists = lists (a .members .now) (a .sizes .now) (a .count) (a .t6) (a .depth) in
     nogoods-built (a .held) was (p .0) (tallied (a .held)) refl _
     (subst (λ (e : ℕ). Build (between (a .held .entries) 0 e) 0 (a .members .now) (a .sizes .now) (take (a .count) (a .t6)) [] 32 (c .build .result)) (p .1) (c .build .ensures))
 
 pub refuted-spec : {M : Type 1} → statement M
-refuted-spec = tie.close (tie.spec returns array-share-prefix-old slice-aggregate-build array-share-prefix-none slice-aggregate-build-2 build-requires returns-2)
+refuted-spec =
+    tie.close
+    (tie.spec
+    returns
+    array-share-prefix-old
+    slice-aggregate-build
+    array-share-prefix-none
+    slice-aggregate-build-2
+    build-requires
+    returns-2)

@@ -1,46 +1,45 @@
 -- `stages::relabel` meets its contract. Assumes nothing.
 use mathlib.Core.List.{[]}
-use mathlib.Core.Logic.{⊎-elim}
-use mathlib.Core.Path.{_∙_, _≡_, ap, sym}
-use Prim.Native.Nat.{_*_, _+_, _-_, _<_, _≤_, ℕ}
-use native.Mathlib.Nat.{not-suc-le-zero}
+use mathlib.Core.Path.{_∙_, _≡_, ap, refl, sym}
+use Prim.Native.Nat.{_*_, _+_, _-_, _<_, _≤_}
 use native.Mathlib.Omega.{arith}
 use borrow.Author.Needs.{needs}
+use borrow.Author.Tests.{not-true}
 use lib.ListN.{drop, getD, length, length-take}
 use Rattle.rules.specs.Held.{saidBy}
 use Rattle.stages.proofs.Keeps.{label-kept}
-use Rattle.stages.proofs.Nexts.{built-length, built-over, built-sets, built-short, label-built, over-at, over-none, short-on}
-use Rattle.stages.proofs.Parts.{below, first-on, part-joinable, tally-inside, tally-low, tally-on, wide}
+use Rattle.stages.proofs.Marks.{label-still}
+use Rattle.stages.proofs.Nexts.{built-length, built-over, built-sets, built-short, label-built, over-at}
+use Rattle.stages.proofs.Parts.{first-on, part-is, part-joinable, tally-end, tally-inside, tally-low, tally-on, wide}
+use Rattle.stages.proofs.Relabels.{Relabelling, old-is, relabelling-end, relabelling-kept, relabelling-lengths, relabelling-none, relabelling-put}
 use Rattle.stages.proofs.Spared.{struck-count, struck-sets, struck-short}
 use Rattle.stages.proofs.Stages.{layout, members-are, part-lies, room-short, sizes-are}
-use Rattle.stages.proofs.Writing.{member, members-kept, members-placed, members-written, mixed, mixed-all, size, sizes-kept, sizes-placed, sizes-written}
 use Rattle.stages.specs.Steps.{lists, stageBy}
 use Rattle.stages.specs.declared.Lists.{Lists}
 use Rattle.theory.proofs.Judgement.{stage-length}
-use Rattle.theory.proofs.Places.{length-table}
-use Rattle.theory.specs.Places.{table}
 use Rattle.stages.proofs.relabel.Statement.{statement}
 use Rattle.stages.proofs.relabel.Tie as tie
 
 abbrev Inv-loop : tie.InvT-loop
-Inv-loop held news depth members sizes struck later₀ counts₀ tallies stale top lo₀ i₀ later counts lo i = (i ≤ top) × (lo ≡ below (saidBy held) (i + 1)) × (counts ≡ table 128 (size (mixed (stageBy held depth .labels) (stageBy held (depth + 1) .labels) i))) × (later ≡ table 1536 (member (mixed (stageBy held depth .labels) (stageBy held (depth + 1) .labels) i))) × ((j : ℕ) → j < i → length (getD (stageBy held (depth + 1) .labels) j []) ≤ 12)
+Inv-loop held moved news depth members sizes struck later₀ counts₀ marks₀ tallies stale top hi₀ i₀ later counts marks hi i = Relabelling held depth later counts marks hi i
 
 abbrev μ-loop : tie.MeasureT-loop
-μ-loop held news depth members sizes struck later₀ counts₀ tallies stale top lo₀ i₀ later counts lo i = top - i
+μ-loop held moved news depth members sizes struck later₀ counts₀ marks₀ tallies stale top hi₀ i₀ later counts marks hi i = top - i
 
 add-top : tie.Need-add-top Inv-loop μ-loop
-add-top c = omega (arith, wide _ (c .before .before .before .before .before .before .pre .0 .2 .judgeable))
+add-top c = omega (arith, wide _ (c .before .before .before .before .before .before .before .before .pre .0 .2 .judgeable))
 
-array-read-lo : tie.Need-array-read-lo Inv-loop μ-loop
-array-read-lo c = search needs
+array-read-hi : tie.Need-array-read-hi Inv-loop μ-loop
+array-read-hi c = search needs
 
-cast-lo : tie.Need-cast-lo Inv-loop μ-loop
-cast-lo c = search needs
+cast-hi : tie.Need-cast-hi Inv-loop μ-loop
+cast-hi c = search needs
 
 loop-holds : tie.Need-loop-holds Inv-loop μ-loop
 loop-holds c =
-    let p = c .before .before .before .before .before .before .pre in
-    (omega arith, first-on _ (p .0 .2 .judgeable) _ (p .1), p .6 ∙ sizes-are _ _ (p .0 .2 .room) _ (p .0 .2 .is), p .5 ∙ members-are _ _ (p .0 .2 .room) _ (p .0 .2 .is), λ j h. absurd (not-suc-le-zero h))
+    let p = c .before .before .before .before .before .before .before .before .pre in
+    let a = c .before .before .before .before .before .before .before .before .args in
+    relabelling-none (a .held) (a .depth) _ _ _ _ (p .8) (first-on _ (p .0 .2 .judgeable) _ (p .1)) (p .7 ∙ sizes-are _ _ (p .0 .2 .room) _ (p .0 .2 .is)) (p .6 ∙ members-are _ _ (p .0 .2 .room) _ (p .0 .2 .is))
 
 cast-at : tie.Need-cast-at Inv-loop μ-loop
 cast-at c = search needs
@@ -51,188 +50,197 @@ add-hi c = search needs
 mul-hi : tie.Need-mul-hi Inv-loop μ-loop
 mul-hi c = search needs
 
-array-read-hi : tie.Need-array-read-hi Inv-loop μ-loop
-array-read-hi c = omega (arith, wide _ (c .before .before .before .before .before .before .before .before .pre .0 .2 .judgeable))
+array-read-hi-2 : tie.Need-array-read-hi-2 Inv-loop μ-loop
+array-read-hi-2 c = omega (arith, wide _ (c .before .before .before .before .before .before .before .before .before .before .pre .0 .2 .judgeable), c .loop-test .taken)
 
-cast-hi : tie.Need-cast-hi Inv-loop μ-loop
-cast-hi c = search needs
+cast-hi-2 : tie.Need-cast-hi-2 Inv-loop μ-loop
+cast-hi-2 c = search needs
 
 add-hi-2 : tie.Need-add-hi-2 Inv-loop μ-loop
-add-hi-2 c = omega (arith, tally-low _ (c .before .before .before .before .before .before .before .before .pre .0 .2 .judgeable) _ (c .before .before .before .before .before .before .before .before .pre .1) (c .before .loop .i + 1) (c .before .loop .lo) (omega (arith, wide _ (c .before .before .before .before .before .before .before .before .pre .0 .2 .judgeable))) (c .before .loop .inv .1))
+add-hi-2 c = let p = c .before .before .before .before .before .before .before .before .before .before .pre in let l = c .before .loop in omega (arith, tally-low _ (p .0 .2 .judgeable) _ (p .1) (l .i + 1) (l .hi) (omega (arith, wide _ (p .0 .2 .judgeable), c .loop-test .taken)) (l .inv .part))
+
+add-i : tie.Need-add-i Inv-loop μ-loop
+add-i c = omega (arith, wide _ (c .before .before .before .before .before .before .before .before .before .before .pre .0 .2 .judgeable), c .loop-test .taken)
 
 mul-from : tie.Need-mul-from Inv-loop μ-loop
 mul-from c = search needs
 
 shared-slice-read-end : tie.Need-shared-slice-read-end Inv-loop μ-loop
-shared-slice-read-end c =
-    let p = c .before .before .before .before .before .before .before .before .before .pre .0 .2 in
-    omega (arith, layout _ _ (p .room) _ (p .is) .sizes-length, wide _ (p .judgeable))
+shared-slice-read-end c = let p = c .before .before .before .before .before .before .before .before .before .before .before .pre .0 .2 in omega (arith, layout _ _ (p .room) _ (p .is) .sizes-length, wide _ (p .judgeable), c .before .loop-test .taken)
 
 cast-end : tie.Need-cast-end Inv-loop μ-loop
-cast-end c =
-    let p = c .before .before .before .before .before .before .before .before .before .pre .0 .2 in
-    omega (arith, layout _ _ (p .room) _ (p .is) .sizes-small (c .before .before .loop .i))
+cast-end c = let p = c .before .before .before .before .before .before .before .before .before .before .before .pre .0 .2 in omega (arith, layout _ _ (p .room) _ (p .is) .sizes-small (c .before .before .loop .i))
 
 add-end : tie.Need-add-end Inv-loop μ-loop
-add-end c =
-    let p = c .before .before .before .before .before .before .before .before .before .pre .0 .2 in
-    omega (arith, layout _ _ (p .room) _ (p .is) .sizes-small (c .before .before .loop .i), wide _ (p .judgeable))
+add-end c = let p = c .before .before .before .before .before .before .before .before .before .before .before .pre .0 .2 in omega (arith, layout _ _ (p .room) _ (p .is) .sizes-small (c .before .before .loop .i), wide _ (p .judgeable), c .before .loop-test .taken)
+
+mul-old : tie.Need-mul-old Inv-loop μ-loop
+mul-old c = search needs
+
+sub-old : tie.Need-sub-old Inv-loop μ-loop
+sub-old c = search needs
+
+part-old-start : tie.Need-part-old-start Inv-loop μ-loop
+part-old-start c = search needs
+
+part-old-end : tie.Need-part-old-end Inv-loop μ-loop
+part-old-end c =
+    let p = c .before .before .before .before .before .before .before .before .before .before .before .pre .0 .2 in
+    let y = layout _ _ (p .room) _ (p .is) in
+    omega (arith, y .sizes-small (c .before .before .loop .i), y .members-length, wide _ (p .judgeable), c .before .loop-test .taken)
 
 add-if1 : tie.Need-add-if1 Inv-loop μ-loop
 add-if1 c = search needs
 
 array-read-if1 : tie.Need-array-read-if1 Inv-loop μ-loop
-array-read-if1 c = omega (arith, wide _ (c .before .before .before .before .before .before .before .before .before .pre .0 .2 .judgeable))
-
-add-build : tie.Need-add-build Inv-loop μ-loop
-add-build c = omega (arith, wide _ (c .before .before .before .before .before .before .before .before .before .before .pre .0 .2 .judgeable))
-
-mul-build : tie.Need-mul-build Inv-loop μ-loop
-mul-build c = search needs
-
-sub-build : tie.Need-sub-build Inv-loop μ-loop
-sub-build c = search needs
-
-part-build-start : tie.Need-part-build-start Inv-loop μ-loop
-part-build-start c = search needs
-
-part-build-end : tie.Need-part-build-end Inv-loop μ-loop
-part-build-end c =
-    let p = c .before .before .before .before .before .before .before .before .before .before .pre .0 .2 in
-    let y = layout _ _ (p .room) _ (p .is) in
-    omega (arith, y .sizes-small (c .before .before .before .loop .i), y .members-length, wide _ (p .judgeable))
+array-read-if1 c = omega (arith, wide _ (c .before .before .before .before .before .before .before .before .before .before .before .before .pre .0 .2 .judgeable), c .before .before .loop-test .taken)
 
 build-requires : tie.Need-build-requires Inv-loop μ-loop
 build-requires c κs =
-    let p = c .before .before .before .before .before .before .before .before .before .before .before .pre in
+    let p = c .before .before .before .before .before .before .before .before .before .before .before .before .before .pre in
+    let a = c .before .before .before .before .before .before .before .before .before .before .before .before .before .args in
     let l = c .before .before .before .before .loop in
-    let h : l .i + 1 ≤ 128 = omega (arith, wide _ (p .0 .2 .judgeable)) in (
-      layout _ _ (p .0 .2 .room) _ (p .0 .2 .is),
-      part-joinable _ (p .0 .2 .judgeable) (l .lo) _ (tally-inside _ (p .0 .2 .judgeable) _ (p .1) (l .i + 1) (l .lo) h (l .inv .1)),
-      tally-low _ (p .0 .2 .judgeable) _ (p .1) (l .i + 1) (l .lo) h (l .inv .1),
-      omega arith,
-    )
-
-add-result : tie.Need-add-result Inv-loop μ-loop
-add-result c = search needs
+    let was : Lists = lists (a .members .now) (a .sizes .now) (p .0 .0) (p .0 .1) (a .depth) in
+    let w = wide (a .held) (p .0 .2 .judgeable) in
+    let lay = layout _ _ (p .0 .2 .room) was (p .0 .2 .is) in
+    let h : l .i < a .held .assumptions + a .held .claims = c .before .before .before .loop-test .taken in
+    let top : l .i + 1 ≤ 128 = omega arith in
+    let is = part-is (a .held) (p .0 .2 .judgeable) (l .i + 1) (l .hi) (l .hi + getD (a .t2) (l .i + 1) 0) (l .inv .part) (tally-end (a .held) (p .0 .2 .judgeable) (a .t2) (p .1) (l .i + 1) (l .hi) top (l .inv .part)) in
+    (lay, part-joinable _ (p .0 .2 .judgeable) (l .hi) _ (tally-inside _ (p .0 .2 .judgeable) _ (p .1) (l .i + 1) (l .hi) top (l .inv .part)), tally-low _ (p .0 .2 .judgeable) _ (p .1) (l .i + 1) (l .hi) top (l .inv .part), omega arith, label-still (a .held) was (p .0 .2) _ (p .4) (l .i + 1) (omega arith) _ is _ _ (p .2) (part-lies (a .members .now) (a .sizes .now) (l .i)))
 
 same-length : tie.Need-same-length Inv-loop μ-loop
-same-length c = ap length (c .before .before .before .before .before .before .before .loop .inv .3) ∙ length-table 1536 _ ∙ sym (ap length (c .before .before .before .before .before .before .before .before .before .before .before .before .before .before .pre .5) ∙ layout _ _ (c .before .before .before .before .before .before .before .before .before .before .before .before .before .before .pre .0 .2 .room) _ (c .before .before .before .before .before .before .before .before .before .before .before .before .before .before .pre .0 .2 .is) .members-length)
+same-length c = let p = c .before .before .before .before .before .before .before .before .before .before .before .before .before .before .before .before .pre in
+    let a = c .before .before .before .before .before .before .before .before .before .before .before .before .before .before .before .before .args in
+    let l = c .before .before .before .before .before .before .before .loop in
+    let w = wide (a .held) (p .0 .2 .judgeable) in
+    let lay = layout _ _ (p .0 .2 .room) _ (p .0 .2 .is) in
+    relabelling-lengths (a .held) (a .depth) _ _ _ _ _ (l .inv) .0 ∙ sym (ap length (p .6) ∙ lay .members-length)
 
 same-length-2 : tie.Need-same-length-2 Inv-loop μ-loop
-same-length-2 c = ap length (c .before .before .before .before .before .before .before .loop .inv .2) ∙ length-table 128 _ ∙ sym (ap length (c .before .before .before .before .before .before .before .before .before .before .before .before .before .before .pre .6) ∙ layout _ _ (c .before .before .before .before .before .before .before .before .before .before .before .before .before .before .pre .0 .2 .room) _ (c .before .before .before .before .before .before .before .before .before .before .before .before .before .before .pre .0 .2 .is) .sizes-length)
+same-length-2 c = let p = c .before .before .before .before .before .before .before .before .before .before .before .before .before .before .before .before .pre in
+    let a = c .before .before .before .before .before .before .before .before .before .before .before .before .before .before .before .before .args in
+    let l = c .before .before .before .before .before .before .before .loop in
+    let w = wide (a .held) (p .0 .2 .judgeable) in
+    let lay = layout _ _ (p .0 .2 .room) _ (p .0 .2 .is) in
+    relabelling-lengths (a .held) (a .depth) _ _ _ _ _ (l .inv) .1 ∙ sym (ap length (p .7) ∙ lay .sizes-length)
+
+same-length-3 : tie.Need-same-length-3 Inv-loop μ-loop
+same-length-3 c = let p = c .before .before .before .before .before .before .before .before .before .before .before .before .before .before .before .before .pre in
+    let a = c .before .before .before .before .before .before .before .before .before .before .before .before .before .before .before .before .args in
+    let l = c .before .before .before .before .before .before .before .loop in
+    let w = wide (a .held) (p .0 .2 .judgeable) in
+    let lay = layout _ _ (p .0 .2 .room) _ (p .0 .2 .is) in
+    relabelling-lengths (a .held) (a .depth) _ _ _ _ _ (l .inv) .2 ∙ sym (ap length (p .8))
 
 returns : tie.Need-returns Inv-loop μ-loop
 returns c =
-    let p = c .before .before .before .before .before .before .before .before .before .before .before .before .before .before .pre in
-    let a = c .before .before .before .before .before .before .before .before .before .before .before .before .before .before .args in
+    let p = c .before .before .before .before .before .before .before .before .before .before .before .before .before .before .before .before .pre in
+    let a = c .before .before .before .before .before .before .before .before .before .before .before .before .before .before .before .before .args in
     let l = c .before .before .before .before .before .before .before .loop in
     let was : Lists = lists (a .members .now) (a .sizes .now) (p .0 .0) (p .0 .1) (a .depth) in
-    let h : l .i < a .held .assumptions + a .held .claims = omega arith in
+    let w = wide (a .held) (p .0 .2 .judgeable) in
+    let lay = layout _ _ (p .0 .2 .room) was (p .0 .2 .is) in
+    let h : l .i < a .held .assumptions + a .held .claims = c .before .before .before .before .before .before .loop-test .taken in
     let n = stage-length (a .held .assumptions) (a .held .assumptions + a .held .claims) (saidBy (a .held)) (a .depth + 1) in
-    let m = label-built (a .held) was (p .0 .2) (a .t2) (p .1) _ (p .2) (l .i) (l .lo) h (l .inv .1) _ (part-lies (a .members .now) (a .sizes .now) (l .i)) _ (c .before .before .build .ensures) in
-    over-at (a .held) (a .depth + 1) (l .i) (l .inv .4) (omega arith) (built-over 12 (getD (stageBy (a .held) (a .depth + 1) .labels) (l .i) []) _ m (c .if2 .taken)) _ _
+    over-at (a .held) (a .depth) (l .i) (l .inv .short) (omega arith) (built-over 12 (getD (stageBy (a .held) (a .depth + 1) .labels) (l .i) []) _ (label-built (a .held) was (p .0 .2) (a .t2) (p .1) _ (p .2) (l .i) (l .hi) h (l .inv .part) _ (part-lies (a .members .now) (a .sizes .now) (l .i)) _ (c .before .before .build .ensures)) (c .if2 .taken)) _ _ _
 
-write-requires : tie.Need-write-requires Inv-loop μ-loop
-write-requires c κs = omega (arith, ap length (c .before .before .before .before .before .before .before .before .loop .inv .3) ∙ length-table 1536 _, wide _ (c .before .before .before .before .before .before .before .before .before .before .before .before .before .before .before .pre .0 .2 .judgeable))
-
-cast-counts : tie.Need-cast-counts Inv-loop μ-loop
-cast-counts c = search needs
-
-slice-write-counts : tie.Need-slice-write-counts Inv-loop μ-loop
-slice-write-counts c = omega (arith, ap length (c .before .before .before .before .before .before .before .before .before .before .before .before .loop .inv .2) ∙ length-table 128 _, wide _ (c .before .before .before .before .before .before .before .before .before .before .before .before .before .before .before .before .before .before .before .pre .0 .2 .judgeable))
-
-mul-strike : tie.Need-mul-strike Inv-loop μ-loop
-mul-strike c = search needs
-
-sub-strike : tie.Need-sub-strike Inv-loop μ-loop
-sub-strike c = search needs
-
-part-strike-start : tie.Need-part-strike-start Inv-loop μ-loop
-part-strike-start c = search needs
-
-part-strike-end : tie.Need-part-strike-end Inv-loop μ-loop
-part-strike-end c =
-    let p = c .before .before .before .before .before .before .before .before .before .before .before .pre .0 .2 in
-    let y = layout _ _ (p .room) _ (p .is) in
-    omega (arith, y .sizes-small (c .before .before .before .before .loop .i), y .members-length, wide _ (p .judgeable))
-
-strike-requires : tie.Need-strike-requires Inv-loop μ-loop
-strike-requires c κs =
-    let p = c .before .before .before .before .before .before .before .before .before .before .before .before .pre .0 .2 in
-    let i = c .before .before .before .before .before .loop .i in
-    let m = c .before .before .before .before .before .before .before .before .before .before .before .before .args .members .now in
-    let n = c .before .before .before .before .before .before .before .before .before .before .before .before .args .sizes .now in
-    omega (arith, length-take (12 * i + getD n i 0 - 12 * i) (drop (12 * i) m), layout _ _ (p .room) _ (p .is) .sizes-small i)
-
-write-requires-2 : tie.Need-write-requires-2 Inv-loop μ-loop
-write-requires-2 c κs = omega (arith, ap length (c .before .before .before .before .before .before .before .loop .inv .3) ∙ length-table 1536 _, wide _ (c .before .before .before .before .before .before .before .before .before .before .before .before .before .before .pre .0 .2 .judgeable))
-
-cast-counts-2 : tie.Need-cast-counts-2 Inv-loop μ-loop
-cast-counts-2 c =
-    let p = c .before .before .before .before .before .before .before .before .before .before .before .before .before .before .before .before .before .before .pre in
-    let a = c .before .before .before .before .before .before .before .before .before .before .before .before .before .before .before .before .before .before .args in
-    let l = c .before .before .before .before .before .before .before .before .before .before .before .loop in
-    let was : Lists = lists (a .members .now) (a .sizes .now) (p .0 .0) (p .0 .1) (a .depth) in
-    omega (arith, struck-count (a .held) was (p .0 .2) (a .t3) (p .3) (l .i) (c .before .before .before .before .before .before .before .before .before .before .loop-test .taken) (c .before .before .before .before .before .before .before .before .if1 .left) _ (p .2) _ (part-lies (a .members .now) (a .sizes .now) (l .i)) _ (c .before .before .before .before .before .strike .ensures), struck-short (a .held) was (p .0 .2) (a .t3) (p .3) (l .i) (c .before .before .before .before .before .before .before .before .before .before .loop-test .taken) (c .before .before .before .before .before .before .before .before .if1 .left))
-
-slice-write-counts-2 : tie.Need-slice-write-counts-2 Inv-loop μ-loop
-slice-write-counts-2 c = omega (arith, ap length (c .before .before .before .before .before .before .before .before .before .before .before .loop .inv .2) ∙ length-table 128 _, wide _ (c .before .before .before .before .before .before .before .before .before .before .before .before .before .before .before .before .before .before .pre .0 .2 .judgeable))
-
-add-i : tie.Need-add-i Inv-loop μ-loop
-add-i c = search needs
+put-requires : tie.Need-put-requires Inv-loop μ-loop
+put-requires c κs = let p = c .before .before .before .before .before .before .before .before .before .before .before .before .before .before .before .before .before .before .before .pre in
+    let a = c .before .before .before .before .before .before .before .before .before .before .before .before .before .before .before .before .before .before .before .args in
+    let l = c .before .before .before .before .before .before .before .before .before .before .loop in
+    let w = wide (a .held) (p .0 .2 .judgeable) in
+    let lay = layout _ _ (p .0 .2 .room) _ (p .0 .2 .is) in
+    let e = relabelling-lengths (a .held) (a .depth) _ _ _ _ _ (l .inv) in (c .before .before .before .if2 .left, omega (arith, w, c .before .before .before .before .before .before .before .before .before .loop-test .taken), e .0, e .1, e .2)
 
 loop-less : tie.Need-loop-less Inv-loop μ-loop
-loop-less c = omega arith
+loop-less c = omega (arith, c .before .before .before .before .before .before .before .before .before .before .before .before .before .before .before .before .loop-test .taken)
 
 loop-again : tie.Need-loop-again Inv-loop μ-loop
 loop-again c =
-    let p = c .before .before .before .before .before .before .before .before .before .before .pre in
-    let a = c .before .before .before .before .before .before .before .before .before .before .args in
-    let l = c .before .before .before .loop in
+    let p = c .before .before .before .before .before .before .before .before .before .before .before .before .before .before .before .before .before .before .before .before .before .before .before .before .before .before .pre in
+    let a = c .before .before .before .before .before .before .before .before .before .before .before .before .before .before .before .before .before .before .before .before .before .before .before .before .before .before .args in
+    let l = c .before .before .before .before .before .before .before .before .before .before .before .before .before .before .before .before .before .loop in
     let was : Lists = lists (a .members .now) (a .sizes .now) (p .0 .0) (p .0 .1) (a .depth) in
-    let s = stageBy (a .held) (a .depth + 1) in
-    let old = stageBy (a .held) (a .depth) .labels in
-    let h : l .i < a .held .assumptions + a .held .claims = omega arith in
-    let t : l .i < 128 = omega (arith, wide _ (p .0 .2 .judgeable)) in
-    let n = stage-length (a .held .assumptions) (a .held .assumptions + a .held .claims) (saidBy (a .held)) (a .depth + 1) in
-    let low : l .i < length (s .labels) = omega arith in
-    let on = tally-on (a .held) (p .0 .2 .judgeable) (a .t2) (p .1) (l .i + 1) (l .lo) (omega arith) (l .inv .1) in
-    let X = getD (s .labels) (l .i) [] in
-    ⊎-elim (λ w.
-    let m = label-built (a .held) was (p .0 .2) (a .t2) (p .1) _ (p .2) (l .i) (l .lo) h (l .inv .1) _ (part-lies (a .members .now) (a .sizes .now) (l .i)) _ (w .2 .ensures) in
-    (omega arith, on, w .11 ∙ sizes-written old (s .labels) (l .i) low t _ (l .inv .2) _ (built-length 12 X _ m (w .4 .left)), w .10 ∙ members-written old (s .labels) (l .i) low t _ (l .inv .3) _ (built-sets 12 X _ m (w .4 .left)) _ (w .6 .ensures), short-on s (l .i) (built-short 12 X _ m (w .4 .left)) (l .inv .4)))
-    (λ v. ⊎-elim (λ w.
-    let short = struck-short (a .held) was (p .0 .2) (a .t3) (p .3) (l .i) h (w .0 .left) in
-    let m = struck-count (a .held) was (p .0 .2) (a .t3) (p .3) (l .i) h (w .0 .left) _ (p .2) _ (part-lies (a .members .now) (a .sizes .now) (l .i)) _ (w .3 .ensures) in
-    let x = struck-sets (a .held) was (p .0 .2) (a .t3) (p .3) (l .i) h (w .0 .left) _ (p .2) _ (part-lies (a .members .now) (a .sizes .now) (l .i)) _ (w .3 .ensures) in
-    (omega arith, on, w .10 ∙ sizes-written old (s .labels) (l .i) low t _ (l .inv .2) _ m, w .9 ∙ members-written old (s .labels) (l .i) low t _ (l .inv .3) _ x _ (w .5 .ensures), short-on s (l .i) short (l .inv .4)))
-    (λ w.
-    let e = label-kept (a .held) (p .0 .2 .judgeable) (a .depth) (a .t3) (p .3) (l .i) h (w .0 .left) (p .4 (w .1 .left)) in
-    (omega arith, on, w .3 ∙ sizes-kept old (s .labels) (l .i) low e _ (l .inv .2), w .2 ∙ members-kept old (s .labels) (l .i) low e _ (l .inv .3), short-on s (l .i) (omega (arith, ap length e, room-short _ (p .0 .2 .room) (l .i))) (l .inv .4)))
-    v)
-    (c .if1 .came)
+    let w = wide (a .held) (p .0 .2 .judgeable) in
+    let lay = layout _ _ (p .0 .2 .room) was (p .0 .2 .is) in
+    let h : l .i < a .held .assumptions + a .held .claims = c .before .before .before .before .before .before .before .before .before .before .before .before .before .before .before .before .loop-test .taken in
+    let b = label-built (a .held) was (p .0 .2) (a .t2) (p .1) _ (p .2) (l .i) (l .hi) h (l .inv .part) _ (part-lies (a .members .now) (a .sizes .now) (l .i)) _ (c .before .before .before .before .before .before .before .before .before .before .before .before .build .ensures) in
+    relabelling-put (a .held) (a .depth) _ _ _ (l .hi) (l .i) (l .inv) w h _ (tally-on (a .held) (p .0 .2 .judgeable) (a .t2) (p .1) (l .i + 1) (l .hi) (omega (arith, w, c .before .before .before .before .before .before .before .before .before .before .before .before .before .before .before .before .loop-test .taken)) (l .inv .part)) (c .before .before .before .before .before .before .before .before .before .before .before .before .build .result) (built-length 12 (getD (stageBy (a .held) (a .depth + 1) .labels) (l .i) []) _ b (c .before .before .before .before .before .before .before .before .before .before .if2 .left)) (built-sets 12 (getD (stageBy (a .held) (a .depth + 1) .labels) (l .i) []) _ b (c .before .before .before .before .before .before .before .before .before .before .if2 .left)) (built-short 12 (getD (stageBy (a .held) (a .depth + 1) .labels) (l .i) []) _ b (c .before .before .before .before .before .before .before .before .before .before .if2 .left)) _ (old-is (a .held) was (p .0 .2) (l .i) h _ (part-lies (a .members .now) (a .sizes .now) (l .i))) _ _ _ (c .before .before .before .before .before .before .put .ensures)
 
-same-length-3 : tie.Need-same-length-3 Inv-loop μ-loop
-same-length-3 c = ap length (c .before .loop .inv .3) ∙ length-table 1536 _ ∙ sym (ap length (c .before .before .before .before .before .before .before .before .pre .5) ∙ layout _ _ (c .before .before .before .before .before .before .before .before .pre .0 .2 .room) _ (c .before .before .before .before .before .before .before .before .pre .0 .2 .is) .members-length)
+loop-less-2 : tie.Need-loop-less-2 Inv-loop μ-loop
+loop-less-2 c = omega (arith, c .before .before .before .before .loop-test .taken)
+
+loop-again-2 : tie.Need-loop-again-2 Inv-loop μ-loop
+loop-again-2 c =
+    let p = c .before .before .before .before .before .before .before .before .before .before .before .before .before .before .pre in
+    let a = c .before .before .before .before .before .before .before .before .before .before .before .before .before .before .args in
+    let l = c .before .before .before .before .before .loop in
+    let was : Lists = lists (a .members .now) (a .sizes .now) (p .0 .0) (p .0 .1) (a .depth) in
+    let w = wide (a .held) (p .0 .2 .judgeable) in
+    let lay = layout _ _ (p .0 .2 .room) was (p .0 .2 .is) in
+    let h : l .i < a .held .assumptions + a .held .claims = c .before .before .before .before .loop-test .taken in
+    relabelling-kept (a .held) (a .depth) _ _ _ (l .hi) (l .i) (l .inv) w h _ (tally-on (a .held) (p .0 .2 .judgeable) (a .t2) (p .1) (l .i + 1) (l .hi) (omega (arith, w, c .before .before .before .before .loop-test .taken)) (l .inv .part)) (label-kept (a .held) (p .0 .2 .judgeable) (a .depth) (a .t3) (p .3) (l .i) h (c .before .if1 .left) (p .5 (not-true _ (c .if3 .taken)))) (room-short _ (p .0 .2 .room) (l .i))
+
+strike-requires : tie.Need-strike-requires Inv-loop μ-loop
+strike-requires c κs =
+    let p = c .before .before .before .before .before .before .before .before .before .before .before .before .before .before .pre .0 .2 in
+    let i = c .before .before .before .before .before .loop .i in
+    let m = c .before .before .before .before .before .before .before .before .before .before .before .before .before .before .args .members .now in
+    let n = c .before .before .before .before .before .before .before .before .before .before .before .before .before .before .args .sizes .now in
+    omega (arith, length-take (12 * i + getD n i 0 - 12 * i) (drop (12 * i) m), layout _ _ (p .room) _ (p .is) .sizes-small i)
+
+put-requires-2 : tie.Need-put-requires-2 Inv-loop μ-loop
+put-requires-2 c κs =
+    let p = c .before .before .before .before .before .before .before .before .before .before .before .before .before .before .before .before .before .before .pre in
+    let a = c .before .before .before .before .before .before .before .before .before .before .before .before .before .before .before .before .before .before .args in
+    let l = c .before .before .before .before .before .before .before .before .before .loop in
+    let was : Lists = lists (a .members .now) (a .sizes .now) (p .0 .0) (p .0 .1) (a .depth) in
+    let w = wide (a .held) (p .0 .2 .judgeable) in
+    let lay = layout _ _ (p .0 .2 .room) was (p .0 .2 .is) in
+    let h : l .i < a .held .assumptions + a .held .claims = c .before .before .before .before .before .before .before .before .loop-test .taken in
+    let e = relabelling-lengths (a .held) (a .depth) _ _ _ _ _ (l .inv) in
+    (omega (arith, struck-count (a .held) was (p .0 .2) (a .t3) (p .3) (l .i) h (c .before .before .before .before .before .if1 .left) _ (p .2) _ (part-lies (a .members .now) (a .sizes .now) (l .i)) _ (c .before .before .before .strike .ensures), struck-short (a .held) was (p .0 .2) (a .t3) (p .3) (l .i) h (c .before .before .before .before .before .if1 .left)), omega arith, e .0, e .1, e .2)
+
+loop-less-3 : tie.Need-loop-less-3 Inv-loop μ-loop
+loop-less-3 c = omega (arith, c .before .before .before .before .before .before .before .before .before .before .before .before .before .before .before .loop-test .taken)
+
+loop-again-3 : tie.Need-loop-again-3 Inv-loop μ-loop
+loop-again-3 c =
+    let p = c .before .before .before .before .before .before .before .before .before .before .before .before .before .before .before .before .before .before .before .before .before .before .before .before .before .pre in
+    let a = c .before .before .before .before .before .before .before .before .before .before .before .before .before .before .before .before .before .before .before .before .before .before .before .before .before .args in
+    let l = c .before .before .before .before .before .before .before .before .before .before .before .before .before .before .before .before .loop in
+    let was : Lists = lists (a .members .now) (a .sizes .now) (p .0 .0) (p .0 .1) (a .depth) in
+    let w = wide (a .held) (p .0 .2 .judgeable) in
+    let lay = layout _ _ (p .0 .2 .room) was (p .0 .2 .is) in
+    let h : l .i < a .held .assumptions + a .held .claims = c .before .before .before .before .before .before .before .before .before .before .before .before .before .before .before .loop-test .taken in
+    relabelling-put (a .held) (a .depth) _ _ _ (l .hi) (l .i) (l .inv) w h _ (tally-on (a .held) (p .0 .2 .judgeable) (a .t2) (p .1) (l .i + 1) (l .hi) (omega (arith, w, c .before .before .before .before .before .before .before .before .before .before .before .before .before .before .before .loop-test .taken)) (l .inv .part)) (c .before .before .before .before .before .before .before .before .before .before .strike .result) (struck-count (a .held) was (p .0 .2) (a .t3) (p .3) (l .i) h (c .before .before .before .before .before .before .before .before .before .before .before .before .if1 .left) _ (p .2) _ (part-lies (a .members .now) (a .sizes .now) (l .i)) _ (c .before .before .before .before .before .before .before .before .before .before .strike .ensures)) (struck-sets (a .held) was (p .0 .2) (a .t3) (p .3) (l .i) h (c .before .before .before .before .before .before .before .before .before .before .before .before .if1 .left) _ (p .2) _ (part-lies (a .members .now) (a .sizes .now) (l .i)) _ (c .before .before .before .before .before .before .before .before .before .before .strike .ensures)) (struck-short (a .held) was (p .0 .2) (a .t3) (p .3) (l .i) h (c .before .before .before .before .before .before .before .before .before .before .before .before .if1 .left)) _ (old-is (a .held) was (p .0 .2) (l .i) h _ (part-lies (a .members .now) (a .sizes .now) (l .i))) _ _ _ (c .before .before .before .before .before .before .put2 .ensures)
 
 same-length-4 : tie.Need-same-length-4 Inv-loop μ-loop
-same-length-4 c = ap length (c .before .loop .inv .2) ∙ length-table 128 _ ∙ sym (ap length (c .before .before .before .before .before .before .before .before .pre .6) ∙ layout _ _ (c .before .before .before .before .before .before .before .before .pre .0 .2 .room) _ (c .before .before .before .before .before .before .before .before .pre .0 .2 .is) .sizes-length)
+same-length-4 c = let p = c .before .before .before .before .before .before .before .before .before .before .pre in
+    let a = c .before .before .before .before .before .before .before .before .before .before .args in
+    let l = c .before .loop in
+    let w = wide (a .held) (p .0 .2 .judgeable) in
+    let lay = layout _ _ (p .0 .2 .room) _ (p .0 .2 .is) in
+    relabelling-lengths (a .held) (a .depth) _ _ _ _ _ (l .inv) .0 ∙ sym (ap length (p .6) ∙ lay .members-length)
+
+same-length-5 : tie.Need-same-length-5 Inv-loop μ-loop
+same-length-5 c = let p = c .before .before .before .before .before .before .before .before .before .before .pre in
+    let a = c .before .before .before .before .before .before .before .before .before .before .args in
+    let l = c .before .loop in
+    let w = wide (a .held) (p .0 .2 .judgeable) in
+    let lay = layout _ _ (p .0 .2 .room) _ (p .0 .2 .is) in
+    relabelling-lengths (a .held) (a .depth) _ _ _ _ _ (l .inv) .1 ∙ sym (ap length (p .7) ∙ lay .sizes-length)
+
+same-length-6 : tie.Need-same-length-6 Inv-loop μ-loop
+same-length-6 c = let p = c .before .before .before .before .before .before .before .before .before .before .pre in
+    let a = c .before .before .before .before .before .before .before .before .before .before .args in
+    let l = c .before .loop in
+    let w = wide (a .held) (p .0 .2 .judgeable) in
+    let lay = layout _ _ (p .0 .2 .room) _ (p .0 .2 .is) in
+    relabelling-lengths (a .held) (a .depth) _ _ _ _ _ (l .inv) .2 ∙ sym (ap length (p .8))
 
 returns-2 : tie.Need-returns-2 Inv-loop μ-loop
-returns-2 c =
-    let p = c .before .before .before .before .before .before .before .before .pre in
-    let a = c .before .before .before .before .before .before .before .before .args in
-    let l = c .before .loop in
-    let s = stageBy (a .held) (a .depth + 1) in
-    let old = stageBy (a .held) (a .depth) .labels in
-    let n = stage-length (a .held .assumptions) (a .held .assumptions + a .held .claims) (saidBy (a .held)) (a .depth + 1) in
-    let m = stage-length (a .held .assumptions) (a .held .assumptions + a .held .claims) (saidBy (a .held)) (a .depth) in
-    let e = mixed-all old (s .labels) (l .i) (omega arith) (omega arith) in record {
-      over = over-none (a .held) (a .depth + 1) (l .i) (l .inv .4) (omega arith);
-      members-are = λ z. l .inv .3 ∙ ap (λ x. table 1536 (member x)) e ∙ members-placed (a .depth + 1) s;
-      sizes-are = λ z. l .inv .2 ∙ ap (λ x. table 128 (size x)) e ∙ sizes-placed (a .depth + 1) s;
-    }
+returns-2 c = relabelling-end (c .before .before .before .before .before .before .before .before .before .before .args .held) (c .before .before .before .before .before .before .before .before .before .before .args .depth) _ _ _ _ _ (c .before .loop .inv) (c .loop-test .left)
 
 pub relabel-spec : {M : Type 1} → statement M
 relabel-spec =
@@ -241,45 +249,41 @@ relabel-spec =
     Inv-loop
     μ-loop
     add-top
-    array-read-lo
-    cast-lo
+    array-read-hi
+    cast-hi
     loop-holds
     cast-at
     add-hi
     mul-hi
-    array-read-hi
-    cast-hi
+    array-read-hi-2
+    cast-hi-2
     add-hi-2
+    add-i
     mul-from
     shared-slice-read-end
     cast-end
     add-end
+    mul-old
+    sub-old
+    part-old-start
+    part-old-end
     add-if1
     array-read-if1
-    add-build
-    mul-build
-    sub-build
-    part-build-start
-    part-build-end
     build-requires
-    add-result
     same-length
     same-length-2
+    same-length-3
     returns
-    write-requires
-    cast-counts
-    slice-write-counts
-    mul-strike
-    sub-strike
-    part-strike-start
-    part-strike-end
-    strike-requires
-    write-requires-2
-    cast-counts-2
-    slice-write-counts-2
-    add-i
+    put-requires
     loop-less
     loop-again
-    same-length-3
+    loop-less-2
+    loop-again-2
+    strike-requires
+    put-requires-2
+    loop-less-3
+    loop-again-3
     same-length-4
+    same-length-5
+    same-length-6
     returns-2)

@@ -3,58 +3,61 @@ use mathlib.Core.List.{map}
 use mathlib.Core.Path.{_∙_, _≡_, refl}
 use Prim.Native.Nat.{_-_, _≤_}
 use native.Mathlib.Omega.{arith}
-use lib.ListN.{length, length-set, replicate, take}
+use lib.ListN.{length, length-set, take}
 use Rattle.rules.proofs.Scan.{right-elim}
 use Rattle.rules.proofs.Steps.{beyond}
 use Rattle.rules.specs.Held.{meaning}
-use Rattle.stages.proofs.Keeps.{touched-end, touched-none, touched-turn}
+use Rattle.stages.proofs.Marks.{touched-end, touched-none, touched-turn}
 use Rattle.stages.proofs.Parts.{entry-few, entry-low, entry-ranged}
-use Rattle.stages.specs.Steps.{Untouched, sameLabel}
+use Rattle.stages.specs.Steps.{Touched}
 use Rattle.stages.proofs.touched.Statement.{statement}
 use Rattle.stages.proofs.touched.Tie as tie
 
 abbrev Inv-loop : tie.InvT-loop
-Inv-loop members sizes later counts held count marks₀ j₀ marks j = (j ≤ count) × (length marks ≡ 129) × Untouched (sameLabel members sizes later counts) (map meaning (take j (held .entries))) marks
+Inv-loop moved held count first marks₀ j₀ marks j = (j ≤ count) × (length marks ≡ 129) × Touched moved (map meaning (take j (held .entries))) marks
 
 abbrev μ-loop : tie.MeasureT-loop
-μ-loop members sizes later counts held count marks₀ j₀ marks j = count - j
+μ-loop moved held count first marks₀ j₀ marks j = count - j
+
+shared-slice-read-first : tie.Need-shared-slice-read-first Inv-loop μ-loop
+shared-slice-read-first c = omega (arith, c .before .before .pre .1)
 
 loop-holds : tie.Need-loop-holds Inv-loop μ-loop
-loop-holds c = (omega arith, refl, touched-none _ (replicate 129 0))
+loop-holds c = (omega arith, refl, touched-none _ _ refl)
 
 mul-entry : tie.Need-mul-entry Inv-loop μ-loop
-mul-entry c = omega (arith, right-elim _ (c .before .before .before .before .before .before .pre .0 .right) .few)
+mul-entry c = omega (arith, right-elim _ (c .before .before .before .before .pre .0 .right) .few)
 
 element-copy-out-entry : tie.Need-element-copy-out-entry Inv-loop μ-loop
-element-copy-out-entry c = omega (arith, right-elim _ (c .before .before .before .before .before .before .pre .0 .right) .few, right-elim _ (c .before .before .before .before .before .before .pre .0 .right) .long)
+element-copy-out-entry c = let r = right-elim _ (c .before .before .before .before .pre .0 .right) in omega (arith, r .few, r .long)
 
 cast-n : tie.Need-cast-n Inv-loop μ-loop
-cast-n c = omega (arith, entry-low _ (c .before .before .before .before .before .before .before .before .pre .0) (c .before .before .before .loop .j) beyond (c .before .before .loop-test .taken))
+cast-n c = omega (arith, entry-low _ (c .before .before .before .before .before .before .pre .0) (c .before .before .before .loop .j) beyond (c .before .before .loop-test .taken))
 
 array-read-marked : tie.Need-array-read-marked Inv-loop μ-loop
-array-read-marked c = omega (arith, entry-low _ (c .before .before .before .before .before .before .before .before .pre .0) (c .before .before .before .loop .j) beyond (c .before .before .loop-test .taken), c .before .before .before .loop .inv .1)
+array-read-marked c = omega (arith, entry-low _ (c .before .before .before .before .before .before .pre .0) (c .before .before .before .loop .j) beyond (c .before .before .loop-test .taken), c .before .before .before .loop .inv .1)
 
 marked-requires : tie.Need-marked-requires Inv-loop μ-loop
-marked-requires c κs = (entry-few _ (c .before .before .before .before .before .before .before .before .pre .0) (c .before .before .before .loop .j) _ (c .before .before .loop-test .taken), entry-ranged _ (c .before .before .before .before .before .before .before .before .pre .0) (c .before .before .before .loop .j) _ (c .before .before .loop-test .taken), c .before .before .before .before .before .before .before .before .pre .1, c .before .before .before .before .before .before .before .before .pre .2)
+marked-requires c κs = (entry-few _ (c .before .before .before .before .before .before .pre .0) (c .before .before .before .loop .j) _ (c .before .before .loop-test .taken), entry-ranged _ (c .before .before .before .before .before .before .pre .0) (c .before .before .before .loop .j) _ (c .before .before .loop-test .taken), c .before .before .before .before .before .before .pre .1)
 
 array-write-marks : tie.Need-array-write-marks Inv-loop μ-loop
-array-write-marks c = omega (arith, entry-low _ (c .before .before .before .before .before .before .before .before .before .pre .0) (c .before .before .before .before .loop .j) beyond (c .before .before .before .loop-test .taken), c .before .before .before .before .loop .inv .1)
+array-write-marks c = omega (arith, entry-low _ (c .before .before .before .before .before .before .before .pre .0) (c .before .before .before .before .loop .j) beyond (c .before .before .before .loop-test .taken), c .before .before .before .before .loop .inv .1)
 
 add-j : tie.Need-add-j Inv-loop μ-loop
-add-j c = omega (arith, c .before .before .before .loop-test .taken, right-elim _ (c .before .before .before .before .before .before .before .before .before .pre .0 .right) .few)
+add-j c = omega (arith, c .before .before .before .loop-test .taken, right-elim _ (c .before .before .before .before .before .before .before .pre .0 .right) .few)
 
 loop-less : tie.Need-loop-less Inv-loop μ-loop
 loop-less c = omega (arith, c .before .before .before .loop-test .taken)
 
 loop-again : tie.Need-loop-again Inv-loop μ-loop
 loop-again c =
-    let s = c .before .before .before .before .before .before .before .before .before in
+    let s = c .before .before .before .before .before .before .before in
     let l = c .before .before .before .before .loop in
     let r = right-elim _ (s .pre .0 .right) in
     (omega (arith, c .before .before .before .loop-test .taken), length-set (l .marks) _ _ ∙ l .inv .1, touched-turn _ (s .args .t1 .entries) (l .j) _ (omega (arith, c .before .before .before .loop-test .taken, r .few, r .long)) (l .marks) (l .inv .2) (omega (arith, entry-low _ (s .pre .0) (l .j) beyond (c .before .before .before .loop-test .taken), l .inv .1)) _ (c .marked .ensures))
 
 returns : tie.Need-returns Inv-loop μ-loop
-returns c = touched-end _ (c .before .before .before .before .before .before .args .t1 .entries) (c .before .before .before .before .before .before .args .t1 .count) (c .before .loop .j) (c .before .loop .inv .0) (c .loop-test .left) (c .before .loop .marks) (c .before .loop .inv .2)
+returns c = touched-end _ (c .before .before .before .before .args .t1 .entries) (c .before .before .before .before .args .t1 .count) (c .before .loop .j) (c .before .loop .inv .0) (c .loop-test .left) (c .before .loop .marks) (c .before .loop .inv .2)
 
 pub touched-spec : {M : Type 1} → statement M
 touched-spec =
@@ -62,6 +65,7 @@ touched-spec =
     (tie.spec
     Inv-loop
     μ-loop
+    shared-slice-read-first
     loop-holds
     mul-entry
     element-copy-out-entry
