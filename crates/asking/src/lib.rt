@@ -50,7 +50,7 @@ fn stands(lists: Lists, n: usize, e: u32) -> Answer
     ensures { λ r. ⌜ r ≡ standing lists n e ⌝ }
 {
     let count = lists.count;
-    let nogood = reach(&lists.nogoods, 0, 0, e);
+    let nogood = reach(&lists.nogoods, 0, count, e);
     if nogood < count {
         return Answer::Inconsistent(lists.nogoods[nogood]);
     }
