@@ -67,7 +67,8 @@ records-one A N (suc n) r H l =
     (numbers-one (suc r) k l₂ _ (λ s l₃.
     given-one _ _ _
     (given-one _ _ _
-    (records-one A N n (suc r) (justificationOf N c s ∷ H) l₃))))))
+    (given-one _ _ _
+    (records-one A N n (suc r) (justificationOf N c s ∷ H) l₃)))))))
 
 pub load-one : (bytes : List ℕ) → One (LoadRows bytes)
 load-one bytes =
@@ -258,7 +259,8 @@ plain-numbers (suc n) l = plain-then (numberFrom l) _ (plain-number l) (λ x l�
 plain-fault : (N c : ℕ) (s : List ℕ) → Unnamed (faultOf N c s)
 unfolding faultOf
 plain-fault N c s =
-    chosen Unnamed (ltb 4 (length s)) (refl, λ z. omega arith) (chosen Unnamed (ltb N c || someOf (ltb N) s) (refl, λ z. omega arith) (chosen Unnamed (someOf (eqb 0) s) (refl, λ z. omega arith) (refl, λ z. omega arith)))
+    chosen Unnamed (ltb 4 (length s)) (refl, λ z. omega arith) (chosen Unnamed (ltb N c || someOf (ltb N) s) (refl, λ z. omega arith) (chosen Unnamed (someOf (eqb 0) s) (refl, λ z. omega arith)
+    (chosen Unnamed (someOf (eqb c) s) (refl, λ z. omega arith) (refl, λ z. omega arith))))
 
 plain-record : (N : ℕ) (l : List ℕ) → Plain (recordFrom N l)
 unfolding recordFrom unless
