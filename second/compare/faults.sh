@@ -86,5 +86,11 @@ fault "own reason: 17 before 5" store.rs \
     's/^    refuse_if(supports.contains(&0), 5)?;/    refuse_if(supports.contains(\&consequent), 17)?; refuse_if(supports.contains(\&0), 5)?;/'
 fault "own reason: in a file only after the last record" case_file.rs \
     's/check_numbers(last, consequent, &supports)?;/check_numbers(last, consequent, \&supports).or_else(|x| if x.number == 17 { Ok(()) } else { Err(x) })?;/;s/^    if file.place < bytes.len() {/    if held.iter().any(|rule| rule.supports.contains(\&rule.consequent)) { return Err(at_record(count)(Refusal::plain(17))); }\n    if file.place < bytes.len() {/'
+fault "reason: the last member within" store.rs \
+    's/list.iter().copied().find(/list.iter().rev().copied().find(/'
+fault "reason: the smallest number within" store.rs \
+    's/list.iter().copied().find(|&member| inside(member, set))/list.iter().copied().filter(|\&member| inside(member, set)).min()/'
+fault "reason: an inconsistent one names the set asked" store.rs \
+    's/return Answer::Inconsistent(nogood);/return Answer::Inconsistent(if nogood == 0 { 0 } else { set });/'
 rm -rf "$work"
 if [ $missed = 0 ]; then echo "all faults seen"; else echo "faults.sh: FAILED"; exit 1; fi

@@ -12,8 +12,8 @@ pub struct File {
 /// All files, no two of them alike.
 pub fn all(r: &mut Random) -> Vec<File> {
     let mut files = Files { files: Vec::new(), seen: HashSet::new() };
-    files.take(6000, "small", |_| cases::random_small(r).bytes());
-    files.take(1500, "middle", |_| cases::random_middle(r).bytes());
+    files.take(4400, "small", |_| cases::random_small(r).bytes());
+    files.take(1100, "middle", |_| cases::random_middle(r).bytes());
     files.take(700, "large", |_| cases::random_large(r).bytes());
     files.take(900, "crowded", |_| cases::random_crowded(r).bytes());
     files.take(700, "chain", |_| cases::chain(r).bytes());
@@ -26,9 +26,9 @@ pub fn all(r: &mut Random) -> Vec<File> {
     files.take(900, "record fault", |i| record_fault(r, i));
     files.take(300, "number form", |_| number_form(r));
     files.take(400, "bytes after", |_| bytes_after(r));
-    files.take(3000, "damaged", |_| damaged(r));
+    files.take(2200, "damaged", |_| damaged(r));
     files.take(400, "about 4,096 bytes", |i| about_4096(r, i));
-    files.cut(2600, r);
+    files.cut(1800, r);
     files.files
 }
 

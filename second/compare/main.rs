@@ -27,7 +27,7 @@ use std::sync::atomic::{AtomicUsize, Ordering};
 use tally::Tally;
 
 const WORKERS: usize = 2;
-const LEAST_FILES: usize = 20_000;
+const LEAST_FILES: usize = 16_000;
 const LEAST_SCRIPTS: usize = 5_000;
 const LEAST_GROUPS: usize = 100;
 /// One in so many inputs also goes to the program SECOND.

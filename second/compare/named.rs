@@ -21,6 +21,7 @@ pub fn all() -> Vec<Named> {
     cases.extend(held_256());
     cases.extend(withdrawals());
     cases.extend(own_reasons());
+    cases.extend(reasons());
     cases
 }
 
@@ -177,8 +178,8 @@ fn withdrawals() -> Vec<Named> {
         ),
         script(
             "33 pairs, their premise withdrawn",
-            format!("open 9 0\nadd 0\n{pairs}withdraw 0\nline 0\nwithdraw 0 1 2\nwithdraw 0\nask 0 1 2\n"),
-            format!("done\ndone\n{}refused 9\n0 nogood {{}}\ndone\ndone\nunsupported\n", "done\n".repeat(33)),
+            format!("open 9 0\nadd 0\n{pairs}withdraw 0\nline 0\nwithdraw 0 1 2\nwithdraw 0\nask 0 1 2\nask 0 3 2 1\n"),
+            format!("done\ndone\n{}refused 9\n0 nogood {{}}\ndone\ndone\nunsupported\ninconsistent {{1,3}}\n", "done\n".repeat(33)),
         ),
     ]
 }
@@ -243,6 +244,29 @@ fn own_reasons() -> Vec<Named> {
                 .to_string(),
             "done\nrefused 17\nrefused 17\nrefused 17\nrefused 5\nrefused 5\nrefused 4\nrefused 6\n\
              refused 17\nrefused 5\n4 unsupported\n"
+                .to_string(),
+        ),
+    ]
+}
+
+/// The reason beside the answer, on the listed case and where members compete.
+fn reasons() -> Vec<Named> {
+    vec![
+        script(
+            "reasons in the listed case",
+            "load 03 02 04 04 01 01 04 02 02 03 05 02 02 04 00 02 01 02\n\
+             ask 4 1 3\nask 4 2 3\nask 4 3 2 2\nask 5 3 2\nask 5 1 3\nask 4 1 2 3\nask 0 2 1\nask 0 1 3\nask 3 3\nask 6 1\nask 4 4\n"
+                .to_string(),
+            "done\nsupported {1}\nsupported {2,3}\nsupported {2,3}\nsupported {2,3}\nunsupported\ninconsistent {1,2}\n\
+             inconsistent {1,2}\nunsupported\nsupported {3}\nrefused 4\nrefused 4\n"
+                .to_string(),
+        ),
+        script(
+            "fewer assumptions first, then the smaller number",
+            "open 4 1\nadd 5 1 2\nadd 5 4\nadd 5 3\nask 5 1 2 3 4\nask 5 1 2 4\nask 5 1 2\nadd 0 1 2\nadd 0 3 4\nask 5 1 2 3 4\nask 5 3 4\nadd 0\nask 5\nask 0 1 2\n"
+                .to_string(),
+            "done\ndone\ndone\ndone\nsupported {3}\nsupported {4}\nsupported {1,2}\ndone\ndone\ninconsistent {1,2}\ninconsistent {3,4}\n\
+             done\ninconsistent {}\ninconsistent {}\n"
                 .to_string(),
         ),
     ]

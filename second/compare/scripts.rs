@@ -2,6 +2,7 @@
 
 use crate::cases::{self, Case, Record};
 use crate::files::case_for_script;
+use crate::program::case_file;
 use crate::program::random::Random;
 
 /// A script. Those of one group try to hold the same justifications and end
@@ -36,6 +37,7 @@ pub fn all(r: &mut Random) -> Vec<Script> {
     take(600, "adding to a limit", &mut |_| adding_to_a_limit(r));
     take(340, "withdrawing to a limit", &mut |_| withdrawing_to_a_limit(r));
     take(100, "256 held", &mut |_| held_256(r));
+    take(150, "asking", &mut |_| asking(r));
     take(350, "bad lines", &mut |_| bad_lines(r));
     take(70, "long loads", &mut |_| long_loads(r));
     take(60, "about 65,536 bytes", &mut |i| about_65536(r, i));
@@ -337,6 +339,50 @@ fn random_set(r: &mut Random, a: u32) -> Vec<u32> {
         r.shuffle(&mut set);
     }
     set
+}
+
+/// Each assumption with the same chance, mostly in rising order.
+fn wide_set(r: &mut Random, a: u32) -> Vec<u32> {
+    let chance = *r.pick(&[10, 30, 60, 90]);
+    let mut set: Vec<u32> = (1..=a).filter(|_| r.chance(chance)).collect();
+    if r.chance(20) {
+        r.shuffle(&mut set);
+    }
+    set
+}
+
+/// Many questions about one case, most of them of a consequent and a wide set.
+fn asking(r: &mut Random) -> Vec<u8> {
+    let case = case_to_ask(r);
+    let mut lines = Lines::default();
+    let line = load_line(r, &case.bytes());
+    lines.line(r, &line);
+    for _ in 0..25 {
+        let n = if case.records.is_empty() { case.last() } else { r.pick(&case.records).0 };
+        let line = words("ask", &[&[n][..], &wide_set(r, case.a)].concat());
+        lines.line(r, &line);
+        if r.chance(25) {
+            telling(r, case.a, case.m, &mut lines);
+        }
+    }
+    lines.line(r, "list");
+    lines.bytes(r)
+}
+
+/// A case with long lists that is loaded without a refusal.
+fn case_to_ask(r: &mut Random) -> Case {
+    loop {
+        let case = match r.from_to(0, 4) {
+            0 => cases::near_label_limit(r),
+            1 => cases::near_nogood_limit(r),
+            2 => cases::random_crowded(r),
+            3 => cases::kept_short(r),
+            _ => cases::random_small(r),
+        };
+        if case_file::load(&case.bytes()).is_ok() {
+            return case;
+        }
+    }
 }
 
 /// All calls mixed, sound ones and others.

@@ -53,6 +53,14 @@ const KINDS: &[&str] = &[
     "added in a freed place of 256",
     "depth above 100",
     "as deep as there are different consequents",
+    "supported by the empty set",
+    "supported, several members within",
+    "supported, one member within",
+    "inconsistent by the empty set",
+    "inconsistent, several nogoods within",
+    "inconsistent, one nogood within",
+    "falsity unsupported",
+    "unsupported",
 ];
 
 #[derive(Default)]
@@ -81,6 +89,9 @@ impl Tally {
 
     pub fn count_script(&mut self, replies: &[Reply]) {
         for reply in replies {
+            if !reply.kind.is_empty() {
+                self.count_kind(reply.kind);
+            }
             match reply.call {
                 Call::BadLine => self.count_kind("bad line"),
                 Call::TooLong => self.too_long += 1,

@@ -1,6 +1,7 @@
 -- Question, context and member, test by test. Assumes nothing.
-use mathlib.Core.Bool.{false, true}
+use mathlib.Core.Bool.{Bool, false, true}
 use mathlib.Core.List.{List, [], _++_, _∷_, append-assoc}
+use mathlib.Core.Option.{Option, none, some}
 use mathlib.Core.Path.{_∙_, _≡_, ap, ap₂, refl, sym}
 use Prim.Native.Nat.{_*_, _+_, _-_, _<_, _≤_, suc, zero, ℕ}
 use native.Mathlib.Numerals.{add-one}
@@ -9,14 +10,13 @@ use lib.Dec.{ltb}
 use lib.ListN.{drop, getD, length, length-drop, length-take, set, take}
 use lib.Seq.{drop-cons, getD-drop, getD-take, length-take-le, set-at}
 use borrow.Author.Tests.{le-leb, le-ltb, lt-leb, lt-ltb}
-use Rattle.asking.specs.Asking.{Left, Room, byteOf, contextBytes, contextOf, contextReply, left, memberAt, memberOf, questionOf, standing}
+use Rattle.asking.specs.Asking.{Left, Room, byteOf, contextBytes, contextOf, contextReply, firstIn, left, memberAt, memberOf, questionOf, reasoned, standing}
 use Rattle.asking.specs.declared.Answer.{Answer}
 use Rattle.asking.specs.declared.Answer.the-variants.{Inconsistent, Refused, Supported, Unsupported}
 use Rattle.asking.specs.declared.Asked.{Asked}
 use Rattle.asking.specs.declared.Found.{Found}
 use Rattle.asking.specs.declared.Found.the-variants.{Is, Not}
 use Rattle.asking.specs.declared.Shown.{Shown}
-use Rattle.labels.proofs.First.{contains-first}
 use Rattle.labels.specs.Promised.{firstWithin}
 use Rattle.replies.specs.declared.Reply.the-variants.{Done, Number, Place, Shape, Short}
 use Rattle.shape.proofs.Elim.{label-few, lists-elim}
@@ -28,39 +28,78 @@ use Rattle.store.specs.Shape.{rightShape, top}
 use Rattle.store.specs.declared.Store.{Store}
 use Rattle.theory.proofs.Places.{length-table}
 use Rattle.theory.specs.Cases.{from}
-use Rattle.theory.specs.Lists.{someOf}
+use Rattle.theory.specs.Lists.{choose}
 use Rattle.theory.specs.Places.{table}
-use Rattle.theory.specs.Sets.{contains, inRange}
+use Rattle.theory.specs.Sets.{inRange, within}
 
 -- ---- a part of a list
 part-length : (l : List ℕ) (from count : ℕ) → from + count ≤ length l → length (take count (drop from l)) ≡ count
 part-length l from count h = simp (length-take, length-drop) (omega arith)
 
-pub meets-law : (l : List ℕ) (from count E r : ℕ) → from + count ≤ length l → r ≡ firstWithin (take (from + count - from) (drop from l)) E → ltb r count ≡ contains (take count (drop from l)) E
-meets-law l from count E r h e =
-    let n : from + count - from ≡ count = omega arith in
-    let p : List ℕ = take count (drop from l) in
-    ap (λ (x : ℕ). ltb x count) (e ∙ ap (λ (k : ℕ). firstWithin (take k (drop from l)) E) n)
-    ∙ ap (ltb (firstWithin p E)) (sym (part-length l from count h)) ∙ sym (contains-first p E)
+pub reach-law : (l : List ℕ) (from count E r : ℕ) → r ≡ firstWithin (take (from + count - from) (drop from l)) E → r ≡ firstWithin (take count (drop from l)) E
+reach-law l from count E r e = let n : from + count - from ≡ count = omega arith in e ∙ ap (λ (k : ℕ). firstWithin (take k (drop from l)) E) n
+
+-- ---- the first member within a set, by its place
+pub first-named : (l : List ℕ) (E : ℕ) → firstWithin l E < length l → firstIn l E ≡ some (getD l (firstWithin l E) 0)
+unfolding firstIn firstWithin
+first-named [] E h = absurd (omega arith)
+first-named (F ∷ l) E h = go (within F E) h (first-named l E)
+  where
+    go : (b : Bool) → choose b 0 (suc (firstWithin l E)) < suc (length l) → (firstWithin l E < length l → firstIn l E ≡ some (getD l (firstWithin l E) 0))
+        → choose b (some F) (firstIn l E) ≡ some (getD (F ∷ l) (choose b 0 (suc (firstWithin l E))) 0)
+    go true h e = refl
+    go false h e = e (omega arith)
+
+pub first-none : (l : List ℕ) (E : ℕ) → length l ≤ firstWithin l E → firstIn l E ≡ none
+unfolding firstIn firstWithin
+first-none [] E h = refl
+first-none (F ∷ l) E h = go (within F E) h (first-none l E)
+  where
+    go : (b : Bool) → suc (length l) ≤ choose b 0 (suc (firstWithin l E)) → (length l ≤ firstWithin l E → firstIn l E ≡ none) → choose b (some F) (firstIn l E) ≡ none
+    go true h e = absurd (omega arith)
+    go false h e = e (omega arith)
+
+named-at : (l : List ℕ) (E p : ℕ) → p ≡ firstWithin l E → p < length l → firstIn l E ≡ some (getD l p 0)
+named-at l E p e h = first-named l E (omega arith) ∙ ap (λ (k : ℕ). some (getD l k 0)) (sym e)
+
+named-none : (l : List ℕ) (E p : ℕ) → p ≡ firstWithin l E → length l ≤ p → firstIn l E ≡ none
+named-none l E p e h = first-none l E (omega arith)
 
 -- ---- what the lists say
-module _ (l : Lists) (E : ℕ) where
-  pub stands-struck : (n : ℕ) → contains (nogoodsHeld l) E ≡ true → Inconsistent ≡ standing l n E
+module _ (l : Lists) (E : ℕ) (struck : ℕ) (found : struck ≡ firstWithin (nogoodsHeld l) E) (room : l .count ≤ length (l .nogoods)) where
+  nogoods-many : length (nogoodsHeld l) ≡ l .count
+  nogoods-many = length-take-le (l .count) (l .nogoods) room
+
+  pub stands-struck : (n : ℕ) → struck < l .count → Inconsistent (getD (l .nogoods) struck 0) ≡ standing l n E
   unfolding standing
-  stands-struck n h = rw h
+  stands-struck n h =
+      sym
+      (ap (λ (x : Option ℕ). reasoned x (firstIn (labelHeld l n) E))
+      (named-at (nogoodsHeld l) E struck found (omega (arith, nogoods-many)) ∙ ap some (getD-take (l .count) (l .nogoods) struck 0 h)))
 
-  pub stands-falsity : contains (nogoodsHeld l) E ≡ false → Unsupported ≡ standing l 0 E
-  unfolding standing contains someOf
-  stands-falsity h = rw h
+  module _ (free : l .count ≤ struck) where
+    no-nogood : firstIn (nogoodsHeld l) E ≡ none
+    no-nogood = named-none (nogoodsHeld l) E struck found (omega (arith, nogoods-many))
 
-  module _ (i : ℕ) (h : contains (nogoodsHeld l) E ≡ false) where
-    pub stands-yes : contains (labelHeld l (suc i)) E ≡ true → Supported ≡ standing l (suc i) E
-    unfolding standing
-    stands-yes k = rw (h, k)
+    pub stands-falsity : Unsupported ≡ standing l 0 E
+    unfolding standing firstIn
+    stands-falsity = sym (ap (λ (x : Option ℕ). reasoned x none) no-nogood)
 
-    pub stands-no : contains (labelHeld l (suc i)) E ≡ false → Unsupported ≡ standing l (suc i) E
-    unfolding standing
-    stands-no k = rw (h, k)
+    module _ (i : ℕ) (fits : 12 * i + getD (l .sizes) i 0 ≤ length (l .members)) (place : ℕ) (at : place ≡ firstWithin (labelHeld l (suc i)) E) where
+      label-many : length (labelHeld l (suc i)) ≡ getD (l .sizes) i 0
+      label-many = part-length (l .members) (12 * i) (getD (l .sizes) i 0) fits
+
+      pub stands-yes : place < getD (l .sizes) i 0 → Supported (getD (l .members) (12 * i + place) 0) ≡ standing l (suc i) E
+      unfolding standing
+      stands-yes h =
+          sym
+          (ap₂ reasoned no-nogood
+          (named-at (labelHeld l (suc i)) E place at (omega (arith, label-many))
+          ∙ ap some (getD-take (getD (l .sizes) i 0) (drop (12 * i) (l .members)) place 0 h ∙ getD-drop (12 * i) (l .members) place 0)))
+
+      pub stands-no : getD (l .sizes) i 0 ≤ place → Unsupported ≡ standing l (suc i) E
+      unfolding standing
+      stands-no h = sym (ap₂ reasoned no-nogood (named-none (labelHeld l (suc i)) E place at (omega (arith, label-many))))
 
 -- the code's n - 1
 pub number-of : (n : ℕ) → (n ≡ 0 → ⊥) → suc (n - 1) ≡ n

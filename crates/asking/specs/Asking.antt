@@ -1,6 +1,6 @@
 -- Question, context and member, as document 01 has them, read from a store's lists as they stand. Assumes nothing.
 use mathlib.Core.Bool.{_||_, not}
-use mathlib.Core.List.{List, _++_}
+use mathlib.Core.List.{List, [], _++_, _∷_}
 use mathlib.Core.Option.{Option, none, some}
 use mathlib.Core.Path.{_≡_}
 use Prim.Native.Nat.{_+_, _<_, _≤_, ℕ}
@@ -23,7 +23,7 @@ use Rattle.store.specs.declared.Outcome.{Outcome}
 use Rattle.store.specs.declared.Store.{Store}
 use Rattle.theory.specs.Lists.{choose}
 use Rattle.theory.specs.Places.{table}
-use Rattle.theory.specs.Sets.{contains, inRange}
+use Rattle.theory.specs.Sets.{inRange, within}
 
 -- every list in its places
 pub record Room (l : Lists) : Type 0 where
@@ -32,12 +32,20 @@ pub record Room (l : Lists) : Type 0 where
 
 -- ---- question
 
--- inconsistent if E contains a nogood; else supported if E contains a member of n's label; else unsupported
+-- the first member of the list that lies within E
+unfoldable pub firstIn : List ℕ → ℕ → Option ℕ
+firstIn [] E = none
+firstIn (F ∷ l) E = let later : Option ℕ = firstIn l E in choose (within F E) (some F) later
+
+-- inconsistent because of the nogood, if there is one; else supported because of the member, if there is one; else unsupported
+abbrev pub reasoned : Option ℕ → Option ℕ → Answer
+reasoned (some G) f = Inconsistent G
+reasoned none (some F) = Supported F
+reasoned none none = Unsupported
+
+-- inconsistent if E contains a nogood; else supported if E contains a member of n's label; else unsupported; each by the first in listing order
 unfoldable pub standing : Lists → ℕ → ℕ → Answer
-standing l n E =
-    choose (contains (nogoodsHeld l) E) Inconsistent
-    (choose (contains (labelHeld l n) E) Supported
-    Unsupported)
+standing l n E = reasoned (firstIn (nogoodsHeld l) E) (firstIn (labelHeld l n) E)
 
 unfoldable pub questionOf : Store → ℕ → ℕ → Answer
 questionOf s n E =
@@ -53,8 +61,8 @@ Questioned s n E r = r ≡ record { answer = questionOf s n E; store = s }
 
 -- 2 if E is inconsistent, else 1 if n is supported, else 0
 abbrev pub byteOf : Answer → ℕ
-byteOf Inconsistent = 2
-byteOf Supported = 1
+byteOf (Inconsistent G) = 2
+byteOf (Supported F) = 1
 byteOf Unsupported = 0
 byteOf (Refused r) = 0
 
@@ -102,10 +110,17 @@ Membered s n place r = r ≡ record { answer = memberOf s n place; store = s }
 
 -- ---- the document's number of each answer
 abbrev pub answerNumber : Answer → ℕ
-answerNumber Inconsistent = 0
-answerNumber Supported = 0
+answerNumber (Inconsistent G) = 0
+answerNumber (Supported F) = 0
 answerNumber Unsupported = 0
 answerNumber (Refused r) = numberOf r
+
+-- the set that it names: supported the member, inconsistent the nogood, else none
+abbrev pub answerSet : Answer → Option ℕ
+answerSet (Inconsistent G) = some G
+answerSet (Supported F) = some F
+answerSet Unsupported = none
+answerSet (Refused r) = none
 
 abbrev pub memberNumber : Found → ℕ
 memberNumber (Is E) = 0

@@ -7,14 +7,14 @@ ghost use mathlib.Core.List.{_++_};
 ghost use mathlib.Core.Path.{_≡_};
 ghost use Prim.Native.Nat.{_+_, _≤_, _<_};
 ghost use lib.ListN.{length, take, drop};
-ghost use Rattle.theory.specs.Sets.{contains};
+ghost use Rattle.labels.specs.Promised.{firstWithin};
 ghost use Rattle.theory.specs.Places.{table};
 ghost use Rattle.asking.specs.Asking.{Room, standing, byteOf, memberAt, Questioned, Contexted, Membered};
 
-// What a set is to a number.
+// What a set is to a number: inconsistent because of a nogood, supported because of a member, or neither.
 pub enum Answer {
-    Inconsistent,
-    Supported,
+    Inconsistent(u32),
+    Supported(u32),
     Unsupported,
     Refused(Reply),
 }
@@ -35,36 +35,38 @@ pub struct Shown {
     pub store: Store,
 }
 
-// Whether one of count sets from a place on lies within e.
-fn meets(l: &[u32], from: usize, count: usize, e: u32) -> bool
+// The place of the first of count sets from a place on that lies within e, or the count.
+fn reach(l: &[u32], from: usize, count: usize, e: u32) -> usize
     requires { ⌜ from + count ≤ length (now l) ⌝ }
-    ensures { λ r. ⌜ r ≡ contains (take count (drop from (now (l .entry)))) e ⌝ }
+    ensures { λ r. ⌜ r ≡ firstWithin (take count (drop from (now (l .entry)))) e ⌝ }
 {
     let to = from + count;
-    labels::first_within(&l[from..to], e) < count
+    labels::first_within(&l[from..to], e)
 }
 
-// What the store's lists say of n and e.
+// What the store's lists say of n and e, and why.
 fn stands(lists: Lists, n: usize, e: u32) -> Answer
     requires { ⌜ Room lists × (n ≤ 128) ⌝ }
     ensures { λ r. ⌜ r ≡ standing lists n e ⌝ }
 {
     let count = lists.count;
-    if meets(&lists.nogoods, 0, count, e) {
-        return Answer::Inconsistent;
+    let nogood = reach(&lists.nogoods, 0, count, e);
+    if nogood < count {
+        return Answer::Inconsistent(lists.nogoods[nogood]);
     }
     if n == 0 {
         return Answer::Unsupported;
     }
     let i = n - 1;
     let size = lists.sizes[i] as usize;
-    if meets(&lists.members, 12 * i, size, e) {
-        return Answer::Supported;
+    let member = reach(&lists.members, 12 * i, size, e);
+    if member < size {
+        return Answer::Supported(lists.members[12 * i + member]);
     }
     Answer::Unsupported
 }
 
-// Whether e is inconsistent, supports n, or neither.
+// Whether e is inconsistent, supports n, or neither, and the first set within e that makes it so.
 pub fn question(store: Store, n: u32, e: u32) -> Asked
     ensures { λ r. ⌜ Questioned store n e r ⌝ }
 {
@@ -101,8 +103,8 @@ fn byte(lists: Lists, n: usize, e: u32) -> u8
 {
     let told = stands(lists, n, e);
     match told {
-        Answer::Inconsistent => 2,
-        Answer::Supported => 1,
+        Answer::Inconsistent(_) => 2,
+        Answer::Supported(_) => 1,
         Answer::Unsupported => 0,
         Answer::Refused(_) => 0,
     }

@@ -161,10 +161,15 @@ fn untouched(bytes: [u8; 200]) {
     say(b" untouched");
 }
 
+fn because(word: &[u8], e: u32) {
+    say(word);
+    io::print_decimal(STDOUT_FILENO, e as u64);
+}
+
 fn told_answer(answer: Answer) {
     match answer {
-        Answer::Inconsistent => say(b"inconsistent"),
-        Answer::Supported => say(b"supported"),
+        Answer::Inconsistent(e) => because(b"inconsistent by ", e),
+        Answer::Supported(e) => because(b"supported by ", e),
         Answer::Unsupported => say(b"unsupported"),
         Answer::Refused(r) => show(replies::number(r)),
     }

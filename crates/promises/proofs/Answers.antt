@@ -1,17 +1,19 @@
 -- The answers of question, context, member and the lines on a made store, over what was put in. Assumes nothing.
-use mathlib.Core.Bool.{Bool, false, true}
+use mathlib.Core.Bool.{false, true}
 use mathlib.Core.List.{List, _++_}
 use mathlib.Core.Logic.{_↔_, ⊎-elim}
+use mathlib.Core.Option.{Option, none, some}
 use mathlib.Core.Path.{_∙_, _≡_, ap, ap₂, refl, subst, sym}
 use Prim.Native.Nat.{_+_, _<_, _^_, _≤_, suc, zero, ℕ}
 use native.Mathlib.Omega.{arith}
 use lib.Dec.{ltb}
 use lib.ListN.{drop, length}
-use Rattle.asking.specs.Asking.{byteOf, memberAt, memberOf, questionOf, standing}
+use Rattle.asking.specs.Asking.{byteOf, firstIn, memberAt, memberOf, questionOf, reasoned, standing}
 use Rattle.asking.specs.declared.Answer.{Answer}
 use Rattle.asking.specs.declared.Answer.the-variants.{Inconsistent, Refused, Supported, Unsupported}
 use Rattle.lines.specs.Lines.{caseText, lineText}
 use Rattle.promises.proofs.Form.{Form, form-a, form-count, form-m}
+use Rattle.promises.proofs.Naming.{first-one, named-first, named-within, none-within}
 use Rattle.promises.proofs.Right.{form-right}
 use Rattle.promises.proofs.Rows.{less-test, passes, test-off}
 use Rattle.promises.proofs.Standing.{as-they-stand}
@@ -28,59 +30,53 @@ use Rattle.store.specs.Shape.{top}
 use Rattle.store.specs.declared.Store.{Store}
 use Rattle.text.specs.Texts.{heading}
 use Rattle.theory.proofs.Demands.{carries-means}
-use Rattle.theory.proofs.Lists.{same-test}
+use Rattle.theory.proofs.Lists.{clash, not-so}
 use Rattle.theory.specs.Demands.{carries, contradicts}
-use Rattle.theory.specs.Lists.{choose}
 use Rattle.theory.specs.Places.{table}
-use Rattle.theory.specs.Sets.{contains}
 use Rattle.theory.specs.Stages.{Justification}
 
 -- ---- the answer over what was put in
 
-module _ (H : List Justification) (n E : ℕ) where
-  abbrev pub answerBy : Answer
-  answerBy = choose (contradicts H E) Inconsistent (choose (carries H E n) Supported Unsupported)
+module _ (A : ℕ) (H : List Justification) (n E : ℕ) where
+  pub byte-says : (a : Answer) → QuestionSays A H n E a → byteOf a ≡ byteBy H E n
+  byte-says (Inconsistent G) h = let c : contradicts H E ≡ true = h .0 in rw c
+  byte-says (Supported F) h = let k : carries H E n ≡ true = h .0 in let c : contradicts H E ≡ false = carries-means H E n .0 k .0 in rw (c, k)
+  byte-says Unsupported h = let c : contradicts H E ≡ false = h .0 in let k : carries H E n ≡ false = h .1 in rw (c, k)
+  byte-says (Refused r) h = absurd h
 
-  answer-told : QuestionSays H n E answerBy
-  answer-told = go (contradicts H E) (carries H E n) refl refl
-    where
-      go : (c k : Bool) → contradicts H E ≡ c → carries H E n ≡ k → QuestionSays H n E (choose c Inconsistent (choose k Supported Unsupported))
-      go true k p q = p
-      go false true p q = q
-      go false false p q = (p, q)
-
-  answer-back : (a : Answer) → QuestionSays H n E a → answerBy ≡ a
-  answer-back Inconsistent h = rw h
-  answer-back Supported h = let c : contradicts H E ≡ false = carries-means H E n .0 h .0 in rw (c, h)
-  answer-back Unsupported h = let c : contradicts H E ≡ false = h .0 in let k : carries H E n ≡ false = h .1 in rw (c, k)
-  answer-back (Refused r) h = absurd h
-
-  pub answer-says : (a : Answer) → (answerBy ≡ a) ↔ QuestionSays H n E a
-  answer-says a = (λ e. subst (QuestionSays H n E) e answer-told, answer-back a)
-
-  byte-by : byteOf answerBy ≡ byteBy H E n
-  byte-by = go (contradicts H E) (carries H E n)
-    where
-      go : (c k : Bool) → byteOf (choose c Inconsistent (choose k Supported Unsupported)) ≡ choose c 2 (choose k 1 0)
-      go true k = refl
-      go false true = refl
-      go false false = refl
+  -- one answer is right
+  pub says-one : (a b : Answer) → QuestionSays A H n E a → QuestionSays A H n E b → a ≡ b
+  says-one (Inconsistent F) (Inconsistent G) p q = ap Inconsistent (first-one F G (p .1) (q .1))
+  says-one (Inconsistent F) (Supported G) p q = clash (p .0) (carries-means H E n .0 (q .0) .0)
+  says-one (Inconsistent F) Unsupported p q = clash (p .0) (q .0)
+  says-one (Supported F) (Inconsistent G) p q = clash (q .0) (carries-means H E n .0 (p .0) .0)
+  says-one (Supported F) (Supported G) p q = ap Supported (first-one F G (p .1) (q .1))
+  says-one (Supported F) Unsupported p q = clash (p .0) (q .1)
+  says-one Unsupported (Inconsistent G) p q = clash (q .0) (p .0)
+  says-one Unsupported (Supported G) p q = clash (q .0) (p .1)
+  says-one Unsupported Unsupported p q = refl
+  says-one (Inconsistent F) (Refused r) p q = absurd q
+  says-one (Supported F) (Refused r) p q = absurd q
+  says-one Unsupported (Refused r) p q = absurd q
+  says-one (Refused r) b p q = absurd p
 
 -- ---- a made store
 
 module _ {A M : ℕ} {H : List Justification} {s : Store} (f : Form A M H s) where
-  standing-by : (n E : ℕ) → n ≤ A + M → E < 2 ^ A → standing (s .lists) n E ≡ answerBy H n E
+  abbrev bad : List ℕ
+  bad = nogoodsHeld (s .lists)
+
+  standing-says : (n E : ℕ) → n ≤ A + M → E < 2 ^ A → QuestionSays A H n E (standing (s .lists) n E)
   unfolding standing
-  standing-by n E l h =
-      let g : Bool = contains (nogoodsHeld (s .lists)) E in
-      let b : Bool = contains (labelHeld (s .lists) n) E in
-      ap (λ (x : Bool). choose x Inconsistent (choose b Supported Unsupported)) (form-contradicts f E h)
-      ∙ go (contradicts H E) refl (λ c. same-test (λ k. form-carries f n E l h .1 (form-contradicts f E h ∙ c, k)) (λ k. form-carries f n E l h .0 k .1))
+  standing-says n E l h = go (firstIn bad E) (firstIn (labelHeld (s .lists) n) E) refl refl
     where
-      go : (c : Bool) → contradicts H E ≡ c → (contradicts H E ≡ false → contains (labelHeld (s .lists) n) E ≡ carries H E n)
-          → choose c Inconsistent (choose (contains (labelHeld (s .lists) n) E) Supported Unsupported) ≡ choose c Inconsistent (choose (carries H E n) Supported Unsupported)
-      go true e k = refl
-      go false e k = ap (λ (x : Bool). choose x Supported Unsupported) (k e)
+      go : (g m : Option ℕ) → firstIn bad E ≡ g → firstIn (labelHeld (s .lists) n) E ≡ m → QuestionSays A H n E (reasoned g m)
+      go (some G) m p q = (sym (form-contradicts f E h) ∙ named-within (form-nogoods f) E p, named-first (form-nogoods f) E p)
+      go none (some F) p q = (form-carries f n E l h .1 (none-within bad E p, named-within (form-label f n l) E q), named-first (form-label f n l) E q)
+      go none none p q = (sym (form-contradicts f E h) ∙ none-within bad E p, not-so (carries H E n) (λ k. clash (form-carries f n E l h .0 k .1) (none-within (labelHeld (s .lists) n) E q)))
+
+  pub standing-byte : (n E : ℕ) → n ≤ A + M → E < 2 ^ A → byteOf (standing (s .lists) n E) ≡ byteBy H E n
+  standing-byte n E l h = byte-says A H n E (standing (s .lists) n E) (standing-says n E l h)
 
   tops : top (s .held) ≡ A + M
   tops = ap₂ (λ (a m : ℕ). a + m) (form-a f) (form-m f)
@@ -100,16 +96,19 @@ module _ {A M : ℕ} {H : List Justification} {s : Store} (f : Form A M H s) whe
 
   -- ---- question
 
-  pub question-by : (n E : ℕ) → n ≤ A + M → E < 2 ^ A → questionOf s n E ≡ answerBy H n E
-  question-by n E l h = ap (λ (r : Read (question n E)). r .said) (stand .reading (question n E) (passes ℕ _ _ 0 _ (⊎-elim (in-top n l) (in-set E h)) refl)) ∙ standing-by n E l h
+  pub question-by : (n E : ℕ) → n ≤ A + M → E < 2 ^ A → questionOf s n E ≡ standing (s .lists) n E
+  question-by n E l h = ap (λ (r : Read (question n E)). r .said) (stand .reading (question n E) (passes ℕ _ _ 0 _ (⊎-elim (in-top n l) (in-set E h)) refl))
 
-  pub form-question : (n E : ℕ) → n ≤ A + M → E < 2 ^ A → (a : Answer) → (questionOf s n E ≡ a) ↔ QuestionSays H n E a
-  form-question n E l h a = let r = answer-says H n E a in let e = question-by n E l h in (λ q. r .0 (sym e ∙ q), λ q. e ∙ r .1 q)
+  pub form-question : (n E : ℕ) → n ≤ A + M → E < 2 ^ A → (a : Answer) → (questionOf s n E ≡ a) ↔ QuestionSays A H n E a
+  form-question n E l h a =
+      let e = question-by n E l h in
+      let w = standing-says n E l h in
+      (λ q. subst (QuestionSays A H n E) (sym e ∙ q) w, λ q. e ∙ says-one A H n E (standing (s .lists) n E) a w q)
 
   -- ---- context
 
   bytes-by : (E : ℕ) → E < 2 ^ A → table (A + M + 1) (λ n. byteOf (standing (s .lists) n E)) ≡ table (A + M + 1) (byteBy H E)
-  bytes-by E h = table-same (A + M + 1) (λ n. byteOf (standing (s .lists) n E)) (byteBy H E) 0 (λ n p. ap byteOf (standing-by n E (omega arith) h) ∙ byte-by H n E)
+  bytes-by E h = table-same (A + M + 1) (λ n. byteOf (standing (s .lists) n E)) (byteBy H E) 0 (λ n p. standing-byte n E (omega arith) h)
 
   pub form-context : (E : ℕ) (out : List ℕ) → E < 2 ^ A → A + M + 1 ≤ length out → readOf s (context E out) ≡ reads (context E out) Done s (table (A + M + 1) (byteBy H E) ++ drop (A + M + 1) out)
   form-context E out h k =

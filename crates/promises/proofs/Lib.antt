@@ -10,6 +10,7 @@ pub mod Right
 pub mod Sameness
 pub mod Telling
 pub mod Full
+pub mod Naming
 pub mod Answers
 pub mod Adding
 pub mod Withdrawing

@@ -2,14 +2,15 @@
 use mathlib.Core.Bool.{Bool, _||_, false, not, true}
 use mathlib.Core.List.{List, List·Memᴰ·cases-cons, List·Memᴰ as Mem, _++_, _∷_, List·Memᴰ·head as here, List·Memᴰ·tail as there}
 use mathlib.Core.Logic.{⊎-elim}
+use mathlib.Core.Option.{Option, none, some}
 use mathlib.Core.Path.{_≡_, refl, subst, sym}
 use Prim.Native.Nat.{_+_, _<_, _^_, _≤_, ℕ}
 use native.Mathlib.Omega.{arith}
 use lib.Dec.{eqb, leb, ltb}
 use lib.ListN.{drop, getD, length}
 use borrow.Author.Tests.{le-ltb, ltb-false, not-false, not-true}
-use Rattle.asking.specs.Asking.{answerNumber, contextReply, memberAt, memberNumber, memberOf, questionOf, standing}
-use Rattle.asking.specs.declared.Answer.the-variants.{Inconsistent, Refused, Supported, Unsupported}
+use Rattle.asking.specs.Asking.{answerNumber, contextReply, firstIn, memberAt, memberNumber, memberOf, questionOf, reasoned, standing}
+use Rattle.asking.specs.declared.Answer.the-variants.{Refused}
 use Rattle.asking.specs.declared.Found.the-variants.{Is, Not}
 use Rattle.casefile.specs.Load.{loadOf}
 use Rattle.lines.specs.Lines.{Wrote, caseText, fitted, headingOf, kept, lineOf, lineText, refusalText, writtenNumber}
@@ -35,6 +36,7 @@ use Rattle.rules.proofs.Putting.{put-cases, put-new, put-old}
 use Rattle.rules.specs.Held.{dropped, heldOf, put, saidBy}
 use Rattle.rules.specs.Items.{faultOf, sameJustification}
 use Rattle.rules.specs.declared.Held.{Held}
+use Rattle.stages.specs.declared.Lists.{Lists}
 use Rattle.store.proofs.Shapes.{fits-elim, shape-elim}
 use Rattle.store.specs.Calls.{addOf, answer, isDone, joinedBy, judgedOf, noStore, openOf, partedFrom, startStore, storeOf, withdrawOf}
 use Rattle.store.specs.Reading.{labelHeld, listHeld, nogoodsHeld}
@@ -45,7 +47,7 @@ use Rattle.theory.proofs.Lists.{clash}
 use Rattle.theory.proofs.Judgement.{same-judge}
 use Rattle.theory.specs.Judge.{Verdict, judge, limits}
 use Rattle.theory.specs.Lists.{choose, someOf}
-use Rattle.theory.specs.Sets.{contains, inRange}
+use Rattle.theory.specs.Sets.{inRange}
 use Rattle.theory.specs.Stages.{Justification}
 
 abbrev replied : Outcome → ℕ
@@ -249,23 +251,23 @@ fitted-told : (t out : List ℕ) → given (length out < length t) 15 noRow (wro
 unfolding fitted
 fitted-told t out = by-choice noRow wrote (ltb (length out) (length t)) (kept Short out) (record { answer = Length (length t); bytes = t ++ drop (length t) out }) (less-test (length out) (length t)) refl (λ z. refl)
 
-module _ (s : Store) where
-  -- none of the three answers is a refusal
-  standing-zero : (n E : ℕ) → answerNumber (standing (s .lists) n E) ≡ 0
-  unfolding standing
-  standing-zero n E = go (contains (nogoodsHeld (s .lists)) E) (contains (labelHeld (s .lists) n) E)
-    where
-      go : (a b : Bool) → answerNumber (choose a Inconsistent (choose b Supported Unsupported)) ≡ 0
-      go true b = refl
-      go false true = refl
-      go false false = refl
+-- none of the three answers is a refusal
+pub standing-zero : (l : Lists) (n E : ℕ) → answerNumber (standing l n E) ≡ 0
+unfolding standing
+standing-zero l n E = go (firstIn (nogoodsHeld l) E) (firstIn (labelHeld l n) E)
+  where
+    go : (g m : Option ℕ) → answerNumber (reasoned g m) ≡ 0
+    go (some G) m = refl
+    go none (some F) = refl
+    go none none = refl
 
+module _ (s : Store) where
   read-told : (a : Ask) → AskRows s a (numberSaid a (readOf s a .said))
   unfolding questionOf contextReply memberOf memberAt lineOf headingOf
   read-told (question n E) =
       let out : Bool = ltb (top (s .held)) n || not (inRange (s .held .assumptions) E) in
       by-choice _ answerNumber (not (rightShape s)) (Refused Shape) (choose out (Refused Number) (standing (s .lists) n E)) (not-test (rightShape s)) refl
-      (λ p. by-choice noRow answerNumber out (Refused Number) (standing (s .lists) n E) (or-test (less-test (top (s .held)) n) (outside-test s E)) refl (λ q. standing-zero n E))
+      (λ p. by-choice noRow answerNumber out (Refused Number) (standing (s .lists) n E) (or-test (less-test (top (s .held)) n) (outside-test s E)) refl (λ q. standing-zero (s .lists) n E))
   read-told (context E out) =
       by-choice _ numberOf (not (rightShape s)) Shape (choose (not (inRange (s .held .assumptions) E)) Number (choose (ltb (length out) (top (s .held) + 1)) Short Done)) (not-test (rightShape s)) refl
       (λ p. by-choice _ numberOf (not (inRange (s .held .assumptions) E)) Number (choose (ltb (length out) (top (s .held) + 1)) Short Done) (outside-test s E) refl

@@ -1,7 +1,7 @@
 -- Demand 2, over what was put in and not over the store's arrays: answers, labels, nogoods, the depth, and when a list is called full. Assumes nothing.
 use mathlib.Core.Bool.{Bool, false, true}
 use mathlib.Core.List.{List, List·Memᴰ as Mem, _++_}
-use mathlib.Core.Logic.{_↔_}
+use mathlib.Core.Logic.{_↔_, _⊎_}
 use mathlib.Core.Path.{_≡_}
 use Prim.Native.Nat.{_+_, _<_, _^_, _≤_, suc, zero, ℕ}
 use lib.Dec.{leb}
@@ -28,27 +28,35 @@ use Rattle.theory.specs.Places.{table}
 use Rattle.theory.specs.Sets.{before, within}
 use Rattle.theory.specs.Stages.{Justification, labelAt, nogoodsAt}
 
--- ---- questions
-
--- when each answer is given, of a number n and a set E in range
-abbrev pub QuestionSays : Input → ℕ → ℕ → Answer → Type 0
-QuestionSays H n E Inconsistent = contradicts H E ≡ true
--- the set contradicts nothing and n follows from it by the rules held
-QuestionSays H n E Supported = carries H E n ≡ true
-QuestionSays H n E Unsupported = (contradicts H E ≡ false) × (carries H E n ≡ false)
-QuestionSays H n E (Refused r) = ⊥
-
--- 2 if E is inconsistent, else 1 if n is supported, else 0
-abbrev pub byteBy : Input → ℕ → ℕ → ℕ
-byteBy H E n = choose (contradicts H E) 2 (choose (carries H E n) 1 0)
-
--- ---- lists
+-- ---- smallest sets
 
 -- E has P, and no smaller set inside it has
 pub record Smallest (A : ℕ) (P : ℕ → Bool) (E : ℕ) : Type 0 where
   pub range : E < 2 ^ A
   pub has : P E ≡ true
   pub no-smaller : (F : ℕ) → within F E ≡ true → P F ≡ true → F ≡ E
+
+-- F is the first in listing order of the smallest sets with P that lie within E
+pub record FirstOf (A : ℕ) (P : ℕ → Bool) (E F : ℕ) : Type 0 where
+  pub smallest : Smallest A P F
+  pub inside : within F E ≡ true
+  pub first : (G : ℕ) → Smallest A P G → within G E ≡ true → (G ≡ F) ⊎ (before F G ≡ true)
+
+-- ---- questions
+
+-- when each answer is given, of a number n and a set E in range, and which set it names
+abbrev pub QuestionSays : ℕ → Input → ℕ → ℕ → Answer → Type 0
+QuestionSays A H n E (Inconsistent G) = (contradicts H E ≡ true) × FirstOf A (contradicts H) E G
+-- the set contradicts nothing and n follows from it by the rules held
+QuestionSays A H n E (Supported F) = (carries H E n ≡ true) × FirstOf A (λ D. carries H D n) E F
+QuestionSays A H n E Unsupported = (contradicts H E ≡ false) × (carries H E n ≡ false)
+QuestionSays A H n E (Refused r) = ⊥
+
+-- 2 if E is inconsistent, else 1 if n is supported, else 0
+abbrev pub byteBy : Input → ℕ → ℕ → ℕ
+byteBy H E n = choose (contradicts H E) 2 (choose (carries H E n) 1 0)
+
+-- ---- lists
 
 -- the smallest sets that have P, all of them, once, in listing order
 pub record ListsSmallest (A : ℕ) (P : ℕ → Bool) (l : List ℕ) : Type 0 where
@@ -81,7 +89,7 @@ pub record IsDepth (A N : ℕ) (H : Input) (k : ℕ) : Type 0 where
 
 pub record Tells (C : Calls) (A M : ℕ) (H : Input) (s : Store) : Type 0 where
   -- for every number and every set of assumptions
-  pub question : (n E : ℕ) → n ≤ A + M → E < 2 ^ A → (a : Answer) → (C .reading s (question n E) .said ≡ a) ↔ QuestionSays H n E a
+  pub question : (n E : ℕ) → n ≤ A + M → E < 2 ^ A → (a : Answer) → (C .reading s (question n E) .said ≡ a) ↔ QuestionSays A H n E a
   -- byte n, for n from 0 to A + M; bytes from A + M + 1 on are kept
   pub context : (E : ℕ) (out : List ℕ) → E < 2 ^ A → A + M + 1 ≤ length out → C .reading s (context E out) ≡ reads (context E out) Done s (table (A + M + 1) (byteBy H E) ++ drop (A + M + 1) out)
   -- each label lists the sets of this kind that have no smaller one inside them, all of them, once; so do the nogoods

@@ -138,6 +138,14 @@ pub fn withdraw(rest: &[u8], number: u32, store: Store) -> Store {
     told(store.withdraw(values[0], &values[1..n]))
 }
 
+// The word of an answer and the set that is its reason.
+fn because(word: &[u8], set: u32) {
+    say(word);
+    say(b" ");
+    printing::set(set);
+    say(b"\n");
+}
+
 // ask N K..
 fn ask(n: u32, set: &[u32], number: u32, store: Store) {
     if script::has_zero(set) {
@@ -151,8 +159,8 @@ fn ask(n: u32, set: &[u32], number: u32, store: Store) {
     let out = asking::question(store, n, script::set_of(set));
     let answer = out.answer;
     match answer {
-        Answer::Inconsistent => say(b"inconsistent\n"),
-        Answer::Supported => say(b"supported\n"),
+        Answer::Inconsistent(set) => because(b"inconsistent", set),
+        Answer::Supported(set) => because(b"supported", set),
         Answer::Unsupported => say(b"unsupported\n"),
         Answer::Refused(reply) => refused(reply),
     }

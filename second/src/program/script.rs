@@ -2,7 +2,7 @@
 
 use super::case_file::Fault;
 use super::listing;
-use super::rule::Refusal;
+use super::rule::{inside, single, Refusal};
 use super::store::{Added, Answer, Store};
 
 /// A longer script is not replayed at all.
@@ -28,7 +28,8 @@ pub enum Call {
 }
 
 /// One reply: the script's line it belongs to, the reply number behind it, the
-/// stage that decided, and the text with its newline.
+/// stage that decided, the text with its newline, and for some calls what kind
+/// of answer it is.
 #[derive(Clone, Debug)]
 pub struct Reply {
     pub line: usize,
@@ -36,6 +37,7 @@ pub struct Reply {
     pub number: u32,
     pub stage: u32,
     pub text: String,
+    pub kind: &'static str,
 }
 
 /// A line that was read as a call, its fields all in order.
@@ -59,7 +61,7 @@ pub fn text_of(replies: &[Reply]) -> Vec<u8> {
 pub fn replay(input: &[u8]) -> Vec<Reply> {
     if input.len() > MOST_BYTES {
         let text = "too long\n".to_string();
-        return vec![Reply { line: 0, call: Call::TooLong, number: 0, stage: 0, text }];
+        return vec![Reply { line: 0, call: Call::TooLong, number: 0, stage: 0, text, kind: "" }];
     }
     let mut store = Store::open(0, 0).expect("the smallest store opens");
     let mut replies = Vec::new();
@@ -78,7 +80,7 @@ pub fn replay(input: &[u8]) -> Vec<Reply> {
 }
 
 fn bad_line(line: usize) -> Reply {
-    Reply { line, call: Call::BadLine, number: 0, stage: 0, text: format!("bad line {line}\n") }
+    Reply { line, call: Call::BadLine, number: 0, stage: 0, text: format!("bad line {line}\n"), kind: "" }
 }
 
 /// The command of a line, or nothing for a bad line.
@@ -132,7 +134,11 @@ fn run(store: &mut Store, line: usize, command: Command) -> Reply {
             let withdrawn = store.withdraw(consequent, &supports);
             (Call::Withdraw, withdrawn.map(|()| "done\n".to_string()))
         }
-        Command::Ask(n, set) => (Call::Ask, store.ask(n, &set).map(answer_text)),
+        Command::Ask(n, set) => {
+            let answer = store.ask(n, &set);
+            let kind = answer.map_or("", |answer| answer_kind(store, n, answer, &set));
+            return Reply { kind, ..reply(line, Call::Ask, answer.map(answer_text)) };
+        }
         Command::Context(set) => (Call::Context, store.context(&set).map(context_text)),
         Command::Member(n, place) => {
             let set = store.member(n, place);
@@ -152,14 +158,14 @@ fn reply(line: usize, call: Call, outcome: Result<String, Refusal>) -> Reply {
     match outcome {
         Ok(text) => {
             let number = u32::from(text == ALREADY_HELD);
-            Reply { line, call, number, stage: 0, text }
+            Reply { line, call, number, stage: 0, text, kind: "" }
         }
         Err(Refusal { number, named, stage }) => {
             let text = match named {
                 Some(n) => format!("refused {number} {n}\n"),
                 None => format!("refused {number}\n"),
             };
-            Reply { line, call, number, stage, text }
+            Reply { line, call, number, stage, text, kind: "" }
         }
     }
 }
@@ -174,14 +180,14 @@ fn load(store: &mut Store, line: usize, bytes: &[u8]) -> Reply {
     match listing::load(bytes) {
         Ok(loaded) => {
             *store = loaded;
-            Reply { line, call, number: 0, stage: 0, text: "done\n".to_string() }
+            Reply { line, call, number: 0, stage: 0, text: "done\n".to_string(), kind: "" }
         }
         Err(Fault { refusal: Refusal { number, named, stage }, record }) => {
             let text = match named {
                 Some(n) => format!("refused {number} {record} {n}\n"),
                 None => format!("refused {number} {record}\n"),
             };
-            Reply { line, call, number, stage, text }
+            Reply { line, call, number, stage, text, kind: "" }
         }
     }
 }
@@ -193,13 +199,29 @@ fn add(store: &mut Store, consequent: u32, supports: &[u32]) -> Result<String, R
     })
 }
 
+/// The word, and the set that is the reason, if there is one.
 fn answer_text(answer: Answer) -> String {
-    let word = match answer {
-        Answer::Supported => "supported",
+    match answer {
+        Answer::Supported(set) => format!("supported {}\n", listing::set_text(set)),
+        Answer::Unsupported => "unsupported\n".to_string(),
+        Answer::Inconsistent(set) => format!("inconsistent {}\n", listing::set_text(set)),
+    }
+}
+
+/// The kind of an answer: which word, and whether there was a choice of reasons.
+fn answer_kind(store: &Store, n: u32, answer: Answer, assumptions: &[u32]) -> &'static str {
+    let set = assumptions.iter().fold(0, |set, &k| set | single(k));
+    let several = |n: u32| store.list(n).iter().filter(|&&member| inside(member, set)).count() > 1;
+    match answer {
+        Answer::Supported(0) => "supported by the empty set",
+        Answer::Supported(_) if several(n) => "supported, several members within",
+        Answer::Supported(_) => "supported, one member within",
+        Answer::Inconsistent(0) => "inconsistent by the empty set",
+        Answer::Inconsistent(_) if several(0) => "inconsistent, several nogoods within",
+        Answer::Inconsistent(_) => "inconsistent, one nogood within",
+        Answer::Unsupported if n == 0 => "falsity unsupported",
         Answer::Unsupported => "unsupported",
-        Answer::Inconsistent => "inconsistent",
-    };
-    format!("{word}\n")
+    }
 }
 
 fn context_text(values: Vec<u8>) -> String {

@@ -41,6 +41,14 @@ const BY_HAND: &[(&str, &str)] = &[
         "done\nrefused 17\nrefused 17\nrefused 17\nrefused 5\nrefused 5\nrefused 4\nrefused 6\nrefused 17\n\
          refused 17 2\nrefused 17 1\nrefused 5 1\ncase 3 1 0 0\n0 nogood\n1 supported {1}\n2 supported {2}\n3 supported {3}\n4 unsupported\n",
     ),
+    // The reason is the first member of the listing order within the set: {3}
+    // before {1,2}, and {1,3} (5) before {2,3} (6).
+    (
+        "open 4 1\nadd 5 1 2\nadd 5 3\nask 5 1 2 3\nask 5 2 1 1\nask 5 4\nwithdraw 5 3\nadd 5 2 3\nadd 5 1 3\nask 5 1 2 3\n\
+         ask 5 3 2 4\nadd 0 2 3\nadd 0 4\nask 5 2 3\nask 5 1 2 3 4\nask 0 1 2 3\nask 0 1 2\nask 1 1\nadd 5\nask 5",
+        "done\ndone\ndone\nsupported {3}\nsupported {1,2}\nunsupported\ndone\ndone\ndone\nsupported {1,2}\n\
+         supported {2,3}\ndone\ndone\ninconsistent {2,3}\ninconsistent {4}\ninconsistent {2,3}\nunsupported\nsupported {1}\ndone\nsupported {}\n",
+    ),
     // Depth 2 with two consequents, 3 with falsity too; two more rules for them add no stage.
     (
         "open 1 2\nadd 2 1\nadd 3 2\nadd 3 1 2\nadd 2\nlist\nadd 0 3\nlist",

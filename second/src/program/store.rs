@@ -1,6 +1,6 @@
 //! The store and its calls.
 
-use super::rule::{has_one_of, single, Refusal, Rule, Set};
+use super::rule::{inside, single, Refusal, Rule, Set};
 use super::rule::{MOST_ASSUMPTIONS, MOST_CLAIMS, MOST_HELD, MOST_SUPPORTS};
 use super::stages::{judge, Judged};
 use std::collections::BTreeSet;
@@ -19,11 +19,13 @@ pub enum Added {
     AlreadyHeld,
 }
 
+/// An answer and its reason: the first member of the label, or the first
+/// nogood, that lies within the set asked.
 #[derive(Clone, Copy, Debug, PartialEq, Eq)]
 pub enum Answer {
-    Supported,
+    Supported(Set),
     Unsupported,
-    Inconsistent,
+    Inconsistent(Set),
 }
 
 impl Store {
@@ -75,8 +77,8 @@ impl Store {
     pub fn context(&self, assumptions: &[u32]) -> Result<Vec<u8>, Refusal> {
         let set = self.set_of(assumptions)?;
         let value = |n| match self.answer(n, set) {
-            Answer::Inconsistent => 2,
-            Answer::Supported => 1,
+            Answer::Inconsistent(_) => 2,
+            Answer::Supported(_) => 1,
             Answer::Unsupported => 0,
         };
         Ok((0..=self.last()).map(value).collect())
@@ -120,14 +122,19 @@ impl Store {
     }
 
     fn answer(&self, n: u32, set: Set) -> Answer {
-        if has_one_of(set, self.list(0)) {
-            Answer::Inconsistent
-        } else if n != 0 && has_one_of(set, self.list(n)) {
-            Answer::Supported
-        } else {
-            Answer::Unsupported
+        if let Some(nogood) = first_within(set, self.list(0)) {
+            return Answer::Inconsistent(nogood);
+        }
+        match first_within(set, self.list(n)) {
+            Some(member) => Answer::Supported(member),
+            None => Answer::Unsupported,
         }
     }
+}
+
+/// The first set of a list in listing order that lies within `set`.
+fn first_within(set: Set, list: &[Set]) -> Option<Set> {
+    list.iter().copied().find(|&member| inside(member, set))
 }
 
 fn refuse_if(fault: bool, number: u32) -> Result<(), Refusal> {

@@ -1,25 +1,35 @@
-use mathlib.Core.Path.{_∙_, ap, sym}
+-- `stands` meets its contract: the nogoods are asked first, then the label, each by the place of the first set within. Assumes nothing.
+use mathlib.Core.Path.{_∙_, _≡_, ap, sym}
 use Prim.Native.Nat.{_-_, ℕ}
 use native.Mathlib.Omega.{arith}
+use lib.ListN.{length}
 use borrow.Author.Needs.{needs}
 use Rattle.asking.proofs.Laws.{number-of, stands-falsity, stands-no, stands-struck, stands-yes}
 use Rattle.asking.specs.Asking.{standing}
 use Rattle.asking.proofs.stands.Statement.{statement}
 use Rattle.asking.proofs.stands.Tie as tie
-use Rattle.asking.proofs.stands.Reads as reads
-use Rattle.asking.proofs.stands.Lts as lts
-use Rattle.asking.proofs.meets.Reads as meets-reads
 
-meets-requires : tie.Need-meets-requires
-meets-requires c κs = search needs
+reach-requires : tie.Need-reach-requires
+reach-requires c κs = search needs
+
+mul-t13 : tie.Need-mul-t13
+mul-t13 c = search needs
+
+element-copy-out-t16 : tie.Need-element-copy-out-t16
+element-copy-out-t16 c = search needs
 
 returns : tie.Need-returns
-returns c = let a = c .before .before .before .before .before .args in stands-struck (a .t1) (a .e) (a .n) (sym (c .before .meets .ensures) ∙ c .if1 .taken)
+returns c =
+    let a = c .before .before .before .before .before .before .args in
+    let e : length (a .t1 .nogoods) ≡ 32 = search needs in
+    stands-struck (a .t1) (a .e) (c .before .before .reach .result) (c .before .before .reach .ensures) (omega (arith, e, c .before .before .before .before .before .before .pre .0 .nogoods)) (a .n) (c .before .if1 .taken)
 
 returns-2 : tie.Need-returns-2
 returns-2 c =
     let a = c .before .before .before .before .before .before .args in
-    stands-falsity (a .t1) (a .e) (sym (c .before .before .meets .ensures) ∙ c .before .if1 .left) ∙ ap (λ (n : ℕ). standing (a .t1) n (a .e)) (sym (c .if2 .taken))
+    let e : length (a .t1 .nogoods) ≡ 32 = search needs in
+    stands-falsity (a .t1) (a .e) (c .before .before .reach .result) (c .before .before .reach .ensures) (omega (arith, e, c .before .before .before .before .before .before .pre .0 .nogoods)) (c .before .if1 .left)
+    ∙ ap (λ (n : ℕ). standing (a .t1) n (a .e)) (sym (c .if2 .taken))
 
 sub-i : tie.Need-sub-i
 sub-i c = search needs
@@ -30,35 +40,59 @@ element-copy-out-size c = search needs
 cast-size : tie.Need-cast-size
 cast-size c = search needs
 
-mul-meets : tie.Need-mul-meets
-mul-meets c = search needs
+mul-reach : tie.Need-mul-reach
+mul-reach c = search needs
 
-meets-requires-2 : tie.Need-meets-requires-2
-meets-requires-2 c κs = let a = c .before .before .before .before .before .before .before .before .before .before .args in omega (arith, c .before .before .before .before .before .before .before .before .before .before .pre .0 .labels (a .n - 1) (omega arith))
+reach-requires-2 : tie.Need-reach-requires-2
+reach-requires-2 c κs = let a = c .before .before .before .before .before .before .before .before .before .before .args in omega (arith, c .before .before .before .before .before .before .before .before .before .before .pre .0 .labels (a .n - 1) (omega arith))
+
+mul-t23 : tie.Need-mul-t23
+mul-t23 c = search needs
+
+add-t24 : tie.Need-add-t24
+add-t24 c = let a = c .before .before .before .before .before .before .before .before .before .before .before .before .args in omega (arith, c .before .before .before .before .before .before .before .before .before .before .before .before .pre .0 .labels (a .n - 1) (omega arith))
+
+mul-t25 : tie.Need-mul-t25
+mul-t25 c = let a = c .before .before .before .before .before .before .before .before .before .before .before .before .args in omega (arith, c .before .before .before .before .before .before .before .before .before .before .before .before .pre .0 .labels (a .n - 1) (omega arith))
+
+element-copy-out-t28 : tie.Need-element-copy-out-t28
+element-copy-out-t28 c = let a = c .before .before .before .before .before .before .before .before .before .before .before .before .args in omega (arith, c .before .before .before .before .before .before .before .before .before .before .before .before .pre .0 .labels (a .n - 1) (omega arith))
 
 returns-3 : tie.Need-returns-3
 returns-3 c =
-    let a = c .before .before .before .before .before .before .before .before .before .before .before .before .args in
-    stands-yes (a .t1) (a .e) (a .n - 1) (sym (c .before .before .before .before .before .before .before .before .meets .ensures) ∙ c .before .before .before .before .before .before .before .if1 .left) (sym (c .before .meets2 .ensures) ∙ c .if3 .taken)
-    ∙ ap (λ (n : ℕ). standing (a .t1) n (a .e)) (number-of (a .n) (c .before .before .before .before .before .before .if2 .left))
+    let a = c .before .before .before .before .before .before .before .before .before .before .before .before .before .args in
+    let e : length (a .t1 .nogoods) ≡ 32 = search needs in
+    let m : length (a .t1 .members) ≡ 1536 = search needs in
+    let w = c .before .before .before .before .before .before .before .before .before .before .before .before .before .pre .0 .labels (a .n - 1) (omega arith) in
+    stands-yes (a .t1) (a .e) (c .before .before .before .before .before .before .before .before .before .reach .result) (c .before .before .before .before .before .before .before .before .before .reach .ensures) (omega (arith, e, c .before .before .before .before .before .before .before .before .before .before .before .before .before .pre .0 .nogoods)) (c .before .before .before .before .before .before .before .before .if1 .left) (a .n - 1) (omega (arith, m, w)) (c .before .before .reach2 .result) (c .before .before .reach2 .ensures) (c .before .if3 .taken)
+    ∙ ap (λ (n : ℕ). standing (a .t1) n (a .e)) (number-of (a .n) (c .before .before .before .before .before .before .before .if2 .left))
 
 returns-4 : tie.Need-returns-4
 returns-4 c =
     let a = c .before .before .before .before .before .before .before .before .before .before .before .before .args in
-    stands-no (a .t1) (a .e) (a .n - 1) (sym (c .before .before .before .before .before .before .before .before .meets .ensures) ∙ c .before .before .before .before .before .before .before .if1 .left) (sym (c .before .meets2 .ensures) ∙ c .if3 .left)
+    let e : length (a .t1 .nogoods) ≡ 32 = search needs in
+    let m : length (a .t1 .members) ≡ 1536 = search needs in
+    let w = c .before .before .before .before .before .before .before .before .before .before .before .before .pre .0 .labels (a .n - 1) (omega arith) in
+    stands-no (a .t1) (a .e) (c .before .before .before .before .before .before .before .before .reach .result) (c .before .before .before .before .before .before .before .before .reach .ensures) (omega (arith, e, c .before .before .before .before .before .before .before .before .before .before .before .before .pre .0 .nogoods)) (c .before .before .before .before .before .before .before .if1 .left) (a .n - 1) (omega (arith, m, w)) (c .before .reach2 .result) (c .before .reach2 .ensures) (c .if3 .left)
     ∙ ap (λ (n : ℕ). standing (a .t1) n (a .e)) (number-of (a .n) (c .before .before .before .before .before .before .if2 .left))
 
 pub stands-spec : {M : Type 1} → statement M
 stands-spec =
     tie.close
     (tie.spec
-    meets-requires
+    reach-requires
+    mul-t13
+    element-copy-out-t16
     returns
     returns-2
     sub-i
     element-copy-out-size
     cast-size
-    mul-meets
-    meets-requires-2
+    mul-reach
+    reach-requires-2
+    mul-t23
+    add-t24
+    mul-t25
+    element-copy-out-t28
     returns-3
     returns-4)

@@ -1,11 +1,8 @@
-use native.Mathlib.Omega.{arith}
+-- `reach` meets its contract: the part that it hands on has count sets. Assumes nothing.
 use borrow.Author.Needs.{needs}
-use Rattle.asking.proofs.Laws.{meets-law}
-use Rattle.asking.proofs.meets.Statement.{statement}
-use Rattle.asking.proofs.meets.Tie as tie
-use Rattle.asking.proofs.meets.Reads as reads
-use Rattle.asking.proofs.meets.Lts as lts
-use Rattle.labels.proofs.first_within.Reads as first-within-reads
+use Rattle.asking.proofs.Laws.{reach-law}
+use Rattle.asking.proofs.reach.Statement.{statement}
+use Rattle.asking.proofs.reach.Tie as tie
 
 add-to : tie.Need-add-to
 add-to c = search needs
@@ -26,10 +23,10 @@ first-within-requires : tie.Need-first-within-requires
 first-within-requires c κs = search needs
 
 returns : tie.Need-returns
-returns c = let a = c .before .before .before .args in meets-law (a .l .now) (a .from) (a .count) (a .e) (c .first-within .result) (omega arith) (c .first-within .ensures)
+returns c = let a = c .before .before .before .args in reach-law (a .l .now) (a .from) (a .count) (a .e) (c .first-within .result) (c .first-within .ensures)
 
-pub meets-spec : {M : Type 1} → statement M
-meets-spec =
+pub reach-spec : {M : Type 1} → statement M
+reach-spec =
     tie.close
     (tie.spec
     add-to
