@@ -18,8 +18,8 @@ use Rattle.promises.proofs.Right.{form-right}
 use Rattle.promises.proofs.Rows.{less-test, passes, test-off}
 use Rattle.promises.proofs.Standing.{as-they-stand}
 use Rattle.promises.proofs.Telling.{form-carries, form-contradicts, form-label, form-nogoods}
-use Rattle.promises.specs.Calls.{Read, caseLine, context, line, ours, over, question, readOf, reads, written}
-use Rattle.promises.specs.Demand2.{ListsSmallest, QuestionSays, atPlace, byteBy, firstText, listedFor, textOf}
+use Rattle.promises.specs.Calls.{Read, caseLine, context, line, listing, ours, over, question, readOf, reads, written}
+use Rattle.promises.specs.Demand2.{ListsSmallest, QuestionSays, atPlace, byteBy, firstText, listedFor, textOf, wholeText}
 use Rattle.promises.specs.Made.{inOrder}
 use Rattle.promises.specs.Standing.{Stands}
 use Rattle.promises.specs.Table.{Outside}
@@ -34,6 +34,8 @@ use Rattle.theory.proofs.Lists.{clash, not-so}
 use Rattle.theory.specs.Demands.{carries, contradicts}
 use Rattle.theory.specs.Places.{table}
 use Rattle.theory.specs.Stages.{Justification}
+use Rattle.listing.specs.Listing.{linesBelow, listingText}
+use Rattle.theory.specs.Lists.{each, numbersBelow}
 
 -- ---- the answer over what was put in
 
@@ -148,3 +150,14 @@ module _ {A M : ℕ} {H : List Justification} {s : Store} (f : Form A M H s) whe
   pub form-heading : (out : List ℕ) → length (firstText A M H s) ≤ length out → readOf s (caseLine out) ≡ reads (caseLine out) (written (firstText A M H s)) s (over (firstText A M H s) out)
   form-heading out h =
       stand .reading (caseLine out) (passes ℕ _ _ 0 _ (λ z. omega (arith, ap length case-text)) refl) ∙ ap (λ (t : List ℕ). reads (caseLine out) (written t) s (over t out)) case-text
+
+  -- ---- the whole listing
+
+  whole-text : listingText s ≡ wholeText A M H s (listHeld (s .lists))
+  unfolding listingText linesBelow lineText
+  whole-text = ap₂ (λ (t : List ℕ) (k : ℕ). t ++ each (λ n. textOf n (listHeld (s .lists) n)) (numbersBelow (suc k))) case-text tops
+
+  pub form-listing : (l : ℕ → List ℕ) × ((n : ℕ) → n ≤ A + M → ListsSmallest A (listedFor H n) (l n))
+      × ((out : List ℕ) → length (wholeText A M H s l) ≤ length out → readOf s (listing out) ≡ reads (listing out) (written (wholeText A M H s l)) s (over (wholeText A M H s l) out))
+  form-listing = (listHeld (s .lists), list-smallest, λ out h.
+      stand .reading (listing out) (passes ℕ _ _ 0 _ (λ z. omega (arith, ap length whole-text)) refl) ∙ ap (λ (t : List ℕ). reads (listing out) (written t) s (over t out)) whole-text)

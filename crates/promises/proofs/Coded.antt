@@ -6,6 +6,8 @@ use Rattle.asking.proofs.question.Met as question-at
 use Rattle.casefile.proofs.load.Met as load-at
 use Rattle.lines.proofs.case_line.Met as case-line-at
 use Rattle.lines.proofs.line.Met as line-at
+use Rattle.listing.proofs.listing.Met as listing-at
+use Rattle.listing.proofs.printed.Met as printed-at
 use Rattle.lines.proofs.refusal.Met as refusal-at
 use Rattle.numbers.proofs.read.Met as read-at
 use Rattle.promises.specs.Calls.{ours}
@@ -30,6 +32,8 @@ coded = record {
   member = record { keeps = λ M. member-at.met; free = λ κs a. tt; exact = λ κs a r e. same };
   line = record { keeps = λ M. line-at.met; free = λ κs a. tt; exact = λ κs a r e. same };
   caseLine = record { keeps = λ M. case-line-at.met; free = λ κs a. tt; exact = λ κs a r e. same };
+  listing = record { keeps = λ M. listing-at.met; free = λ κs a. tt; exact = λ κs a r e. same };
+  printing = record { keeps = λ M. printed-at.met; free = λ κs a. tt; exact = λ κs a r e. same };
   judging = record { keeps = λ M. judged-at.met; free = λ κs a. tt; exact = λ κs a r e. same };
   shape = record { keeps = λ M. shape-at.met; free = λ κs a. tt; exact = λ κs a r e. same };
   refusal = record { keeps = λ M. refusal-at.met; free = λ κs a. tt; exact = λ κs a r e. same };

@@ -10,7 +10,7 @@ use Rattle.asking.specs.Asking.{contextBytes, contextOf, contextReply}
 use Rattle.casefile.specs.Case.{Case, Reading, caseOf, heldBy, refused as unread, whole}
 use Rattle.casefile.specs.Load.{loadOf, loadedOf}
 use Rattle.lines.specs.Lines.{Wrote, caseText, fitted, headingOf, kept, lineOf, lineText, refusalText, writtenNumber}
-use Rattle.promises.specs.Calls.{Ask, caseLine, context, lentTo, line, member, numberSaid, question, readOf}
+use Rattle.promises.specs.Calls.{Ask, caseLine, context, lentTo, line, listing, member, numberSaid, question, readOf}
 use Rattle.replies.specs.Replies.{numberOf}
 use Rattle.replies.specs.declared.Reply.{Reply}
 use Rattle.replies.specs.declared.Reply.the-variants.{Already, Counts, Done, Full, Number, Shape, Short, Unheld}
@@ -24,6 +24,7 @@ use Rattle.store.specs.declared.Store.{Store}
 use Rattle.theory.specs.Judge.{Verdict, judge, labelOver, limits, nogoodsOver, settled}
 use Rattle.theory.specs.Lists.{choose, someOf}
 use Rattle.theory.specs.Stages.{Justification}
+use Rattle.listing.specs.Listing.{listedOf, listingOf, listingText}
 
 module _ (s : Store) where
   -- x hands s back unless it is answered 0
@@ -99,12 +100,17 @@ module _ (s : Store) where
   unfolding headingOf
   heading-keeps out = kept-choose out (not (rightShape s)) Shape _ (kept-fitted (caseText s) out)
 
+  listing-keeps : (out : List ℕ) → KeptBytes out (listedOf s out)
+  unfolding listedOf
+  listing-keeps out = kept-choose out (not (rightShape s)) Shape _ (kept-fitted (listingText s) out)
+
   pub read-store : (a : Ask) → readOf s a .store ≡ s
   read-store (question n E) = refl
   read-store (context E out) = refl
   read-store (member n place) = refl
   read-store (line n out) = refl
   read-store (caseLine out) = refl
+  read-store (listing out) = refl
 
   pub read-keeps : (a : Ask) → (numberSaid a (readOf s a .said) ≡ 0 → ⊥) → readOf s a .bytes ≡ lentTo a
   read-keeps (question n E) k = refl
@@ -112,6 +118,7 @@ module _ (s : Store) where
   read-keeps (member n place) k = refl
   read-keeps (line n out) k = line-keeps n out k
   read-keeps (caseLine out) k = heading-keeps out k
+  read-keeps (listing out) k = listing-keeps out k
 
 -- ---- no store is returned
 
@@ -137,3 +144,6 @@ judge-keeps h n = keeps-choose noStore (not (heldFits h)) (answer Shape noStore)
 
 pub refusal-keeps : (r : Reply) (k : ℕ) (out : List ℕ) → (writtenNumber (fitted (refusalText r k) out .answer) ≡ 0 → ⊥) → fitted (refusalText r k) out .bytes ≡ out
 refusal-keeps r k out = kept-fitted noStore (refusalText r k) out
+
+pub printing-keeps : (bytes out : List ℕ) → (writtenNumber (fitted (listingOf bytes) out .answer) ≡ 0 → ⊥) → fitted (listingOf bytes) out .bytes ≡ out
+printing-keeps bytes out = kept-fitted noStore (listingOf bytes) out

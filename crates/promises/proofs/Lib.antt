@@ -24,4 +24,5 @@ pub mod Counting
 pub mod Models
 pub mod Meaning
 pub mod Truth
+pub mod Printing
 pub mod Promises

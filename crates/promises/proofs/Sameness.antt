@@ -1,7 +1,7 @@
 -- Made stores that hold the same are one store: demand 3 of our calls. Assumes nothing.
 use mathlib.Core.Bool.{true}
 use mathlib.Core.List.{List, List·Memᴰ·append-cases, List·Memᴰ·cases-cons, List·Memᴰ as Mem, Memᴰ·append-left, Memᴰ·append-right, _++_, _∷_, List·Memᴰ·head as here, List·Memᴰ·tail as there}
-use mathlib.Core.Logic.{⊎-elim}
+use mathlib.Core.Logic.{inl, inr, ⊎-elim}
 use mathlib.Core.Path.{_∙_, _≡_, ap, ap₂, refl, subst, sym}
 use Prim.Native.Nat.{_+_, ℕ}
 use lib.ListN.{length}
@@ -28,6 +28,7 @@ use Rattle.store.specs.declared.Store.{Store}
 use Rattle.theory.proofs.Lists.{clash}
 use Rattle.theory.specs.Lists.{someOf}
 use Rattle.theory.specs.Stages.{Justification}
+use Rattle.promises.proofs.Printing.{printed-same}
 
 same-members-trans : {H K L : List Justification} → SameMembers H K → SameMembers K L → SameMembers H L
 same-members-trans f g j = (λ m. g j .0 (f j .0 m), λ m. f j .1 (g j .1 m))
@@ -119,6 +120,10 @@ two-loaded bytes others f g p q a m e =
     one-set : heldBy f ≡ heldBy g
     one-set = case-held f (case-sound bytes f p) ∙ in-order-same (putIn f) (putIn g) e ∙ sym (case-held g (case-sound others g q))
 
+-- a case without fault is answered with the records that it announces
+case-record : (bytes : List ℕ) (f : Case) → caseOf bytes ≡ whole f → loadOf bytes .«record» ≡ f .header .records
+case-record bytes f p = ap (λ (x : Loaded). x .«record») (case-loaded bytes f p)
+
 pub demand-3 : Demand3 ours
 demand-3 = record {
   put-in = λ p q m. one-store ours (same-store p q m);
@@ -133,6 +138,9 @@ demand-3 = record {
   two-files = λ bytes others f g p q a m e.
       let o = two-loaded bytes others f g p q a m e in
       (ap (λ (x : Outcome). x .reply) o, λ r. one-store ours (ap (λ (x : Outcome). x .store) o));
+  same-print = λ bytes others f g p q few less a m e w out.
+      let o = two-loaded bytes others f g p q a m e in
+      printed-same bytes others out few less (ap (λ (x : Outcome). x .reply) o) (ap (λ (x : Outcome). x .store) o) (⊎-elim (λ d. inl d) (λ r. inr (case-record bytes f p ∙ r ∙ sym (case-record others g q))) w);
   in-between = λ p q. one-store ours (same-store p q (λ j. (λ m. m, λ m. m)));
   undone = λ c l p e k. same-store (withdrawn c l (added c l p e) k) p (added-less c l (made-form p) e);
   redone = λ c l p e k. same-store (added c l (withdrawn c l p e) k) p (less-added c l (made-form p) e);

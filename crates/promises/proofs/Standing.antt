@@ -14,7 +14,7 @@ use Rattle.lines.specs.Lines.{Wrote, caseText, fitted, headingOf, lineOf, lineT
 use Rattle.promises.proofs.Form.{add-tried, parted-done, tried-done, withdraw-parted}
 use Rattle.promises.proofs.InOrder.{in-order-is, in-order-put}
 use Rattle.promises.proofs.Rows.{less-test, or-test, outside-test, passed, test-off}
-use Rattle.promises.specs.Calls.{Ask, caseLine, context, line, member, ours, over, question, readOf, reads, written}
+use Rattle.promises.specs.Calls.{Ask, caseLine, context, line, listing, member, ours, over, question, readOf, reads, written}
 use Rattle.promises.specs.Made.{inOrder}
 use Rattle.promises.specs.Standing.{AsTheyStand, Stands, asRead}
 use Rattle.promises.specs.Table.{ShapedRows, enlarged, handed, lessened}
@@ -30,6 +30,7 @@ use Rattle.store.specs.declared.Store.{Store}
 use Rattle.theory.specs.Lists.{choose}
 use Rattle.theory.specs.Sets.{inRange}
 use Rattle.theory.specs.Stages.{Justification}
+use Rattle.listing.specs.Listing.{listedOf, listingText}
 
 abbrev wrote : List ℕ → List ℕ → Wrote
 wrote t out = record { answer = written t; bytes = over t out }
@@ -71,6 +72,10 @@ module _ (s : Store) (right : rightShape s ≡ true) where
   unfolding headingOf
   heading-stands out h = rw right (fits (caseText s) out h)
 
+  listing-stands : (out : List ℕ) → ltb (length out) (length (listingText s)) ≡ false → listedOf s out ≡ wrote (listingText s) out
+  unfolding listedOf
+  listing-stands out h = rw right (fits (listingText s) out h)
+
   read-stands : (a : Ask) → ShapedRows s a 0 → readOf s a ≡ asRead s a
   unfolding contextOf
   read-stands (question n E) w =
@@ -92,6 +97,11 @@ module _ (s : Store) (right : rightShape s ≡ true) where
   read-stands (caseLine out) w =
       let p = passed _ _ _ w (λ z. omega arith) in
       ap (λ (x : Wrote). reads (caseLine out) (x .answer) s (x .bytes)) (heading-stands out (test-off (ltb (length out) (length (caseText s))) (less-test (length out) (length (caseText s))) (p .0)))
+
+  read-stands (listing out) w =
+      let p = passed _ _ _ w (λ z. omega arith) in
+      let t : List ℕ = listingText s in
+      ap (λ (x : Wrote). reads (listing out) (x .answer) s (x .bytes)) (listing-stands out (test-off (ltb (length out) (length t)) (less-test (length out) (length t)) (p .0)))
 
   -- ---- the justifications alone
 

@@ -20,11 +20,11 @@ use Rattle.promises.proofs.Filing.{decode-one, decode-told, load-names,
 use Rattle.promises.proofs.Full.{VerdictSays, judge-says}
 use Rattle.promises.proofs.Rows.{Names, Tests, by-choice, exactly, fault-told, given-one, less-test, most-test, names-choice, no-row-one, not-test, or-test, outside-test, stages-name, stages-one, stages-told, unnamed}
 use Rattle.promises.proofs.Telling.{covered}
-use Rattle.promises.specs.Calls.{Ask, caseLine, context, line, member, numberSaid, ours, question, readOf}
+use Rattle.promises.specs.Calls.{Ask, caseLine, context, line, listing, member, numberSaid, ours, question, readOf}
 use Rattle.promises.specs.Once.{One}
 use Rattle.promises.specs.Room.{LabelFull}
 use Rattle.promises.specs.Rows.{given, noRow}
-use Rattle.promises.specs.Table.{AddRows, AskRows, DecodeRows, JudgeRows, LoadRows, OpenRows, RefusalRows, ReplyTable, ShapedRows, StageRows, WithdrawRows, enlarged, handed, lessened, reported}
+use Rattle.promises.specs.Table.{AddRows, AskRows, DecodeRows, JudgeRows, LoadRows, OpenRows, PrintRows, RefusalRows, ReplyTable, ShapedRows, StageRows, WithdrawRows, enlarged, handed, lessened, reported}
 use Rattle.replies.proofs.Laws.{no-ten}
 use Rattle.replies.specs.Replies.{numberOf}
 use Rattle.replies.specs.declared.Reply.{Reply}
@@ -49,6 +49,7 @@ use Rattle.theory.specs.Judge.{Verdict, judge, limits}
 use Rattle.theory.specs.Lists.{choose, someOf}
 use Rattle.theory.specs.Sets.{inRange}
 use Rattle.theory.specs.Stages.{Justification}
+use Rattle.listing.specs.Listing.{listedOf, listingOf, listingText}
 
 abbrev replied : Outcome → ℕ
 replied o = numberOf (o .reply)
@@ -263,7 +264,7 @@ standing-zero l n E = go (firstIn (nogoodsHeld l) E) (firstIn (labelHeld l n) E)
 
 module _ (s : Store) where
   read-told : (a : Ask) → AskRows s a (numberSaid a (readOf s a .said))
-  unfolding questionOf contextReply memberOf memberAt lineOf headingOf
+  unfolding questionOf contextReply memberOf memberAt lineOf headingOf listedOf
   read-told (question n E) =
       let out : Bool = ltb (top (s .held)) n || not (inRange (s .held .assumptions) E) in
       by-choice _ answerNumber (not (rightShape s)) (Refused Shape) (choose out (Refused Number) (standing (s .lists) n E)) (not-test (rightShape s)) refl
@@ -282,6 +283,7 @@ module _ (s : Store) where
       by-choice _ wrote (not (rightShape s)) (kept Shape out) (choose (ltb (top (s .held)) n) (kept Number out) w) (not-test (rightShape s)) refl
       (λ p. by-choice _ wrote (ltb (top (s .held)) n) (kept Number out) w (less-test (top (s .held)) n) refl (λ q. fitted-told (lineText (s .lists) n) out))
   read-told (caseLine out) = by-choice _ wrote (not (rightShape s)) (kept Shape out) (fitted (caseText s) out) (not-test (rightShape s)) refl (λ p. fitted-told (caseText s) out)
+  read-told (listing out) = by-choice _ wrote (not (rightShape s)) (kept Shape out) (fitted (listingText s) out) (not-test (rightShape s)) refl (λ p. fitted-told (listingText s) out)
 
   shaped-one : (a : Ask) → One (ShapedRows s a)
   shaped-one (question n E) = given-one _ _ _ no-row-one
@@ -289,6 +291,7 @@ module _ (s : Store) where
   shaped-one (member n place) = given-one _ _ _ (given-one _ _ _ no-row-one)
   shaped-one (line n out) = given-one _ _ _ (given-one _ _ _ no-row-one)
   shaped-one (caseLine out) = given-one _ _ _ no-row-one
+  shaped-one (listing out) = given-one _ _ _ no-row-one
 
 -- ---- all of it
 
@@ -302,6 +305,7 @@ reply-table = record {
   judging = λ h. exactly (JudgeRows h) (replied (judgedOf h)) (given-one _ _ _ (stages-one (h .assumptions) (top h) (saidBy h))) (judge-told h);
   shape = λ s. refl;
   refusal = λ r k out. exactly (RefusalRows r k out) (wrote (fitted (refusalText r k) out)) (given-one _ _ _ no-row-one) (fitted-told (refusalText r k) out);
+  printing = λ bytes out. exactly (PrintRows bytes out) (wrote (fitted (listingOf bytes) out)) (given-one _ _ _ no-row-one) (fitted-told (listingOf bytes) out);
   decoding = λ bytes at. exactly (DecodeRows bytes at) (reported (numberAt bytes at)) (decode-one bytes at) (decode-told bytes at);
   adding-names = add-names;
   withdrawing-names = withdraw-names;

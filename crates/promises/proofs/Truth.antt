@@ -4,7 +4,7 @@ use mathlib.Core.Path.{_≡_}
 use Prim.Native.Nat.{_≤_, ℕ}
 use borrow.Author.Tests.{le-ltb}
 use Rattle.promises.proofs.Adding.{form-adding}
-use Rattle.promises.proofs.Answers.{form-context, form-heading, form-line, form-member, form-question}
+use Rattle.promises.proofs.Answers.{form-context, form-heading, form-line, form-listing, form-member, form-question}
 use Rattle.promises.proofs.Form.{Form, made-form}
 use Rattle.promises.proofs.Loading.{load-says}
 use Rattle.promises.proofs.Meaning.{depth-consequents}
@@ -16,6 +16,7 @@ use Rattle.replies.specs.declared.Reply.the-variants.{Done}
 use Rattle.store.specs.Calls.{openOf}
 use Rattle.store.specs.declared.Store.{Store}
 use Rattle.theory.specs.Stages.{Justification}
+use Rattle.promises.proofs.Printing.{listed-printed, long-printed, refused-printed}
 
 form-tells : {A M : ℕ} {H : List Justification} {s : Store} → Form A M H s → Tells ours A M H s
 form-tells f = record {
@@ -26,6 +27,7 @@ form-tells f = record {
   member = form-member f;
   line = form-line f;
   caseLine = form-heading f;
+  listing = form-listing f;
   depth = form-depth f;
   depth-most = depth-consequents _ _ _ _ (form-depth f);
   label-at = form-label-at f;
@@ -40,4 +42,11 @@ unfolding openOf
 opens A M a m = rw (le-ltb 32 A a, le-ltb 96 M m)
 
 pub demand-2 : Demand2 ours
-demand-2 = record { opens = opens; loads = load-says; tells = λ m. form-tells (made-form m) }
+demand-2 = record {
+  opens = opens;
+  loads = load-says;
+  tells = λ m. form-tells (made-form m);
+  prints-long = long-printed;
+  prints-refused = refused-printed;
+  prints-listed = listed-printed;
+}

@@ -20,6 +20,7 @@ use Rattle.store.specs.Calls.{addOf, judgedOf, openOf, withdrawOf}
 use Rattle.store.specs.Shape.{rightShape}
 use Rattle.store.specs.declared.Outcome.{Outcome}
 use Rattle.store.specs.declared.Store.{Store}
+use Rattle.listing.specs.Listing.{listedOf, listingOf}
 
 -- ---- the calls that read
 
@@ -34,6 +35,8 @@ pub data Ask : Type 0 where
   -- the text line of a number, and the first line of a listing, into lent bytes
   line : ℕ → List ℕ → Ask
   caseLine : List ℕ → Ask
+  -- the whole listing, into lent bytes
+  listing : List ℕ → Ask
 
 -- what is said to each
 abbrev pub Said : Ask → Type 0
@@ -42,6 +45,7 @@ Said (context E out) = Reply
 Said (member n place) = Found
 Said (line n out) = Written
 Said (caseLine out) = Written
+Said (listing out) = Written
 
 -- the document's number of it
 abbrev pub numberSaid : (a : Ask) → Said a → ℕ
@@ -50,6 +54,7 @@ numberSaid (context E out) x = numberOf x
 numberSaid (member n place) x = memberNumber x
 numberSaid (line n out) x = writtenNumber x
 numberSaid (caseLine out) x = writtenNumber x
+numberSaid (listing out) x = writtenNumber x
 
 -- the bytes lent to the call; none where it takes none
 abbrev pub lentTo : Ask → List ℕ
@@ -58,6 +63,7 @@ lentTo (context E out) = out
 lentTo (member n place) = []
 lentTo (line n out) = out
 lentTo (caseLine out) = out
+lentTo (listing out) = out
 
 -- what a call that reads leaves: what it says, the store, and the lent bytes
 pub record Read (a : Ask) : Type 0 where
@@ -90,6 +96,8 @@ pub record Calls : Type 0 where
   pub shape : Store → Bool
   -- the line of a refusal with its record, into lent bytes
   pub refusal : Reply → ℕ → List ℕ → Wrote
+  -- what the listing program prints of the bytes of a file, into lent bytes
+  pub printing : List ℕ → List ℕ → Wrote
   -- the number at a place of the bytes of a file
   pub decoding : List ℕ → ℕ → Number
 
@@ -100,6 +108,7 @@ readOf s (context E out) = reads (context E out) (contextReply s E (length out))
 readOf s (member n place) = reads (member n place) (memberOf s n place) s []
 readOf s (line n out) = reads (line n out) (lineOf s n out .answer) s (lineOf s n out .bytes)
 readOf s (caseLine out) = reads (caseLine out) (headingOf s out .answer) s (headingOf s out .bytes)
+readOf s (listing out) = reads (listing out) (listedOf s out .answer) s (listedOf s out .bytes)
 
 -- ours: what the contracts of the product's calls say of every answer (`Coded`)
 abbrev pub ours : Calls
@@ -112,5 +121,6 @@ ours = record {
   reading = readOf;
   shape = rightShape;
   refusal = λ r k out. fitted (refusalText r k) out;
+  printing = λ bytes out. fitted (listingOf bytes) out;
   decoding = numberAt;
 }

@@ -24,6 +24,12 @@ use Rattle.lines.proofs.case_line.Symbol as case-line-code
 use Rattle.lines.proofs.line as line-at
 use Rattle.lines.proofs.line.Reads as line-reads
 use Rattle.lines.proofs.line.Symbol as line-code
+use Rattle.listing.proofs.listing as listing-at
+use Rattle.listing.proofs.listing.Reads as listing-reads
+use Rattle.listing.proofs.listing.Symbol as listing-code
+use Rattle.listing.proofs.printed as printed-at
+use Rattle.listing.proofs.printed.Reads as printed-reads
+use Rattle.listing.proofs.printed.Symbol as printed-code
 use Rattle.lines.proofs.refusal as refusal-at
 use Rattle.lines.proofs.refusal.Reads as refusal-reads
 use Rattle.lines.proofs.refusal.Symbol as refusal-code
@@ -33,7 +39,7 @@ use Rattle.lines.specs.declared.Written.{Written}
 use Rattle.numbers.proofs.read as read-at
 use Rattle.numbers.proofs.read.Reads as read-reads
 use Rattle.numbers.proofs.read.Symbol as read-code
-use Rattle.promises.specs.Calls.{Calls, Read, caseLine, context, line, member, question}
+use Rattle.promises.specs.Calls.{Calls, Read, caseLine, context, line, listing, member, question}
 use Rattle.promises.specs.Keeps.{Tied}
 use Rattle.store.proofs.Store.add as add-at
 use Rattle.store.proofs.Store.add.Reads as add-reads
@@ -69,6 +75,9 @@ lined x = record { answer = x .said; store = x .store }
 abbrev pub headed : {out : List ℕ} → Read (caseLine out) → Listed
 headed x = record { answer = x .said; store = x .store }
 
+abbrev pub listedBy : {out : List ℕ} → Read (listing out) → Listed
+listedBy x = record { answer = x .said; store = x .store }
+
 abbrev pub wrote : Written → List ℕ → Wrote
 wrote r b = record { answer = r; bytes = b }
 
@@ -93,6 +102,10 @@ pub record Coded (C : Calls) : Type 2 where
       (λ κs a r e. (r ≡ lined (C .reading (a .0) (line (a .1 .0) (now (a .1 .1 .0))))) × (now (e .1 .1 .0) ≡ C .reading (a .0) (line (a .1 .0) (now (a .1 .1 .0))) .bytes))
   pub caseLine : Tied case-line-at.ended case-line-code.routine case-line-reads.Asked case-line-reads.Learnt
       (λ κs a r e. (r ≡ headed (C .reading (a .0) (caseLine (now (a .1 .0))))) × (now (e .1 .0) ≡ C .reading (a .0) (caseLine (now (a .1 .0))) .bytes))
+  pub listing : Tied listing-at.ended listing-code.routine listing-reads.Asked listing-reads.Learnt
+      (λ κs a r e. (r ≡ listedBy (C .reading (a .0) (listing (now (a .1 .0))))) × (now (e .1 .0) ≡ C .reading (a .0) (listing (now (a .1 .0))) .bytes))
+  pub printing : Tied printed-at.ended printed-code.routine printed-reads.Asked printed-reads.Learnt
+      (λ κs a r e. wrote r (now (e .1 .0)) ≡ C .printing (now (a .0)) (now (a .1 .0)))
   pub judging : Tied judged-at.ended judged-code.routine judged-reads.Asked judged-reads.Learnt
       (λ κs a r e. r ≡ C .judging (a .0))
   pub shape : Tied shape-at.ended shape-code.routine shape-reads.Asked shape-reads.Learnt

@@ -28,6 +28,7 @@ pub record Refusals (C : Calls) : Type 0 where
   -- and refused, it changes no byte
   pub bytes : (s : Store) (a : Ask) → (numberSaid a (C .reading s a .said) ≡ 0 → ⊥) → C .reading s a .bytes ≡ lentTo a
   pub refusal-bytes : (r : Reply) (k : ℕ) (out : List ℕ) → (writtenNumber (C .refusal r k out .answer) ≡ 0 → ⊥) → C .refusal r k out .bytes ≡ out
+  pub printing-bytes : (bytes out : List ℕ) → (writtenNumber (C .printing bytes out .answer) ≡ 0 → ⊥) → C .printing bytes out .bytes ≡ out
 
 pub record Demand1 (C : Calls) : Type 2 where
   -- every call of the compiled code ends, for every input, does nothing undefined, and answers what C says

@@ -12,18 +12,18 @@ use Rattle.asking.specs.declared.Found.{Found}
 use Rattle.asking.specs.declared.Found.the-variants.{Is, Not}
 use Rattle.casefile.specs.Case.{Case, caseOf, whole}
 use Rattle.lines.specs.Lines.{wordOf}
-use Rattle.promises.specs.Calls.{Calls, caseLine, context, line, member, over, question, reads, written}
+use Rattle.promises.specs.Calls.{Calls, caseLine, context, line, listing, member, over, question, reads, written}
 use Rattle.promises.specs.Made.{Input, Made, inOrder, putIn}
 use Rattle.promises.specs.Room.{AddSays, Reaches, StagesSay, WithdrawSays}
 use Rattle.replies.specs.declared.Reply.{Reply}
-use Rattle.replies.specs.declared.Reply.the-variants.{Done, Place}
+use Rattle.replies.specs.declared.Reply.the-variants.{Done, Long, Place}
 use Rattle.store.specs.Calls.{answer}
 use Rattle.store.specs.Reading.{labelHeld, nogoodsHeld}
 use Rattle.store.specs.declared.Store.{Store}
 use Rattle.text.specs.Texts.{heading, row}
 use Rattle.theory.specs.Demands.{carries, contradicts}
 use Rattle.theory.specs.Judge.{consequents, stageAt}
-use Rattle.theory.specs.Lists.{choose, sortedBy}
+use Rattle.theory.specs.Lists.{choose, each, numbersBelow, sortedBy}
 use Rattle.theory.specs.Places.{table}
 use Rattle.theory.specs.Sets.{before, within}
 use Rattle.theory.specs.Stages.{Justification, labelAt, nogoodsAt}
@@ -80,6 +80,10 @@ textOf n l = row 32 n (wordOf n l) l
 abbrev pub firstText : ℕ → ℕ → Input → Store → List ℕ
 firstText A M H s = heading A M (length (inOrder H)) (s .lists .depth)
 
+-- the whole listing, l n being the list of n: line one, then the lines of 0 to A + M, each once and in order
+abbrev pub wholeText : ℕ → ℕ → Input → Store → (ℕ → List ℕ) → List ℕ
+wholeText A M H s l = firstText A M H s ++ each (λ n. textOf n (l n)) (numbersBelow (suc (A + M)))
+
 -- the least k for which all labels and nogoods at k and k + 1 agree
 pub record IsDepth (A N : ℕ) (H : Input) (k : ℕ) : Type 0 where
   pub agrees : stageAt A N H k ≡ stageAt A N H (suc k)
@@ -100,6 +104,9 @@ pub record Tells (C : Calls) (A M : ℕ) (H : Input) (s : Store) : Type 0 where
   -- so does the text line, of that one list; and line one
   pub line : (n : ℕ) → n ≤ A + M → (l : List ℕ) × ListsSmallest A (listedFor H n) l × ((out : List ℕ) → length (textOf n l) ≤ length out → C .reading s (line n out) ≡ reads (line n out) (written (textOf n l)) s (over (textOf n l) out))
   pub caseLine : (out : List ℕ) → length (firstText A M H s) ≤ length out → C .reading s (caseLine out) ≡ reads (caseLine out) (written (firstText A M H s)) s (over (firstText A M H s) out)
+  -- .. and the whole listing
+  pub listing : (l : ℕ → List ℕ) × ((n : ℕ) → n ≤ A + M → ListsSmallest A (listedFor H n) (l n))
+      × ((out : List ℕ) → length (wholeText A M H s l) ≤ length out → C .reading s (listing out) ≡ reads (listing out) (written (wholeText A M H s l)) s (over (wholeText A M H s l) out))
   -- the depth; the store's labels and nogoods are those at the depth, and every later stage agrees with them
   pub depth : IsDepth A (A + M) H (s .lists .depth)
   -- it never exceeds the number of different consequents, falsity counted
@@ -121,3 +128,10 @@ pub record Demand2 (C : Calls) : Type 0 where
   pub loads : (bytes : List ℕ) (f : Case) → caseOf bytes ≡ whole f → (r : Reply) → (C .loading bytes .reply ≡ r) ↔ StagesSay (f .header .assumptions) (f .header .assumptions + f .header .claims) (putIn f) r
   -- every store made by the calls tells the truth of what was put in
   pub tells : {A M : ℕ} {H : Input} {s : Store} → Made C A M H s → Tells C A M H s
+  -- what is printed of a file: above 4,096 bytes reply 14, which comes before all others and gives 0 ..
+  pub prints-long : (bytes out : List ℕ) → 4096 < length bytes → C .printing bytes out ≡ C .refusal Long 0 out
+  -- .. else a refusal's line with its record ..
+  pub prints-refused : (bytes out : List ℕ) → length bytes ≤ 4096 → (C .loading bytes .reply ≡ Done → ⊥) → C .printing bytes out ≡ C .refusal (C .loading bytes .reply) (C .loading bytes .«record») out
+  -- .. else the listing of the store that it loads
+  pub prints-listed : (bytes out : List ℕ) → length bytes ≤ 4096 → C .loading bytes .reply ≡ Done
+      → C .printing bytes out ≡ record { answer = C .reading (C .loading bytes .store) (listing out) .said; bytes = C .reading (C .loading bytes .store) (listing out) .bytes }

@@ -1,7 +1,7 @@
 -- Demand 3: two stores made by the calls, with the same counts of assumptions and claims, that hold the same rules, however they came there. Assumes nothing.
 use mathlib.Core.List.{List, List·Memᴰ as Mem, _++_, _∷_}
 use mathlib.Core.Path.{_≡_}
-use Prim.Native.Nat.{_+_, ℕ}
+use Prim.Native.Nat.{_+_, _≤_, ℕ}
 use Rattle.casefile.specs.Case.{Case, caseOf, whole}
 use Rattle.promises.specs.Calls.{Ask, Calls}
 use Rattle.promises.specs.Made.{Input, Made, SameMembers, putIn}
@@ -12,6 +12,8 @@ use Rattle.store.specs.Calls.{answer}
 use Rattle.store.specs.Reading.{labelHeld, nogoodsHeld}
 use Rattle.store.specs.declared.Store.{Store}
 use Rattle.theory.specs.Stages.{Justification}
+use mathlib.Core.Logic.{_⊎_}
+use lib.ListN.{length}
 
 -- every label, the nogoods, the depth, every line and the answer to every next call is the same in both, refusals included
 pub record Same (C : Calls) (s t : Store) : Type 0 where
@@ -51,6 +53,10 @@ pub record Demand3 (C : Calls) : Type 0 where
   pub two-files : (bytes others : List ℕ) (f g : Case) → caseOf bytes ≡ whole f → caseOf others ≡ whole g
       → f .header .assumptions ≡ g .header .assumptions → f .header .claims ≡ g .header .claims → SameMembers (putIn f) (putIn g)
       → (C .loading bytes .reply ≡ C .loading others .reply) × (C .loading bytes .reply ≡ Done → Same C (C .loading bytes .store) (C .loading others .store))
+  -- .. and they print the same bytes: where it is 0, and else where they announce as many records
+  pub same-print : (bytes others : List ℕ) (f g : Case) → caseOf bytes ≡ whole f → caseOf others ≡ whole g → length bytes ≤ 4096 → length others ≤ 4096
+      → f .header .assumptions ≡ g .header .assumptions → f .header .claims ≡ g .header .claims → SameMembers (putIn f) (putIn g)
+      → (C .loading bytes .reply ≡ Done) ⊎ (f .header .records ≡ g .header .records) → (out : List ℕ) → C .printing bytes out ≡ C .printing others out
   -- with refused calls, and calls that read, in between
   pub in-between : {A M : ℕ} {H : Input} {s t : Store} → Made C A M H s → Made C A M H t → Same C s t
   -- adding a new one and at once withdrawing it, both answered 0, gives the earlier store back

@@ -19,6 +19,10 @@ use Rattle.labels.proofs.build as build-at
 use Rattle.labels.proofs.build.Reads as build-reads
 use Rattle.labels.proofs.first_within as first-within-at
 use Rattle.labels.proofs.first_within.Reads as first-within-reads
+use Rattle.listing.proofs.listing as listing-at
+use Rattle.listing.proofs.listing.Reads as listing-reads
+use Rattle.listing.proofs.printed as printed-at
+use Rattle.listing.proofs.printed.Reads as printed-reads
 use Rattle.lines.proofs.case_line as case-line-at
 use Rattle.lines.proofs.case_line.Reads as case-line-reads
 use Rattle.lines.proofs.line as line-at
@@ -67,6 +71,8 @@ use Rattle.sets.proofs.has as has-at
 use Rattle.sets.proofs.has.Reads as has-reads
 use Rattle.sets.proofs.low as low-at
 use Rattle.sets.proofs.low.Reads as low-reads
+use Rattle.sets.proofs.meet as meet-at
+use Rattle.sets.proofs.meet.Reads as meet-reads
 use Rattle.sets.proofs.only as only-at
 use Rattle.sets.proofs.only.Reads as only-reads
 use Rattle.sets.proofs.union as union-at
@@ -123,10 +129,13 @@ pub record OnceEach : Type 0 where
   pub line-one : Once line-at.ended line-reads.Learnt
   pub case-line-one : Once case-line-at.ended case-line-reads.Learnt
   pub refusal-one : Once refusal-at.ended refusal-reads.Learnt
+  pub listing-one : Once listing-at.ended listing-reads.Learnt
+  pub printed-one : Once printed-at.ended printed-reads.Learnt
   pub load-one : Once load-at.ended load-reads.Learnt
   pub number-one : Once number-at.ended number-reads.Learnt
   pub union-one : Once union-at.ended union-reads.Learnt
   pub within-one : Once within-at.ended within-reads.Learnt
+  pub meet-one : Once meet-at.ended meet-reads.Learnt
   pub without-one : Once without-at.ended without-reads.Learnt
   pub only-one : Once only-at.ended only-reads.Learnt
   pub has-one : Once has-at.ended has-reads.Learnt

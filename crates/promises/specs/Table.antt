@@ -10,7 +10,7 @@ use Rattle.casefile.specs.Case.{Case, Reading, caseOf, refused, whole}
 use Rattle.lines.specs.Lines.{caseText, lineText, refusalText, writtenNumber}
 use Rattle.numbers.specs.declared.Number.{Number}
 use Rattle.numbers.specs.declared.Number.the-variants.{Bad, Value}
-use Rattle.promises.specs.Calls.{Ask, Calls, caseLine, context, line, member, numberSaid, question}
+use Rattle.promises.specs.Calls.{Ask, Calls, caseLine, context, line, listing, member, numberSaid, question}
 use Rattle.promises.specs.Made.{putIn}
 use Rattle.promises.specs.Room.{Above, LabelFull, NogoodsFull}
 use Rattle.promises.specs.Rows.{given, noRow}
@@ -23,6 +23,7 @@ use Rattle.store.specs.Reading.{listHeld}
 use Rattle.store.specs.Shape.{heldFits, rightShape, top}
 use Rattle.store.specs.declared.Store.{Store}
 use Rattle.theory.specs.Stages.{Justification}
+use Rattle.listing.specs.Listing.{listingOf, listingText}
 
 -- ---- open
 
@@ -97,6 +98,7 @@ ShapedRows s (context E out) = given (Outside s E) 4 (given (length out < top (s
 ShapedRows s (member n place) = given (top (s .held) < n) 4 (given (length (listHeld (s .lists) n) ≤ place) 16 noRow)
 ShapedRows s (line n out) = given (top (s .held) < n) 4 (given (length out < length (lineText (s .lists) n)) 15 noRow)
 ShapedRows s (caseLine out) = given (length out < length (caseText s)) 15 noRow
+ShapedRows s (listing out) = given (length out < length (listingText s)) 15 noRow
 
 abbrev pub AskRows : Store → Ask → ℕ → Type 0
 AskRows s a = given (rightShape s ≡ false) 2 (ShapedRows s a)
@@ -105,6 +107,11 @@ AskRows s a = given (rightShape s ≡ false) 2 (ShapedRows s a)
 
 abbrev pub RefusalRows : Reply → ℕ → List ℕ → ℕ → Type 0
 RefusalRows r k out = given (length out < length (refusalText r k)) 15 noRow
+
+-- ---- what is printed of a file
+
+abbrev pub PrintRows : List ℕ → List ℕ → ℕ → Type 0
+PrintRows bytes out = given (length out < length (listingOf bytes)) 15 noRow
 
 -- ---- load
 
@@ -178,6 +185,7 @@ pub record ReplyTable (C : Calls) : Type 0 where
   pub judging : (h : Held) (a : ℕ) → (numberOf (C .judging h .reply) ≡ a) ↔ JudgeRows h a
   pub shape : (s : Store) → C .shape s ≡ rightShape s
   pub refusal : (r : Reply) (k : ℕ) (out : List ℕ) (a : ℕ) → (writtenNumber (C .refusal r k out .answer) ≡ a) ↔ RefusalRows r k out a
+  pub printing : (bytes out : List ℕ) (a : ℕ) → (writtenNumber (C .printing bytes out .answer) ≡ a) ↔ PrintRows bytes out a
   pub decoding : (bytes : List ℕ) (at : ℕ) (a : Reported) → (reported (C .decoding bytes at) ≡ a) ↔ DecodeRows bytes at a
   -- 8 names the lowest such claim or assumption; no other reply names one
   pub adding-names : (s : Store) (c : ℕ) (l : List ℕ) (n : ℕ) → (namedBy (C .adding s c l .reply) ≡ some n)

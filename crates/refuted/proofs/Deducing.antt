@@ -83,6 +83,7 @@ its-table = record {
   judging = reply-table .judging;
   shape = reply-table .shape;
   refusal = reply-table .refusal;
+  printing = reply-table .printing;
   decoding = reply-table .decoding;
   adding-names = reply-table .adding-names;
   withdrawing-names = reply-table .withdrawing-names;
@@ -102,6 +103,7 @@ refusals-too = record {
   reading = its-store;
   bytes = λ s. by-question asks readOf s (λ a x. (numberSaid a (x .said) ≡ 0 → ⊥) → x .bytes ≡ lentTo a) (refusals .bytes s) (λ n E k. refl);
   refusal-bytes = refusals .refusal-bytes;
+  printing-bytes = refusals .printing-bytes;
 }
 
 -- ---- its answers on made stores are ours
@@ -135,6 +137,7 @@ its-telling m =
       member = t .member;
       line = t .line;
       caseLine = t .caseLine;
+      listing = t .listing;
       depth = t .depth;
       depth-most = t .depth-most;
       label-at = t .label-at;
@@ -145,7 +148,7 @@ its-telling m =
     }
 
 pub demand-2-too : Demand2 deducing
-demand-2-too = record { opens = demand-2 .opens; loads = demand-2 .loads; tells = λ m. its-telling (made-ours m) }
+demand-2-too = record { opens = demand-2 .opens; loads = demand-2 .loads; tells = λ m. its-telling (made-ours m); prints-long = demand-2 .prints-long; prints-refused = demand-2 .prints-refused; prints-listed = demand-2 .prints-listed }
 
 pub demand-3-too : Demand3 deducing
 demand-3-too = record {
@@ -156,6 +159,7 @@ demand-3-too = record {
   repeated = λ c l p d m. demand-3 .repeated c l (made-ours p) d m;
   from-file = λ bytes f e r m h. one-store deducing (demand-3 .from-file bytes f e r (made-ours m) h .store);
   two-files = λ bytes others f g p q a m e. let o = demand-3 .two-files bytes others f g p q a m e in (o .0, λ r. one-store deducing (o .1 r .store));
+  same-print = demand-3 .same-print;
   in-between = λ p q. one-store deducing (demand-3 .in-between (made-ours p) (made-ours q) .store);
   undone = λ c l p e k. demand-3 .undone c l (made-ours p) e k;
   redone = λ c l p e k. demand-3 .redone c l (made-ours p) e k;
