@@ -2,17 +2,17 @@
 use mathlib.Core.Bool.{false}
 use mathlib.Core.List.{List, List·Memᴰ·eq-of-singleton, List·Memᴰ as Mem, [], _∷_, List·Memᴰ·head as here, map, List·Memᴰ·tail as there}
 use mathlib.Core.Path.{_∙_, _≡_, ap, ap₂, refl, sym}
-use Prim.Native.Nat.{_+_, _<_, _≤_, suc, zero, ℕ}
+use Prim.Native.Nat.{_+_, _<_, _^_, _≤_, suc, zero, ℕ}
 use native.Mathlib.Omega.{arith}
 use Prim.Native.String.{String}
 use lib.ListN.{getD, length}
-use Rattle.asking.specs.Asking.{memberNumber, memberOf, memberSet}
+use Rattle.asking.specs.Asking.{firstIn, memberNumber, memberOf, memberSet, questionOf, reasoned, standing}
 use Rattle.asking.specs.declared.Answer.the-variants.{Unsupported}
 use Rattle.casefile.proofs.Cases.{listed as spells, listedCase}
 use Rattle.casefile.specs.Load.{loadOf}
 use Rattle.lines.specs.Lines.{wordOf}
 use Rattle.numbers.specs.Numbers.{numberAt, numberFrom, replied, secondFrom}
-use Rattle.promises.proofs.Answers.{line-by, member-by}
+use Rattle.promises.proofs.Answers.{line-by, member-by, question-by}
 use Rattle.promises.proofs.Form.{Form, form-a, form-m, form-settled, made-form}
 use Rattle.promises.proofs.Right.{form-right, form-stage}
 use Rattle.refuted.proofs.Absurdity.{absurdity-depth, absurdity-done, absurdity-labels, absurdity-made, absurdity-nogoods}
@@ -31,7 +31,7 @@ use Rattle.rules.specs.Held.{put}
 use Rattle.rules.specs.Items.{faultOf, justificationOf, sameJustification, setOf}
 use Rattle.stages.specs.Lists.{listsOf}
 use Rattle.stages.specs.declared.Lists.{Lists}
-use Rattle.store.specs.Reading.{labelHeld, listHeld}
+use Rattle.store.specs.Reading.{labelHeld, listHeld, nogoodsHeld}
 use Rattle.store.specs.declared.Outcome.{Outcome}
 use Rattle.store.specs.declared.Store.{Store}
 use Rattle.text.specs.Texts.{digits, digitsIn, row, spaced, word}
@@ -171,6 +171,12 @@ pub prints : {A M : ℕ} {H : List Justification} {s : Store} (f : Form A M H s)
 prints {s = s} f n h l t e u out w =
     let x : textOf n (listHeld (s .lists) n) ≡ word t = ap (textOf n) e ∙ u in
     line-by f n h out (omega (arith, ap length x)) ∙ ap (λ (y : List ℕ). reads (line n out) (written y) s (over y out)) x
+
+-- the answer where the nogoods and the label are known
+pub answers : {A M : ℕ} {H : List Justification} {s : Store} (f : Form A M H s) (n E : ℕ) → n ≤ A + M → E < 2 ^ A
+    → (bad own : List ℕ) → nogoodsHeld (s .lists) ≡ bad → labelHeld (s .lists) n ≡ own → questionOf s n E ≡ reasoned (firstIn bad E) (firstIn own E)
+unfolding standing
+answers f n E l h bad own p q = question-by f n E l h ∙ ap₂ (λ (g m : List ℕ). reasoned (firstIn g E) (firstIn m E)) p q
 
 -- the second and the third of three labels
 second-third : (l : Lists) (a b c : List ℕ) → map (labelHeld l) (numbersTo 3) ≡ a ∷ b ∷ c ∷ [] → (labelHeld l 2 ≡ b) × (labelHeld l 3 ≡ c)

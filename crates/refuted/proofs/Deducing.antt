@@ -1,4 +1,4 @@
--- A question that works from the justifications and reads no list is right of every made store, and refuses as ours does: the demands over made stores do not tell it from ours. Assumes nothing.
+-- A question that works the lists out anew from the justifications is right of every made store, and refuses as ours does: the demands over made stores do not tell it from ours. Assumes nothing.
 use mathlib.Core.Bool.{Bool, false, true}
 use mathlib.Core.List.{List}
 use mathlib.Core.Logic.{_↔_}
@@ -6,35 +6,38 @@ use mathlib.Core.Path.{_∙_, _≡_, ap, ap₂, refl, sym}
 use Prim.Native.Nat.{_+_, _<_, _^_, _≤_, ℕ}
 use lib.Dec.{eqb}
 use borrow.Author.Tests.{eqb-true}
-use Rattle.asking.specs.Asking.{answerNumber, questionOf}
+use Rattle.asking.specs.Asking.{answerNumber, questionOf, standing}
 use Rattle.asking.specs.declared.Answer.{Answer}
-use Rattle.asking.specs.declared.Answer.the-variants.{Inconsistent, Supported, Unsupported}
 use Rattle.promises.proofs.Answers.{question-by}
-use Rattle.promises.proofs.Form.{made-form, made-holds}
+use Rattle.promises.proofs.Form.{Form, form-a, form-m, form-said, made-form, made-holds}
 use Rattle.promises.proofs.Keeping.{read-store}
 use Rattle.promises.proofs.Refusals.{refusals}
 use Rattle.promises.proofs.Right.{made-no-own, made-right, own-shape}
 use Rattle.promises.proofs.Sameness.{demand-3, one-store}
-use Rattle.promises.proofs.Table.{reply-table}
-use Rattle.promises.proofs.Telling.{carries-same, contradicts-same}
+use Rattle.promises.proofs.Table.{reply-table, standing-zero}
 use Rattle.promises.proofs.Truth.{demand-2}
 use Rattle.promises.specs.Calls.{Ask, lentTo, numberSaid, ours, question, readOf}
 use Rattle.promises.specs.Demand1.{Refusals}
 use Rattle.promises.specs.Demand2.{Demand2, QuestionSays, Tells}
 use Rattle.promises.specs.Demand3.{Demand3}
-use Rattle.promises.specs.Made.{Made, SameMembers, Stores, added, asked, judged, kept, loaded, opened, refused, withdrawn}
+use Rattle.promises.specs.Made.{Made, Stores, added, asked, judged, kept, loaded, opened, refused, withdrawn}
 use Rattle.promises.specs.Table.{AskRows, ReplyTable}
 use Rattle.refuted.proofs.Exchange.{by-question}
 use Rattle.refuted.specs.Wrong.{deducing, workedOut}
 use Rattle.rules.specs.Held.{saidBy}
+use Rattle.stages.specs.declared.Lists.{Lists}
+use Rattle.store.specs.Calls.{noStore, storeOf}
+use Rattle.store.specs.declared.Outcome.{Outcome}
 use Rattle.store.specs.declared.Store.{Store}
-use Rattle.theory.specs.Demands.{carries, contradicts}
 use Rattle.theory.specs.Lists.{choose}
 use Rattle.theory.specs.Stages.{Justification}
 
 -- the question of this program
 abbrev asks : Store → ℕ → ℕ → Answer
-asks s n E = choose (eqb (answerNumber (questionOf s n E)) 0) (workedOut (saidBy (s .held)) n E) (questionOf s n E)
+asks s n E = choose (eqb (answerNumber (questionOf s n E)) 0) (workedOut (s .held) n E) (questionOf s n E)
+
+abbrev again : Store → Lists
+again s = storeOf noStore (s .held .assumptions) (s .held .claims) (saidBy (s .held)) .store .lists
 
 its-store : (s : Store) (a : Ask) → deducing .reading s a .store ≡ s
 its-store s = by-question asks readOf s (λ a x. x .store ≡ s) (read-store s) (λ n E. refl)
@@ -53,19 +56,11 @@ module _ {A M : ℕ} where
 
 -- ---- its refusals are ours
 
-worked-zero : (H : List Justification) (n E : ℕ) → answerNumber (workedOut H n E) ≡ 0
-worked-zero H n E = go (contradicts H E) (carries H E n)
-  where
-    go : (a b : Bool) → answerNumber (choose a Inconsistent (choose b Supported Unsupported)) ≡ 0
-    go true b = refl
-    go false true = refl
-    go false false = refl
-
 same-number : (s : Store) (n E : ℕ) → answerNumber (asks s n E) ≡ answerNumber (questionOf s n E)
 same-number s n E = go (questionOf s n E) (eqb (answerNumber (questionOf s n E)) 0) refl
   where
-    go : (q : Answer) (b : Bool) → eqb (answerNumber q) 0 ≡ b → answerNumber (choose b (workedOut (saidBy (s .held)) n E) q) ≡ answerNumber q
-    go q true e = worked-zero (saidBy (s .held)) n E ∙ sym (eqb-true (answerNumber q) 0 e)
+    go : (q : Answer) (b : Bool) → eqb (answerNumber q) 0 ≡ b → answerNumber (choose b (workedOut (s .held) n E) q) ≡ answerNumber q
+    go q true e = standing-zero (again s) n E ∙ sym (eqb-true (answerNumber q) 0 e)
     go q false e = refl
 
 read-rows : (s : Store) (q : Ask) (a : ℕ) → (numberSaid q (deducing .reading s q .said) ≡ a) ↔ AskRows s q a
@@ -108,19 +103,22 @@ refusals-too = record {
 
 -- ---- its answers on made stores are ours
 
-worked-same : (J H : List Justification) → SameMembers J H → (n E : ℕ) → workedOut J n E ≡ workedOut H n E
-worked-same J H f n E = ap₂ (λ (c k : Bool). choose c Inconsistent (choose k Supported Unsupported)) (contradicts-same J H f E) (carries-same J H f E n)
+-- worked out anew, the lists are those that the store has
+pub lists-again : {A M : ℕ} {H : List Justification} {s : Store} → Form A M H s → storeOf noStore (s .held .assumptions) (s .held .claims) (saidBy (s .held)) .store .lists ≡ s .lists
+lists-again {A} {M} {s = s} f =
+    ap₂ (λ (a m : ℕ). storeOf noStore a m (saidBy (s .held)) .store .lists) (form-a f) (form-m f)
+    ∙ ap (λ (J : List Justification). storeOf noStore A M J .store .lists) (form-said f) ∙ ap (λ (o : Outcome). o .store .lists) (f .store)
 
 same-answer : {A M : ℕ} {H : List Justification} {s : Store} → Made ours A M H s → (n E : ℕ) → n ≤ A + M → E < 2 ^ A → asks s n E ≡ questionOf s n E
-same-answer {H = H} {s = s} m n E l h =
-    ap (λ (x : Answer). choose (eqb (answerNumber (questionOf s n E)) 0) x (questionOf s n E)) (worked-same (saidBy (s .held)) H (made-holds m .members) n E ∙ sym (question-by (made-form m) n E l h))
+same-answer {s = s} m n E l h =
+    ap (λ (x : Answer). choose (eqb (answerNumber (questionOf s n E)) 0) x (questionOf s n E)) (ap (λ (x : Lists). standing x n E) (lists-again (made-form m)) ∙ sym (question-by (made-form m) n E l h))
     ∙ either-way (eqb (answerNumber (questionOf s n E)) 0) (questionOf s n E)
   where
     either-way : (b : Bool) (q : Answer) → choose b q q ≡ q
     either-way true q = refl
     either-way false q = refl
 
-its-question : {A M : ℕ} {H : List Justification} {s : Store} → Made ours A M H s → (n E : ℕ) → n ≤ A + M → E < 2 ^ A → (a : Answer) → (asks s n E ≡ a) ↔ QuestionSays H n E a
+its-question : {A M : ℕ} {H : List Justification} {s : Store} → Made ours A M H s → (n E : ℕ) → n ≤ A + M → E < 2 ^ A → (a : Answer) → (asks s n E ≡ a) ↔ QuestionSays A H n E a
 its-question m n E l h a =
     let r = demand-2 .tells m .question n E l h a in
     let e = same-answer m n E l h in

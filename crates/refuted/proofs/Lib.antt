@@ -8,5 +8,6 @@ pub mod Pinned
 pub mod Prefixed
 pub mod Arrival
 pub mod Deducing
+pub mod Naming
 pub mod Wrong
 pub mod Product

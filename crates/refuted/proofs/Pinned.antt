@@ -7,6 +7,7 @@ use Prim.Native.String.{String}
 use native.Mathlib.Omega.{arith}
 use lib.Count.{ones}
 use lib.ListN.{drop, getD, length}
+use Rattle.asking.specs.Asking.{answerSet, firstIn, questionOf, reasoned}
 use Rattle.asking.specs.declared.Answer.the-variants.{Inconsistent, Supported, Unsupported}
 use Rattle.casefile.specs.Case.{Case, caseOf, recordsFrom, whole}
 use Rattle.items.specs.Items.{Item, headerFrom, numbersFrom, recordFrom, unless}
@@ -18,7 +19,7 @@ use Rattle.promises.proofs.Truth.{demand-2}
 use Rattle.promises.specs.Calls.{caseLine, context, ours, over, reads, written}
 use Rattle.promises.specs.Demand2.{byteBy, firstText, textOf}
 use Rattle.promises.specs.Made.{Made, inOrder, putIn}
-use Rattle.refuted.proofs.Cases.{prints}
+use Rattle.refuted.proofs.Cases.{answers, prints}
 use Rattle.refuted.proofs.Files.{file-are, file-done, file-form, file-made}
 use Rattle.refuted.specs.Cases.{ListsAre}
 use Rattle.refuted.specs.Pinned.{Pinned, Refuses, keys, keysBytes, sowing, sowingBytes}
@@ -35,7 +36,7 @@ use Rattle.theory.specs.Demands.{carries, contradicts}
 use Rattle.theory.specs.Judge.{judge, limits, sameSets}
 use Rattle.theory.specs.Lists.{alike, allOf, each, numbersBelow, numbersTo, someOf, those}
 use Rattle.theory.specs.Places.{table}
-use Rattle.theory.specs.Sets.{among, digit}
+use Rattle.theory.specs.Sets.{among, digit, within}
 use Rattle.theory.specs.Stages.{Justification, ahead, follows, gives, lesser}
 
 abbrev item : ℕ → List ℕ → Item
@@ -110,9 +111,17 @@ first-line : (out : List ℕ) → 13 ≤ length out → ours .reading s (caseLin
 first-line out h =
     demand-2 .tells made .caseLine out (omega (arith, ap length case-text, first-text .1)) ∙ ap (λ (t : List ℕ). reads (caseLine out) (written t) s (over t out)) case-text
 
-says : (carries (putIn sown) 5 6 ≡ true) × (contradicts (putIn sown) 5 ≡ false) × (carries (putIn sown) 5 7 ≡ false) × (contradicts (putIn sown) 6 ≡ true)
-unfolding carries contradicts follows among digit someOf gives allOf setOf those numbersBelow
-says = (refl, refl, refl, refl)
+named : (reasoned (firstIn (3 ∷ 6 ∷ []) 5) (firstIn (5 ∷ []) 5) ≡ Supported 5) × (reasoned (firstIn (3 ∷ 6 ∷ []) 5) (firstIn [] 5) ≡ Unsupported) × (reasoned (firstIn (3 ∷ 6 ∷ []) 6) (firstIn [] 6) ≡ Inconsistent 6)
+unfolding firstIn within
+named = (refl, refl, refl)
+
+asked : (questionOf s 6 5 ≡ Supported 5) × (questionOf s 7 5 ≡ Unsupported) × (questionOf s 7 6 ≡ Inconsistent 6)
+asked =
+    let l = seven (s .lists) _ (are .labels) in (
+      answers form 6 5 (omega arith) (omega arith) _ _ (are .nogoods) (l .5) ∙ named .0,
+      answers form 7 5 (omega arith) (omega arith) _ _ (are .nogoods) (l .6) ∙ named .1,
+      answers form 7 6 (omega arith) (omega arith) _ _ (are .nogoods) (l .6) ∙ named .2,
+    )
 
 table-of : (table 8 (byteBy (putIn sown) 5) ≡ 0 ∷ 1 ∷ 0 ∷ 1 ∷ 1 ∷ 0 ∷ 1 ∷ 0 ∷ []) × (table 8 (byteBy (putIn sown) 6) ≡ 2 ∷ 2 ∷ 2 ∷ 2 ∷ 2 ∷ 2 ∷ 2 ∷ 2 ∷ [])
 unfolding table carries contradicts follows among digit someOf gives allOf setOf those numbersBelow
@@ -148,11 +157,8 @@ pinned =
       sowing-5 = prints form 5 (omega arith) _ "5 supported {2}\n" (l .4) (texts .5);
       sowing-6 = prints form 6 (omega arith) _ "6 supported {1,3}\n" (l .5) (texts .6);
       sowing-7 = prints form 7 (omega arith) _ "7 unsupported\n" (l .6) (texts .7);
-      sowing-asked = (
-        demand-2 .tells made .question 6 5 (omega arith) (omega arith) Supported .1 (says .0),
-        demand-2 .tells made .question 7 5 (omega arith) (omega arith) Unsupported .1 (says .1, says .2),
-        demand-2 .tells made .question 7 6 (omega arith) (omega arith) Inconsistent .1 (says .3),
-      );
+      sowing-asked = asked;
+      sowing-named = (ap answerSet (asked .0), ap answerSet (asked .1), ap answerSet (asked .2));
       sowing-context = λ out h. demand-2 .tells made .context 5 out (omega arith) (omega arith) ∙ ap (λ (t : List ℕ). reads (context 5 out) Done s (t ++ drop 8 out)) (table-of .0);
       sowing-against = λ out h. demand-2 .tells made .context 6 out (omega arith) (omega arith) ∙ ap (λ (t : List ℕ). reads (context 6 out) Done s (t ++ drop 8 out)) (table-of .1);
       label-refused = refuses (Label 14) 13 "refused 8 13\n" (refusals .0);

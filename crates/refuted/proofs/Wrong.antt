@@ -2,6 +2,7 @@
 use mathlib.Core.Bool.{Bool, false, true}
 use mathlib.Core.List.{List, List·Memᴰ·eq-of-singleton, List·Memᴰ as Mem, [], _∷_, List·Memᴰ·head as here}
 use mathlib.Core.Logic.{inr, ⊎-elim}
+use mathlib.Core.Option.{Option, none, some}
 use mathlib.Core.Path.{_∙_, _≡_, ap, ap₂, refl, subst, sym}
 use Prim.Native.Nat.{_+_, _<_, _^_, _≤_, zero-le, ℕ}
 use native.Mathlib.Nat.{eq-or-lt-of-le}
@@ -9,25 +10,27 @@ use native.Mathlib.Omega.{arith}
 use lib.Count.{ones}
 use lib.Dec.{eqb}
 use lib.ListN.{length}
-use Rattle.asking.specs.Asking.{answerNumber, byteOf, questionOf, standing}
+use Rattle.asking.specs.Asking.{answerNumber, byteOf, firstIn, questionOf, reasoned, standing}
 use Rattle.asking.specs.declared.Answer.{Answer}
 use Rattle.asking.specs.declared.Answer.the-variants.{Inconsistent, Refused, Supported, Unsupported}
 use Rattle.refuted.proofs.Arrival.{keeps-arrival}
 use Rattle.refuted.proofs.Cases.{p-cases}
-use Rattle.refuted.proofs.Deducing.{refusals-too, demand-2-too, demand-3-too, stores-too}
+use Rattle.refuted.proofs.Deducing.{demand-2-too, demand-3-too, lists-again, refusals-too, stores-too}
+use Rattle.refuted.proofs.Naming.{names-the-asked, names-the-last}
 use Rattle.casefile.proofs.Cases.{listed as spells, listedCase}
 use Rattle.promises.proofs.Adding.{reached}
-use Rattle.promises.proofs.Answers.{in-set}
+use Rattle.promises.proofs.Answers.{byte-says, in-set, standing-byte}
 use Rattle.promises.proofs.Form.{Form, done-by, done-store, form-a, form-count, form-m, form-said, made-form, none-store}
 use Rattle.refuted.proofs.Prefixed.{judges-prefixes}
 use Rattle.promises.proofs.Right.{made-right}
 use Rattle.refuted.proofs.Small.{add-done, done-with, few-room, made-add, made-open, one-done, one-made, opens-at}
 use Rattle.promises.proofs.Rows.{passes, room-says}
 use Rattle.promises.proofs.Standing.{as-they-stand}
+use Rattle.promises.proofs.Table.{standing-zero}
 use Rattle.promises.proofs.Truth.{demand-2}
 use Rattle.promises.proofs.Withdrawing.{lets-go}
 use Rattle.promises.specs.Calls.{Calls, Read, ours, question}
-use Rattle.promises.specs.Demand2.{Demand2, IsDepth, Smallest}
+use Rattle.promises.specs.Demand2.{Demand2, IsDepth, Smallest, byteBy}
 use Rattle.promises.specs.Made.{Made, Stores, added, inOrder, opened, putIn, withdrawn}
 use Rattle.promises.specs.Room.{Reaches}
 use Rattle.promises.specs.Rows.{given}
@@ -48,6 +51,7 @@ use Rattle.store.specs.Reading.{labelHeld, nogoodsHeld}
 use Rattle.store.specs.Shape.{heldFits, rightShape, top}
 use Rattle.store.specs.declared.Outcome.{Outcome}
 use Rattle.store.specs.declared.Store.{Store}
+use Rattle.theory.proofs.Demands.{carries-means}
 use Rattle.theory.proofs.Depth.{consequents-length}
 use Rattle.theory.proofs.Lists.{and-intro, and-left, and-right, clash}
 use Rattle.theory.proofs.Sets.{within-le}
@@ -56,11 +60,24 @@ use Rattle.theory.specs.Demands.{carries, contradicts}
 use Rattle.theory.specs.Judge.{consequents, judge, limits, sameSets}
 use Rattle.theory.specs.Lists.{alike, allOf, choose, numbersBelow, numbersTo, someOf, those}
 use Rattle.theory.specs.Places.{table}
-use Rattle.theory.specs.Sets.{among, bySize, contains, digit, listing, within}
+use Rattle.theory.specs.Sets.{among, bySize, digit, listing, within}
 use Rattle.theory.specs.Stages.{Justification, ahead, follows, gives, lesser, minimal}
 
-not-both : (a : Answer) → a ≡ Supported → a ≡ Unsupported → ⊥
-not-both a p q = let z : _≡_ {A = ℕ} 1 0 = ap byteOf (sym p ∙ q) in omega arith
+-- ---- the bytes of two answers
+
+not-both : (a : Answer) → byteOf a ≡ 1 → byteOf a ≡ 0 → ⊥
+not-both a p q = let z : _≡_ {A = ℕ} 1 0 = sym p ∙ q in omega arith
+
+-- demand 2 gives the byte of every answer
+told : {C : Calls} {A M : ℕ} {H : List Justification} {s : Store} → Demand2 C → Made C A M H s → (n E : ℕ) → n ≤ A + M → E < 2 ^ A → byteOf (C .reading s (question n E) .said) ≡ byteBy H E n
+told {C} {A} {H = H} {s = s} d m n E l h = byte-says A H n E (C .reading s (question n E) .said) (d .tells m .question n E l h (C .reading s (question n E) .said) .0 refl)
+
+module _ (H : List Justification) (E n : ℕ) where
+  carried : carries H E n ≡ true → byteBy H E n ≡ 1
+  carried k = let c : contradicts H E ≡ false = carries-means H E n .0 k .0 in rw (c, k)
+
+  struck : contradicts H E ≡ true → byteBy H E n ≡ 2
+  struck c = rw c
 
 -- ---- refuses each call
 refuses : Demand2 refusing → ⊥
@@ -78,12 +95,12 @@ unfolding faultOf someOf inOrder
 fits = record { sound = refl; new = λ m. elim m [ ]; room = omega arith }
 
 adds-none : (C : Calls) → AddsNone C → Demand2 C → ⊥
-adds-none C none d =
+adds-none C never d =
     let o : C .opening 1 1 ≡ answer Done (C .opening 1 1 .store) = done-with (C .opening 1 1) (d .opens 1 1 (omega arith) (omega arith)) in
-    none (C .opening 1 1 .store) 2 (1 ∷ []) (d .tells (opened o) .adding 2 (1 ∷ []) Done .1 (reached 2 (1 ∷ []) fits (few-room 1 2 (justificationOf 2 2 (1 ∷ []) ∷ []) (omega arith))))
+    never (C .opening 1 1 .store) 2 (1 ∷ []) (d .tells (opened o) .adding 2 (1 ∷ []) Done .1 (reached 2 (1 ∷ []) fits (few-room 1 2 (justificationOf 2 2 (1 ∷ []) ∷ []) (omega arith))))
 
 loads-none : (C : Calls) → LoadsNone C → Demand2 C → ⊥
-loads-none C none d = none listedBytes (d .loads listedBytes listedCase spells Done .1 (room-says 3 5 (putIn listedCase) (few-room 3 5 (putIn listedCase) (omega arith))))
+loads-none C never d = never listedBytes (d .loads listedBytes listedCase spells Done .1 (room-says 3 5 (putIn listedCase) (few-room 3 5 (putIn listedCase) (omega arith))))
 
 -- ---- calls every set unsupported: assumption 1 is supported by itself
 one-carries : carries [] 1 1 ≡ true
@@ -93,7 +110,7 @@ one-carries = refl
 denies : Demand2 denying → ⊥
 denies d =
     let m : Made denying 1 0 [] (startStore 1 0) = opened (opens-at 1 0 (omega arith) (omega arith)) in
-    not-both Unsupported (d .tells m .question 1 1 (omega arith) (omega arith) Supported .1 one-carries) refl
+    not-both Unsupported (told d m 1 1 (omega arith) (omega arith) ∙ carried [] 1 1 one-carries) refl
 
 -- ---- claim 2 from assumption 1, claim 3 from claim 2; M claims
 abbrev first : ℕ → Justification
@@ -111,13 +128,16 @@ none-carries : (contradicts [] 1 ≡ false) × (carries [] 1 2 ≡ false)
 unfolding carries contradicts follows among digit someOf
 none-carries = (refl, refl)
 
+none-byte : byteBy [] 1 2 ≡ 0
+none-byte = let c = none-carries .0 in let k = none-carries .1 in rw (c, k)
+
 adds-nothing : Demand2 idle → ⊥
 adds-nothing d =
     let s : Store = startStore 1 1 in
     let o : openOf 1 1 ≡ answer Done s = opens-at 1 1 (omega arith) (omega arith) in
     let m : Made idle 1 1 (first 1 ∷ []) s = added 2 (1 ∷ []) (opened o) refl in
-    not-both (questionOf s 2 1) (d .tells m .question 2 1 (omega arith) (omega arith) Supported .1 first-carries)
-    (demand-2 .tells (opened o) .question 2 1 (omega arith) (omega arith) Unsupported .1 none-carries)
+    not-both (questionOf s 2 1) (told d m 2 1 (omega arith) (omega arith) ∙ carried (first 1 ∷ []) 1 2 first-carries)
+    (told demand-2 (opened o) 2 1 (omega arith) (omega arith) ∙ none-byte)
 
 -- ---- does all stages in the first add and none later
 
@@ -242,21 +262,21 @@ strikes-nothing d =
 
 -- .. {1} is called supported or unsupported, never inconsistent
 
-never-inconsistent : (l : Lists) (n E : ℕ) (a : Answer) → forgetting l n E a ≡ Inconsistent → ⊥
-never-inconsistent l n E Supported e = let z : _≡_ {A = ℕ} 1 2 = ap byteOf e in omega arith
-never-inconsistent l n E Unsupported e = let z : _≡_ {A = ℕ} 0 2 = ap byteOf e in omega arith
-never-inconsistent l n E (Refused r) e = let z : _≡_ {A = ℕ} 0 2 = ap byteOf e in omega arith
-never-inconsistent l n E Inconsistent e = go (contains (labelHeld l n) E) e
+never-inconsistent : (l : Lists) (n E : ℕ) (a : Answer) → byteOf (forgetting l n E a) ≡ 2 → ⊥
+never-inconsistent l n E (Supported F) e = omega arith
+never-inconsistent l n E Unsupported e = omega arith
+never-inconsistent l n E (Refused r) e = omega arith
+never-inconsistent l n E (Inconsistent G) e = go (firstIn (labelHeld l n) E) e
   where
-    go : (b : Bool) → choose b Supported Unsupported ≡ Inconsistent → ⊥
-    go true e = let z : _≡_ {A = ℕ} 1 2 = ap byteOf e in omega arith
-    go false e = let z : _≡_ {A = ℕ} 0 2 = ap byteOf e in omega arith
+    go : (m : Option ℕ) → byteOf (reasoned none m) ≡ 2 → ⊥
+    go (some F) e = omega arith
+    go none e = omega arith
 
 forgets-nogoods : Demand2 forgetful → ⊥
 forgets-nogoods d =
     let s : Store = after .store in
     let w : Made forgetful 1 0 (against ∷ []) s = added 0 (1 ∷ []) (opened open-with) against-with in
-    never-inconsistent (s .lists) 1 1 (questionOf s 1 1) (d .tells w .question 1 1 (omega arith) (omega arith) Inconsistent .1 (against-says .0))
+    never-inconsistent (s .lists) 1 1 (questionOf s 1 1) (told d w 1 1 (omega arith) (omega arith) ∙ struck (against ∷ []) 1 1 (against-says .0))
 
 -- ---- calls every table full: claim 2 from assumption 1 fits
 
@@ -300,11 +320,13 @@ forged-right =
 unrefused : {H : List Justification} {s : Store} → Form 1 1 H s → ShapedRows s (question 2 1) 0
 unrefused {s = s} f = passes ℕ _ _ 0 _ (⊎-elim (λ (p : top (s .held) < 2). omega (arith, form-a f, form-m f)) (in-set f 1 (omega arith))) refl
 
-supported-as-listed : standing (listed .lists) 2 1 ≡ Supported
-supported-as-listed =
-    let f = made-form made-listed in
-    sym (ap (λ (a : Read (question 2 1)). a .said) (as-they-stand .stands listed (made-right made-listed) .reading (question 2 1) (unrefused f)))
-    ∙ demand-2 .tells made-listed .question 2 1 (omega arith) (omega arith) Supported .1 first-carries
+supported-as-listed : byteOf (standing (listed .lists) 2 1) ≡ 1
+supported-as-listed = standing-byte (made-form made-listed) 2 1 (omega arith) (omega arith) ∙ carried (first 1 ∷ []) 1 2 first-carries
+
+unsupported-anew : byteOf (workedOut (bare .held) 2 1) ≡ 0
+unsupported-anew =
+    let f = made-form made-bare in
+    ap (λ (l : Lists). byteOf (standing l 2 1)) (lists-again f) ∙ standing-byte f 2 1 (omega arith) (omega arith) ∙ none-byte
 
 -- ---- withdraws the rule and keeps the lists, or the count
 
@@ -425,18 +447,13 @@ clears-a-consequent d =
     omega (arith, sym (form-count f) ∙ ap (λ (s : Store). s .held .count) u ∙ none-held, single-left)
 
 reads-no-list : AsTheyStand deducing → ⊥
-unfolding inOrder
 reads-no-list d =
-    let f = made-form made-bare in
     let w : ShapedRows forged (question 2 1) 0 = unrefused (made-form made-bare) in
-    let asked : ours .reading forged (question 2 1) .said ≡ Supported = ap (λ (a : Read (question 2 1)). a .said) (as-they-stand .stands forged forged-right .reading (question 2 1) w) ∙ supported-as-listed in
-    let said : deducing .reading forged (question 2 1) .said ≡ Supported = ap (λ (a : Read (question 2 1)). a .said) (d .stands forged forged-right .reading (question 2 1) w) ∙ supported-as-listed in
-    let worked : deducing .reading forged (question 2 1) .said ≡ Unsupported =
-    ap₂ (λ (a : Answer) (H : List Justification). choose (eqb (answerNumber a) 0) (workedOut H 2 1) a) asked (form-said f) ∙ unsupported-by-none in
-    not-both (deducing .reading forged (question 2 1) .said) said worked
-  where
-    unsupported-by-none : workedOut [] 2 1 ≡ Unsupported
-    unsupported-by-none = let c = none-carries .0 in let k = none-carries .1 in rw (c, k)
+    let read : ours .reading forged (question 2 1) .said ≡ standing (listed .lists) 2 1 = ap (λ (a : Read (question 2 1)). a .said) (as-they-stand .stands forged forged-right .reading (question 2 1) w) in
+    let said : deducing .reading forged (question 2 1) .said ≡ standing (listed .lists) 2 1 = ap (λ (a : Read (question 2 1)). a .said) (d .stands forged forged-right .reading (question 2 1) w) in
+    let worked : deducing .reading forged (question 2 1) .said ≡ workedOut (bare .held) 2 1 =
+    ap (λ (k : ℕ). choose (eqb k 0) (workedOut (bare .held) 2 1) (questionOf forged 2 1)) (ap answerNumber read ∙ standing-zero (listed .lists) 2 1) in
+    not-both (deducing .reading forged (question 2 1) .said) (ap byteOf said ∙ supported-as-listed) (ap byteOf worked ∙ unsupported-anew)
 
 -- ---- holds what names its own consequent as a support: claim 1 from itself
 
@@ -467,6 +484,8 @@ refuted = record {
   judges-prefixes = judges-prefixes;
   forgets-nogoods = forgets-nogoods;
   calls-all-full = calls-all-full;
+  names-the-asked = names-the-asked;
+  names-the-last = names-the-last;
   holds-its-own = holds-its-own;
   withdraws-no-list = withdraws-no-list;
   clears-a-consequent = clears-a-consequent;

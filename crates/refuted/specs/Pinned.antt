@@ -1,9 +1,11 @@
 -- Definitions that code and promises share, said a second time by what they give: numbers, texts, bytes and orders, written out, through the calls. Assumes nothing.
 use mathlib.Core.List.{List, [], _++_, _∷_, map}
+use mathlib.Core.Option.{none, some}
 use mathlib.Core.Path.{_≡_}
 use Prim.Native.Nat.{_≤_, ℕ}
 use Prim.Native.String.{String}
 use lib.ListN.{drop, length}
+use Rattle.asking.specs.Asking.{answerSet}
 use Rattle.asking.specs.declared.Answer.the-variants.{Inconsistent, Supported, Unsupported}
 use Rattle.promises.specs.Calls.{Calls, caseLine, context, over, question, reads, written}
 use Rattle.refuted.specs.Cases.{ListsAre, Prints}
@@ -50,8 +52,9 @@ pub record Pinned (C : Calls) : Type 0 where
   pub sowing-5 : Prints C (sowing C) 5 "5 supported {2}\n"
   pub sowing-6 : Prints C (sowing C) 6 "6 supported {1,3}\n"
   pub sowing-7 : Prints C (sowing C) 7 "7 unsupported\n"
-  -- the three answers, of {1,3} and {2,3}; the context of {1,3}
-  pub sowing-asked : (C .reading (sowing C) (question 6 5) .said ≡ Supported) × (C .reading (sowing C) (question 7 5) .said ≡ Unsupported) × (C .reading (sowing C) (question 7 6) .said ≡ Inconsistent)
+  -- the three answers, of {1,3} and {2,3}; the sets that they name; the contexts of both
+  pub sowing-asked : (C .reading (sowing C) (question 6 5) .said ≡ Supported 5) × (C .reading (sowing C) (question 7 5) .said ≡ Unsupported) × (C .reading (sowing C) (question 7 6) .said ≡ Inconsistent 6)
+  pub sowing-named : (answerSet (C .reading (sowing C) (question 6 5) .said) ≡ some 5) × (answerSet (C .reading (sowing C) (question 7 5) .said) ≡ none) × (answerSet (C .reading (sowing C) (question 7 6) .said) ≡ some 6)
   pub sowing-context : (out : List ℕ) → 8 ≤ length out → C .reading (sowing C) (context 5 out) ≡ reads (context 5 out) Done (sowing C) ((0 ∷ 1 ∷ 0 ∷ 1 ∷ 1 ∷ 0 ∷ 1 ∷ 0 ∷ []) ++ drop 8 out)
   pub sowing-against : (out : List ℕ) → 8 ≤ length out → C .reading (sowing C) (context 6 out) ≡ reads (context 6 out) Done (sowing C) ((2 ∷ 2 ∷ 2 ∷ 2 ∷ 2 ∷ 2 ∷ 2 ∷ 2 ∷ []) ++ drop 8 out)
   -- a refusal's line; 14 is the program's own

@@ -1,11 +1,12 @@
--- Wrong programs, each as a value of the calls and refuted by a demand: the five empty ones of document 01, then nine that go wrong in one call. Nothing else cites this file. Assumes nothing.
+-- Wrong programs, each as a value of the calls and refuted by a demand: the five empty ones of document 01, then those that go wrong in one call. Nothing else cites this file. Assumes nothing.
 use mathlib.Core.Bool.{not}
-use mathlib.Core.List.{List, [], _++_, _∷_, map}
+use mathlib.Core.List.{List, [], _++_, _∷_, map, reverse}
+use mathlib.Core.Option.{none}
 use mathlib.Core.Path.{_≡_}
 use Prim.Native.Nat.{_+_, _≤_, suc, ℕ}
 use lib.Dec.{eqb}
 use lib.ListN.{length}
-use Rattle.asking.specs.Asking.{answerNumber, questionOf}
+use Rattle.asking.specs.Asking.{answerNumber, firstIn, questionOf, reasoned, standing}
 use Rattle.asking.specs.declared.Answer.{Answer}
 use Rattle.asking.specs.declared.Answer.the-variants.{Inconsistent, Refused, Supported, Unsupported}
 use Rattle.asking.specs.declared.Found.the-variants.{Not}
@@ -25,6 +26,7 @@ use Rattle.refuted.specs.Exchange.{exchanged, withAdding, withLoading, w
 use Rattle.replies.specs.declared.Reply.the-variants.{Counts, Done, Ends, Nogoods, Shape}
 use Rattle.rules.specs.Held.{heldOf, put, saidBy}
 use Rattle.rules.specs.Items.{justificationOf}
+use Rattle.rules.specs.declared.Held.{Held}
 use Rattle.stages.specs.Lists.{listsOf}
 use Rattle.stages.specs.declared.Lists.{Lists}
 use Rattle.store.specs.Calls.{answer, isDone, noStore, storeOf}
@@ -32,10 +34,9 @@ use Rattle.store.specs.Reading.{labelHeld, nogoodsHeld}
 use Rattle.store.specs.Shape.{top}
 use Rattle.store.specs.declared.Outcome.{Outcome}
 use Rattle.store.specs.declared.Store.{Store}
-use Rattle.theory.specs.Demands.{carries, contradicts}
 use Rattle.theory.specs.Judge.{Stage, consequents}
 use Rattle.theory.specs.Lists.{choose, numbersTo, someOf, those}
-use Rattle.theory.specs.Sets.{contains, listing}
+use Rattle.theory.specs.Sets.{listing}
 use Rattle.theory.specs.Stages.{Justification, follows, minimal}
 
 -- ---- empty programs
@@ -119,11 +120,11 @@ prefixesOf (refused x r) = loadedOf (refused x r)
 abbrev pub prefixed : Calls
 prefixed = withLoading (λ bytes. prefixesOf (caseOf bytes)) ours
 
--- a question that forgets the nogoods: supported if the set contains a member of the label, else unsupported
+-- a question that forgets the nogoods: supported by the first member of the label that the set contains, else unsupported
 abbrev pub forgetting : Lists → ℕ → ℕ → Answer → Answer
 forgetting l n E (Refused r) = Refused r
-forgetting l n E Inconsistent = choose (contains (labelHeld l n) E) Supported Unsupported
-forgetting l n E Supported = Supported
+forgetting l n E (Inconsistent G) = reasoned none (firstIn (labelHeld l n) E)
+forgetting l n E (Supported F) = Supported F
 forgetting l n E Unsupported = Unsupported
 
 abbrev pub forgetful : Calls
@@ -161,12 +162,29 @@ holding s j = record { held = heldOf (s .held .assumptions) (s .held .claims) (p
 abbrev pub welcoming : Calls
 welcoming = withAdding (λ s c l. choose (someOf (eqb c) l) (answer Done (holding s (justificationOf (top (s .held)) c l))) (ours .adding s c l)) ours
 
--- a question that works from the justifications and reads no list: right of every made store, wrong of a forged one
-abbrev pub workedOut : List Justification → ℕ → ℕ → Answer
-workedOut H n E = choose (contradicts H E) Inconsistent (choose (carries H E n) Supported Unsupported)
+-- a question that works the lists out anew from the justifications and reads none: right of every made store, wrong of a forged one
+abbrev pub workedOut : Held → ℕ → ℕ → Answer
+workedOut h n E = standing (storeOf noStore (h .assumptions) (h .claims) (saidBy h) .store .lists) n E
 
 abbrev pub deducing : Calls
-deducing = withQuestion (λ s n E. choose (eqb (answerNumber (questionOf s n E)) 0) (workedOut (saidBy (s .held)) n E) (questionOf s n E)) ours
+deducing = withQuestion (λ s n E. choose (eqb (answerNumber (questionOf s n E)) 0) (workedOut (s .held) n E) (questionOf s n E)) ours
+
+-- names the set asked
+abbrev pub echo : ℕ → Answer → Answer
+echo E (Inconsistent G) = Inconsistent E
+echo E (Supported F) = Supported E
+echo E Unsupported = Unsupported
+echo E (Refused r) = Refused r
+
+abbrev pub echoing : Calls
+echoing = withQuestion (λ s n E. echo E (questionOf s n E)) ours
+
+-- names the last nogood or member that lies within the set
+abbrev pub lastNamed : Lists → ℕ → ℕ → Answer
+lastNamed l n E = reasoned (firstIn (reverse (nogoodsHeld l)) E) (firstIn (reverse (labelHeld l n)) E)
+
+abbrev pub lasting : Calls
+lasting = withQuestion (λ s n E. choose (eqb (answerNumber (questionOf s n E)) 0) (lastNamed (s .lists) n E) (questionOf s n E)) ours
 
 -- ---- classes
 
@@ -200,6 +218,8 @@ pub record Refuted : Type 0 where
   pub judges-prefixes : Demand2 prefixed → ⊥
   pub forgets-nogoods : Demand2 forgetful → ⊥
   pub calls-all-full : Demand2 alwaysFull → ⊥
+  pub names-the-asked : Demand2 echoing → ⊥
+  pub names-the-last : Demand2 lasting → ⊥
   pub holds-its-own : Stores welcoming → ⊥
   pub withdraws-no-list : Demand2 emptying → ⊥
   pub clears-a-consequent : Stores clearing → ⊥

@@ -103,7 +103,7 @@ fn justification(rest: &[u8], number: u32, values: &mut [u32]) -> usize
 }
 
 // What a call that changes the store says, and the store after it.
-fn told(out: Outcome) -> Store {
+fn after(out: Outcome) -> Store {
     let reply = out.reply;
     let replied = replies::number(reply);
     if replied == 0 {
@@ -125,7 +125,7 @@ pub fn add(rest: &[u8], number: u32, store: Store) -> Store {
     if n < 1 {
         return store;
     }
-    told(store.add(values[0], &values[1..n]))
+    after(store.add(values[0], &values[1..n]))
 }
 
 // withdraw C S..
@@ -135,7 +135,7 @@ pub fn withdraw(rest: &[u8], number: u32, store: Store) -> Store {
     if n < 1 {
         return store;
     }
-    told(store.withdraw(values[0], &values[1..n]))
+    after(store.withdraw(values[0], &values[1..n]))
 }
 
 // The word of an answer and the set that is its reason.
