@@ -1,11 +1,13 @@
 -- Definitions that code and promises share, said a second time by what they give: numbers, texts, bytes and orders, written out, through the calls. Assumes nothing.
 use mathlib.Core.List.{List, [], _++_, _∷_, map}
+use mathlib.Core.Option.{some}
 use mathlib.Core.Path.{_≡_}
 use Prim.Native.Nat.{_≤_, ℕ}
 use Prim.Native.String.{String}
 use lib.ListN.{drop, length}
 use Rattle.asking.specs.declared.Answer.the-variants.{Inconsistent, Supported, Unsupported}
-use Rattle.promises.specs.Calls.{Calls, caseLine, context, over, question, reads, written}
+use Rattle.lines.specs.Lines.{writtenLength}
+use Rattle.promises.specs.Calls.{Calls, caseLine, context, line, over, question, reads, written}
 use Rattle.refuted.specs.Cases.{ListsAre, Prints}
 use Rattle.replies.specs.Replies.{numberOf}
 use Rattle.replies.specs.declared.Reply.{Reply}
@@ -50,6 +52,8 @@ pub record Pinned (C : Calls) : Type 0 where
   pub sowing-5 : Prints C (sowing C) 5 "5 supported {2}\n"
   pub sowing-6 : Prints C (sowing C) 6 "6 supported {1,3}\n"
   pub sowing-7 : Prints C (sowing C) 7 "7 unsupported\n"
+  -- the length that a line reports
+  pub sowing-length : (out : List ℕ) → 18 ≤ length out → writtenLength (C .reading (sowing C) (line 6 out) .said) ≡ some 18
   -- the three answers, of {1,3} and {2,3}; the context of {1,3}
   pub sowing-asked : (C .reading (sowing C) (question 6 5) .said ≡ Supported) × (C .reading (sowing C) (question 7 5) .said ≡ Unsupported) × (C .reading (sowing C) (question 7 6) .said ≡ Inconsistent)
   pub sowing-context : (out : List ℕ) → 8 ≤ length out → C .reading (sowing C) (context 5 out) ≡ reads (context 5 out) Done (sowing C) ((0 ∷ 1 ∷ 0 ∷ 1 ∷ 1 ∷ 0 ∷ 1 ∷ 0 ∷ []) ++ drop 8 out)
