@@ -19,4 +19,3 @@ pub mod Judgement
 pub mod Picks
 pub mod SelfSupport
 pub mod Demands
-pub mod Models
