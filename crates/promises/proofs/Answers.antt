@@ -18,7 +18,7 @@ use Rattle.promises.proofs.Right.{form-right}
 use Rattle.promises.proofs.Rows.{less-test, passes, test-off}
 use Rattle.promises.proofs.Standing.{as-they-stand}
 use Rattle.promises.proofs.Telling.{form-carries, form-contradicts, form-label, form-nogoods}
-use Rattle.promises.specs.Calls.{Read, caseLine, context, line, listing, ours, over, question, readOf, reads, written}
+use Rattle.promises.specs.Calls.{Read, caseLine, context, line, listAll, ours, over, question, readOf, reads, written}
 use Rattle.promises.specs.Demand2.{ListsSmallest, QuestionSays, atPlace, byteBy, firstText, listedFor, textOf, wholeText}
 use Rattle.promises.specs.Made.{inOrder}
 use Rattle.promises.specs.Standing.{Stands}
@@ -158,6 +158,6 @@ module _ {A M : ℕ} {H : List Justification} {s : Store} (f : Form A M H s) whe
   whole-text = ap₂ (λ (t : List ℕ) (k : ℕ). t ++ each (λ n. textOf n (listHeld (s .lists) n)) (numbersBelow (suc k))) case-text tops
 
   pub form-listing : (l : ℕ → List ℕ) × ((n : ℕ) → n ≤ A + M → ListsSmallest A (listedFor H n) (l n))
-      × ((out : List ℕ) → length (wholeText A M H s l) ≤ length out → readOf s (listing out) ≡ reads (listing out) (written (wholeText A M H s l)) s (over (wholeText A M H s l) out))
+      × ((out : List ℕ) → length (wholeText A M H s l) ≤ length out → readOf s (listAll out) ≡ reads (listAll out) (written (wholeText A M H s l)) s (over (wholeText A M H s l) out))
   form-listing = (listHeld (s .lists), list-smallest, λ out h.
-      stand .reading (listing out) (passes ℕ _ _ 0 _ (λ z. omega (arith, ap length whole-text)) refl) ∙ ap (λ (t : List ℕ). reads (listing out) (written t) s (over t out)) whole-text)
+      stand .reading (listAll out) (passes ℕ _ _ 0 _ (λ z. omega (arith, ap length whole-text)) refl) ∙ ap (λ (t : List ℕ). reads (listAll out) (written t) s (over t out)) whole-text)

@@ -10,7 +10,7 @@ use Rattle.asking.specs.Asking.{contextBytes, contextOf, contextReply}
 use Rattle.casefile.specs.Case.{Case, Reading, caseOf, heldBy, refused as unread, whole}
 use Rattle.casefile.specs.Load.{loadOf, loadedOf}
 use Rattle.lines.specs.Lines.{Wrote, caseText, fitted, headingOf, kept, lineOf, lineText, refusalText, writtenNumber}
-use Rattle.promises.specs.Calls.{Ask, caseLine, context, lentTo, line, listing, member, numberSaid, question, readOf}
+use Rattle.promises.specs.Calls.{Ask, caseLine, context, lentTo, line, listAll, member, numberSaid, question, readOf}
 use Rattle.replies.specs.Replies.{numberOf}
 use Rattle.replies.specs.declared.Reply.{Reply}
 use Rattle.replies.specs.declared.Reply.the-variants.{Already, Counts, Done, Full, Number, Shape, Short, Unheld}
@@ -110,7 +110,7 @@ module _ (s : Store) where
   read-store (member n place) = refl
   read-store (line n out) = refl
   read-store (caseLine out) = refl
-  read-store (listing out) = refl
+  read-store (listAll out) = refl
 
   pub read-keeps : (a : Ask) → (numberSaid a (readOf s a .said) ≡ 0 → ⊥) → readOf s a .bytes ≡ lentTo a
   read-keeps (question n E) k = refl
@@ -118,7 +118,7 @@ module _ (s : Store) where
   read-keeps (member n place) k = refl
   read-keeps (line n out) k = line-keeps n out k
   read-keeps (caseLine out) k = heading-keeps out k
-  read-keeps (listing out) k = listing-keeps out k
+  read-keeps (listAll out) k = listing-keeps out k
 
 -- ---- no store is returned
 

@@ -14,7 +14,7 @@ use Rattle.lines.specs.Lines.{Wrote, caseText, fitted, headingOf, lineOf, lineT
 use Rattle.promises.proofs.Form.{add-tried, parted-done, tried-done, withdraw-parted}
 use Rattle.promises.proofs.InOrder.{in-order-is, in-order-put}
 use Rattle.promises.proofs.Rows.{less-test, or-test, outside-test, passed, test-off}
-use Rattle.promises.specs.Calls.{Ask, caseLine, context, line, listing, member, ours, over, question, readOf, reads, written}
+use Rattle.promises.specs.Calls.{Ask, caseLine, context, line, listAll, member, ours, over, question, readOf, reads, written}
 use Rattle.promises.specs.Made.{inOrder}
 use Rattle.promises.specs.Standing.{AsTheyStand, Stands, asRead}
 use Rattle.promises.specs.Table.{ShapedRows, enlarged, handed, lessened}
@@ -98,10 +98,10 @@ module _ (s : Store) (right : rightShape s ≡ true) where
       let p = passed _ _ _ w (λ z. omega arith) in
       ap (λ (x : Wrote). reads (caseLine out) (x .answer) s (x .bytes)) (heading-stands out (test-off (ltb (length out) (length (caseText s))) (less-test (length out) (length (caseText s))) (p .0)))
 
-  read-stands (listing out) w =
+  read-stands (listAll out) w =
       let p = passed _ _ _ w (λ z. omega arith) in
       let t : List ℕ = listingText s in
-      ap (λ (x : Wrote). reads (listing out) (x .answer) s (x .bytes)) (listing-stands out (test-off (ltb (length out) (length t)) (less-test (length out) (length t)) (p .0)))
+      ap (λ (x : Wrote). reads (listAll out) (x .answer) s (x .bytes)) (listing-stands out (test-off (ltb (length out) (length t)) (less-test (length out) (length t)) (p .0)))
 
   -- ---- the justifications alone
 

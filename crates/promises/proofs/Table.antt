@@ -20,7 +20,7 @@ use Rattle.promises.proofs.Filing.{decode-one, decode-told, load-names,
 use Rattle.promises.proofs.Full.{VerdictSays, judge-says}
 use Rattle.promises.proofs.Rows.{Names, Tests, by-choice, exactly, fault-told, given-one, less-test, most-test, names-choice, no-row-one, not-test, or-test, outside-test, stages-name, stages-one, stages-told, unnamed}
 use Rattle.promises.proofs.Telling.{covered}
-use Rattle.promises.specs.Calls.{Ask, caseLine, context, line, listing, member, numberSaid, ours, question, readOf}
+use Rattle.promises.specs.Calls.{Ask, caseLine, context, line, listAll, member, numberSaid, ours, question, readOf}
 use Rattle.promises.specs.Once.{One}
 use Rattle.promises.specs.Room.{LabelFull}
 use Rattle.promises.specs.Rows.{given, noRow}
@@ -283,7 +283,7 @@ module _ (s : Store) where
       by-choice _ wrote (not (rightShape s)) (kept Shape out) (choose (ltb (top (s .held)) n) (kept Number out) w) (not-test (rightShape s)) refl
       (λ p. by-choice _ wrote (ltb (top (s .held)) n) (kept Number out) w (less-test (top (s .held)) n) refl (λ q. fitted-told (lineText (s .lists) n) out))
   read-told (caseLine out) = by-choice _ wrote (not (rightShape s)) (kept Shape out) (fitted (caseText s) out) (not-test (rightShape s)) refl (λ p. fitted-told (caseText s) out)
-  read-told (listing out) = by-choice _ wrote (not (rightShape s)) (kept Shape out) (fitted (listingText s) out) (not-test (rightShape s)) refl (λ p. fitted-told (listingText s) out)
+  read-told (listAll out) = by-choice _ wrote (not (rightShape s)) (kept Shape out) (fitted (listingText s) out) (not-test (rightShape s)) refl (λ p. fitted-told (listingText s) out)
 
   shaped-one : (a : Ask) → One (ShapedRows s a)
   shaped-one (question n E) = given-one _ _ _ no-row-one
@@ -291,7 +291,7 @@ module _ (s : Store) where
   shaped-one (member n place) = given-one _ _ _ (given-one _ _ _ no-row-one)
   shaped-one (line n out) = given-one _ _ _ (given-one _ _ _ no-row-one)
   shaped-one (caseLine out) = given-one _ _ _ no-row-one
-  shaped-one (listing out) = given-one _ _ _ no-row-one
+  shaped-one (listAll out) = given-one _ _ _ no-row-one
 
 -- ---- all of it
 

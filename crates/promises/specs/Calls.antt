@@ -36,7 +36,7 @@ pub data Ask : Type 0 where
   line : ℕ → List ℕ → Ask
   caseLine : List ℕ → Ask
   -- the whole listing, into lent bytes
-  listing : List ℕ → Ask
+  listAll : List ℕ → Ask
 
 -- what is said to each
 abbrev pub Said : Ask → Type 0
@@ -45,7 +45,7 @@ Said (context E out) = Reply
 Said (member n place) = Found
 Said (line n out) = Written
 Said (caseLine out) = Written
-Said (listing out) = Written
+Said (listAll out) = Written
 
 -- the document's number of it
 abbrev pub numberSaid : (a : Ask) → Said a → ℕ
@@ -54,7 +54,7 @@ numberSaid (context E out) x = numberOf x
 numberSaid (member n place) x = memberNumber x
 numberSaid (line n out) x = writtenNumber x
 numberSaid (caseLine out) x = writtenNumber x
-numberSaid (listing out) x = writtenNumber x
+numberSaid (listAll out) x = writtenNumber x
 
 -- the bytes lent to the call; none where it takes none
 abbrev pub lentTo : Ask → List ℕ
@@ -63,7 +63,7 @@ lentTo (context E out) = out
 lentTo (member n place) = []
 lentTo (line n out) = out
 lentTo (caseLine out) = out
-lentTo (listing out) = out
+lentTo (listAll out) = out
 
 -- what a call that reads leaves: what it says, the store, and the lent bytes
 pub record Read (a : Ask) : Type 0 where
@@ -108,7 +108,7 @@ readOf s (context E out) = reads (context E out) (contextReply s E (length out))
 readOf s (member n place) = reads (member n place) (memberOf s n place) s []
 readOf s (line n out) = reads (line n out) (lineOf s n out .answer) s (lineOf s n out .bytes)
 readOf s (caseLine out) = reads (caseLine out) (headingOf s out .answer) s (headingOf s out .bytes)
-readOf s (listing out) = reads (listing out) (listedOf s out .answer) s (listedOf s out .bytes)
+readOf s (listAll out) = reads (listAll out) (listedOf s out .answer) s (listedOf s out .bytes)
 
 -- ours: what the contracts of the product's calls say of every answer (`Coded`)
 abbrev pub ours : Calls

@@ -39,7 +39,7 @@ use Rattle.lines.specs.declared.Written.{Written}
 use Rattle.numbers.proofs.read as read-at
 use Rattle.numbers.proofs.read.Reads as read-reads
 use Rattle.numbers.proofs.read.Symbol as read-code
-use Rattle.promises.specs.Calls.{Calls, Read, caseLine, context, line, listing, member, question}
+use Rattle.promises.specs.Calls.{Calls, Read, caseLine, context, line, listAll, member, question}
 use Rattle.promises.specs.Keeps.{Tied}
 use Rattle.store.proofs.Store.add as add-at
 use Rattle.store.proofs.Store.add.Reads as add-reads
@@ -75,7 +75,7 @@ lined x = record { answer = x .said; store = x .store }
 abbrev pub headed : {out : List ℕ} → Read (caseLine out) → Listed
 headed x = record { answer = x .said; store = x .store }
 
-abbrev pub listedBy : {out : List ℕ} → Read (listing out) → Listed
+abbrev pub listedBy : {out : List ℕ} → Read (listAll out) → Listed
 listedBy x = record { answer = x .said; store = x .store }
 
 abbrev pub wrote : Written → List ℕ → Wrote
@@ -103,7 +103,7 @@ pub record Coded (C : Calls) : Type 2 where
   pub caseLine : Tied case-line-at.ended case-line-code.routine case-line-reads.Asked case-line-reads.Learnt
       (λ κs a r e. (r ≡ headed (C .reading (a .0) (caseLine (now (a .1 .0))))) × (now (e .1 .0) ≡ C .reading (a .0) (caseLine (now (a .1 .0))) .bytes))
   pub listing : Tied listing-at.ended listing-code.routine listing-reads.Asked listing-reads.Learnt
-      (λ κs a r e. (r ≡ listedBy (C .reading (a .0) (listing (now (a .1 .0))))) × (now (e .1 .0) ≡ C .reading (a .0) (listing (now (a .1 .0))) .bytes))
+      (λ κs a r e. (r ≡ listedBy (C .reading (a .0) (listAll (now (a .1 .0))))) × (now (e .1 .0) ≡ C .reading (a .0) (listAll (now (a .1 .0))) .bytes))
   pub printing : Tied printed-at.ended printed-code.routine printed-reads.Asked printed-reads.Learnt
       (λ κs a r e. wrote r (now (e .1 .0)) ≡ C .printing (now (a .0)) (now (a .1 .0)))
   pub judging : Tied judged-at.ended judged-code.routine judged-reads.Asked judged-reads.Learnt

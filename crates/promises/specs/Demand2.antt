@@ -12,7 +12,7 @@ use Rattle.asking.specs.declared.Found.{Found}
 use Rattle.asking.specs.declared.Found.the-variants.{Is, Not}
 use Rattle.casefile.specs.Case.{Case, caseOf, whole}
 use Rattle.lines.specs.Lines.{wordOf}
-use Rattle.promises.specs.Calls.{Calls, caseLine, context, line, listing, member, over, question, reads, written}
+use Rattle.promises.specs.Calls.{Calls, caseLine, context, line, listAll, member, over, question, reads, written}
 use Rattle.promises.specs.Made.{Input, Made, inOrder, putIn}
 use Rattle.promises.specs.Room.{AddSays, Reaches, StagesSay, WithdrawSays}
 use Rattle.replies.specs.declared.Reply.{Reply}
@@ -106,7 +106,7 @@ pub record Tells (C : Calls) (A M : ℕ) (H : Input) (s : Store) : Type 0 where
   pub caseLine : (out : List ℕ) → length (firstText A M H s) ≤ length out → C .reading s (caseLine out) ≡ reads (caseLine out) (written (firstText A M H s)) s (over (firstText A M H s) out)
   -- .. and the whole listing
   pub listing : (l : ℕ → List ℕ) × ((n : ℕ) → n ≤ A + M → ListsSmallest A (listedFor H n) (l n))
-      × ((out : List ℕ) → length (wholeText A M H s l) ≤ length out → C .reading s (listing out) ≡ reads (listing out) (written (wholeText A M H s l)) s (over (wholeText A M H s l) out))
+      × ((out : List ℕ) → length (wholeText A M H s l) ≤ length out → C .reading s (listAll out) ≡ reads (listAll out) (written (wholeText A M H s l)) s (over (wholeText A M H s l) out))
   -- the depth; the store's labels and nogoods are those at the depth, and every later stage agrees with them
   pub depth : IsDepth A (A + M) H (s .lists .depth)
   -- it never exceeds the number of different consequents, falsity counted
@@ -134,4 +134,4 @@ pub record Demand2 (C : Calls) : Type 0 where
   pub prints-refused : (bytes out : List ℕ) → length bytes ≤ 4096 → (C .loading bytes .reply ≡ Done → ⊥) → C .printing bytes out ≡ C .refusal (C .loading bytes .reply) (C .loading bytes .«record») out
   -- .. else the listing of the store that it loads
   pub prints-listed : (bytes out : List ℕ) → length bytes ≤ 4096 → C .loading bytes .reply ≡ Done
-      → C .printing bytes out ≡ record { answer = C .reading (C .loading bytes .store) (listing out) .said; bytes = C .reading (C .loading bytes .store) (listing out) .bytes }
+      → C .printing bytes out ≡ record { answer = C .reading (C .loading bytes .store) (listAll out) .said; bytes = C .reading (C .loading bytes .store) (listAll out) .bytes }

@@ -6,7 +6,7 @@ use Prim.Native.Nat.{_+_, _≤_, ℕ}
 use lib.ListN.{drop, length}
 use Rattle.asking.specs.Asking.{byteOf, memberAt, standing}
 use Rattle.lines.specs.Lines.{caseText, lineText, refusalText}
-use Rattle.promises.specs.Calls.{Ask, Calls, Read, caseLine, context, line, listing, member, over, question, reads, written}
+use Rattle.promises.specs.Calls.{Ask, Calls, Read, caseLine, context, line, listAll, member, over, question, reads, written}
 use Rattle.promises.specs.Made.{inOrder}
 use Rattle.promises.specs.Table.{ShapedRows, enlarged, lessened}
 use Rattle.replies.specs.declared.Reply.{Reply}
@@ -24,7 +24,7 @@ asRead s (context E out) = reads (context E out) Done s (table (top (s .held) + 
 asRead s (member n place) = reads (member n place) (memberAt (s .lists) n place) s []
 asRead s (line n out) = reads (line n out) (written (lineText (s .lists) n)) s (over (lineText (s .lists) n) out)
 asRead s (caseLine out) = reads (caseLine out) (written (caseText s)) s (over (caseText s) out)
-asRead s (listing out) = reads (listing out) (written (listingText s)) s (over (listingText s) out)
+asRead s (listAll out) = reads (listAll out) (written (listingText s)) s (over (listingText s) out)
 
 pub record Stands (C : Calls) (s : Store) : Type 0 where
   -- what the reply table does not refuse reads the lists as they stand

@@ -10,7 +10,7 @@ use Rattle.casefile.specs.Case.{Case, Reading, caseOf, refused, whole}
 use Rattle.lines.specs.Lines.{caseText, lineText, refusalText, writtenNumber}
 use Rattle.numbers.specs.declared.Number.{Number}
 use Rattle.numbers.specs.declared.Number.the-variants.{Bad, Value}
-use Rattle.promises.specs.Calls.{Ask, Calls, caseLine, context, line, listing, member, numberSaid, question}
+use Rattle.promises.specs.Calls.{Ask, Calls, caseLine, context, line, listAll, member, numberSaid, question}
 use Rattle.promises.specs.Made.{putIn}
 use Rattle.promises.specs.Room.{Above, LabelFull, NogoodsFull}
 use Rattle.promises.specs.Rows.{given, noRow}
@@ -98,7 +98,7 @@ ShapedRows s (context E out) = given (Outside s E) 4 (given (length out < top (s
 ShapedRows s (member n place) = given (top (s .held) < n) 4 (given (length (listHeld (s .lists) n) ≤ place) 16 noRow)
 ShapedRows s (line n out) = given (top (s .held) < n) 4 (given (length out < length (lineText (s .lists) n)) 15 noRow)
 ShapedRows s (caseLine out) = given (length out < length (caseText s)) 15 noRow
-ShapedRows s (listing out) = given (length out < length (listingText s)) 15 noRow
+ShapedRows s (listAll out) = given (length out < length (listingText s)) 15 noRow
 
 abbrev pub AskRows : Store → Ask → ℕ → Type 0
 AskRows s a = given (rightShape s ≡ false) 2 (ShapedRows s a)

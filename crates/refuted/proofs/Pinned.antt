@@ -1,6 +1,7 @@
 -- What the shared definitions give, as it is written out. Assumes nothing.
 use mathlib.Core.Bool.{false, true}
 use mathlib.Core.List.{List, [], _++_, _∷_, map}
+use mathlib.Core.Option.{some}
 use mathlib.Core.Path.{_∙_, _≡_, ap, ap₂, refl, sym}
 use Prim.Native.Nat.{_+_, _≤_, suc, ℕ}
 use Prim.Native.String.{String}
@@ -11,12 +12,12 @@ use Rattle.asking.specs.Asking.{answerSet, firstIn, questionOf, reasoned}
 use Rattle.asking.specs.declared.Answer.the-variants.{Inconsistent, Supported, Unsupported}
 use Rattle.casefile.specs.Case.{Case, caseOf, recordsFrom, whole}
 use Rattle.items.specs.Items.{Item, headerFrom, numbersFrom, recordFrom, unless}
-use Rattle.lines.specs.Lines.{refusalText, wordOf}
+use Rattle.lines.specs.Lines.{refusalText, wordOf, writtenLength}
 use Rattle.numbers.specs.Numbers.{numberFrom, secondFrom}
 use Rattle.promises.proofs.Form.{Form, form-said}
 use Rattle.promises.proofs.Standing.{as-they-stand}
 use Rattle.promises.proofs.Truth.{demand-2}
-use Rattle.promises.specs.Calls.{caseLine, context, ours, over, reads, written}
+use Rattle.promises.specs.Calls.{Read, caseLine, context, line, ours, over, reads, written}
 use Rattle.promises.specs.Demand2.{byteBy, firstText, textOf}
 use Rattle.promises.specs.Made.{Made, inOrder, putIn}
 use Rattle.refuted.proofs.Cases.{answers, prints}
@@ -100,6 +101,10 @@ texts : (textOf 0 (3 ∷ 6 ∷ []) ≡ word "0 nogood {1,2} {2,3}\n") × (textOf
 unfolding row wordOf digits digitsIn spaced each word braced joined those among digit numbersTo numbersBelow
 texts = (refl, refl, refl, refl, refl, refl, refl, refl)
 
+six-long : length (word "6 supported {1,3}\n") ≡ 18
+unfolding word
+six-long = refl
+
 first-text : (heading 3 4 6 2 ≡ word "case 3 4 6 2\n") × (length (word "case 3 4 6 2\n") ≡ 13)
 unfolding heading field digits digitsIn word
 first-text = (refl, refl)
@@ -157,6 +162,9 @@ pinned =
       sowing-5 = prints form 5 (omega arith) _ "5 supported {2}\n" (l .4) (texts .5);
       sowing-6 = prints form 6 (omega arith) _ "6 supported {1,3}\n" (l .5) (texts .6);
       sowing-7 = prints form 7 (omega arith) _ "7 unsupported\n" (l .6) (texts .7);
+      sowing-length = λ out h.
+          let p = prints form 6 (omega arith) _ "6 supported {1,3}\n" (l .5) (texts .6) out (omega (arith, six-long)) in
+          ap (λ (x : Read (line 6 out)). writtenLength (x .said)) p ∙ ap some six-long;
       sowing-asked = asked;
       sowing-named = (ap answerSet (asked .0), ap answerSet (asked .1), ap answerSet (asked .2));
       sowing-context = λ out h. demand-2 .tells made .context 5 out (omega arith) (omega arith) ∙ ap (λ (t : List ℕ). reads (context 5 out) Done s (t ++ drop 8 out)) (table-of .0);

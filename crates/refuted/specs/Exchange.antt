@@ -3,7 +3,7 @@ use mathlib.Core.List.{List, []}
 use Prim.Native.Nat.{ℕ}
 use Rattle.asking.specs.declared.Answer.{Answer}
 use Rattle.casefile.specs.declared.Loaded.{Loaded}
-use Rattle.promises.specs.Calls.{Ask, Calls, Read, caseLine, context, line, listing, member, question, reads}
+use Rattle.promises.specs.Calls.{Ask, Calls, Read, caseLine, context, line, listAll, member, question, reads}
 use Rattle.store.specs.declared.Outcome.{Outcome}
 use Rattle.store.specs.declared.Store.{Store}
 
@@ -44,7 +44,7 @@ answering f r s (context E out) = r s (context E out)
 answering f r s (member n place) = r s (member n place)
 answering f r s (line n out) = r s (line n out)
 answering f r s (caseLine out) = r s (caseLine out)
-answering f r s (listing out) = r s (listing out)
+answering f r s (listAll out) = r s (listAll out)
 
 abbrev pub withQuestion : (Store → ℕ → ℕ → Answer) → Calls → Calls
 withQuestion f C = withReading (answering f (C .reading)) C

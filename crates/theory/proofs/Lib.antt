@@ -18,4 +18,3 @@ pub mod Start
 pub mod Judgement
 pub mod Picks
 pub mod Demands
-pub mod Models
