@@ -39,7 +39,7 @@ module _ (bytes out : List ℕ) (few : length bytes ≤ 4096) where
       (not-so (isDone (loadOf bytes .reply)) (λ d. n (zero-done (loadOf bytes .reply) (eqb-true (numberOf (loadOf bytes .reply)) 0 d))))
 
   pub listed-printed : loadOf bytes .reply ≡ Done → fitted (listingOf bytes) out ≡ listedOf (loadOf bytes .store) out
-  unfolding loadedText
+  unfolding loadedText listedOf
   listed-printed d =
       let s : Store = loadOf bytes .store in
       ap (λ (t : List ℕ). fitted t out) text-loaded
@@ -47,7 +47,6 @@ module _ (bytes out : List ℕ) (few : length bytes ≤ 4096) where
       ∙ shaped s (loaded-right bytes (ap numberOf d) .right)
     where
       shaped : (s : Store) → rightShape s ≡ true → fitted (listingText s) out ≡ listedOf s out
-      unfolding listedOf
       shaped s r = rw r
 
 -- two files of one answer, and of one record where it is a refusal
