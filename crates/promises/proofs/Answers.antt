@@ -20,7 +20,6 @@ use Rattle.promises.proofs.Standing.{as-they-stand}
 use Rattle.promises.proofs.Telling.{form-carries, form-contradicts, form-label, form-nogoods}
 use Rattle.promises.specs.Calls.{Read, caseLine, context, line, listAll, ours, over, question, readOf, reads, written}
 use Rattle.promises.specs.Demand2.{ListsSmallest, QuestionSays, atPlace, byteBy, firstText, listedFor, textOf, wholeText}
-use Rattle.promises.specs.Made.{inOrder}
 use Rattle.promises.specs.Standing.{Stands}
 use Rattle.promises.specs.Table.{Outside}
 use Rattle.replies.specs.declared.Reply.the-variants.{Done}

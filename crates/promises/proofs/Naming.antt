@@ -2,7 +2,7 @@
 use mathlib.Core.Bool.{Bool, _||_, false, true}
 use mathlib.Core.List.{List, List·Memᴰ·cases-cons, List·Memᴰ as Mem, [], _∷_, List·Memᴰ·head as here, List·Memᴰ·tail as there}
 use mathlib.Core.Logic.{_⊎_, inl, inr, ⊎-elim}
-use mathlib.Core.Option.{Option, Option·none-ne-some, Option·some-injective, Option·some-ne-none, none, some}
+use mathlib.Core.Option.{Option·none-ne-some, Option·some-injective, Option·some-ne-none, none, some}
 use mathlib.Core.Path.{_≡_, refl, subst, sym}
 use Prim.Native.Nat.{ℕ}
 use Rattle.asking.specs.Asking.{firstIn}

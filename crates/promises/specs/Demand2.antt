@@ -14,10 +14,9 @@ use Rattle.casefile.specs.Case.{Case, caseOf, whole}
 use Rattle.lines.specs.Lines.{wordOf}
 use Rattle.promises.specs.Calls.{Calls, caseLine, context, line, listAll, member, over, question, reads, written}
 use Rattle.promises.specs.Made.{Input, Made, inOrder, putIn}
-use Rattle.promises.specs.Room.{AddSays, Reaches, StagesSay, WithdrawSays}
+use Rattle.promises.specs.Room.{AddSays, StagesSay, WithdrawSays}
 use Rattle.replies.specs.declared.Reply.{Reply}
 use Rattle.replies.specs.declared.Reply.the-variants.{Done, Long, Place}
-use Rattle.store.specs.Calls.{answer}
 use Rattle.store.specs.Reading.{labelHeld, nogoodsHeld}
 use Rattle.store.specs.declared.Store.{Store}
 use Rattle.text.specs.Texts.{heading, row}
@@ -26,7 +25,7 @@ use Rattle.theory.specs.Judge.{consequents, stageAt}
 use Rattle.theory.specs.Lists.{choose, each, numbersBelow, sortedBy}
 use Rattle.theory.specs.Places.{table}
 use Rattle.theory.specs.Sets.{before, within}
-use Rattle.theory.specs.Stages.{Justification, labelAt, nogoodsAt}
+use Rattle.theory.specs.Stages.{labelAt, nogoodsAt}
 
 -- ---- smallest sets
 

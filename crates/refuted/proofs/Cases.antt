@@ -13,8 +13,8 @@ use Rattle.casefile.specs.Load.{loadOf}
 use Rattle.lines.specs.Lines.{wordOf}
 use Rattle.numbers.specs.Numbers.{numberAt, numberFrom, replied, secondFrom}
 use Rattle.promises.proofs.Answers.{line-by, member-by, question-by}
-use Rattle.promises.proofs.Form.{Form, form-a, form-m, form-settled, made-form}
-use Rattle.promises.proofs.Right.{form-right, form-stage}
+use Rattle.promises.proofs.Form.{Form, form-a, form-settled, made-form}
+use Rattle.promises.proofs.Right.{form-stage}
 use Rattle.refuted.proofs.Absurdity.{absurdity-depth, absurdity-done, absurdity-labels, absurdity-made, absurdity-nogoods}
 use Rattle.refuted.proofs.Small.{add-done, few-room, made-add, made-open, one-done, one-made}
 use Rattle.promises.proofs.Rows.{room-says}

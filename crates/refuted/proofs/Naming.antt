@@ -23,7 +23,7 @@ use Rattle.refuted.specs.Exchange.{withQuestion}
 use Rattle.refuted.specs.Wrong.{echo, echoing, lastNamed, lasting}
 use Rattle.rules.specs.Items.{setOf}
 use Rattle.store.specs.Calls.{addOf, openOf}
-use Rattle.store.specs.Reading.{labelHeld, nogoodsHeld}
+use Rattle.store.specs.Reading.{labelHeld}
 use Rattle.store.specs.declared.Store.{Store}
 use Rattle.theory.proofs.Lists.{clash}
 use Rattle.theory.specs.Cases.{from}

@@ -1,12 +1,10 @@
 -- What the shared definitions give, as it is written out. Assumes nothing.
-use mathlib.Core.Bool.{false, true}
 use mathlib.Core.List.{List, [], _++_, _∷_, map}
 use mathlib.Core.Option.{some}
 use mathlib.Core.Path.{_∙_, _≡_, ap, ap₂, refl, sym}
 use Prim.Native.Nat.{_+_, _≤_, suc, ℕ}
 use Prim.Native.String.{String}
 use native.Mathlib.Omega.{arith}
-use lib.Count.{ones}
 use lib.ListN.{drop, getD, length}
 use Rattle.asking.specs.Asking.{answerSet, firstIn, questionOf, reasoned}
 use Rattle.asking.specs.declared.Answer.the-variants.{Inconsistent, Supported, Unsupported}
@@ -23,13 +21,13 @@ use Rattle.promises.specs.Made.{Made, inOrder, putIn}
 use Rattle.refuted.proofs.Cases.{answers, prints}
 use Rattle.refuted.proofs.Files.{file-are, file-done, file-form, file-made}
 use Rattle.refuted.specs.Cases.{ListsAre}
-use Rattle.refuted.specs.Pinned.{Pinned, Refuses, keys, keysBytes, sowing, sowingBytes}
+use Rattle.refuted.specs.Pinned.{Pinned, Refuses, keysBytes, sowing, sowingBytes}
 use Rattle.replies.specs.declared.Reply.{Reply}
 use Rattle.replies.specs.declared.Reply.the-variants.{After, Done, Label, Long}
-use Rattle.rules.specs.Held.{put, saidBy}
+use Rattle.rules.specs.Held.{put}
 use Rattle.rules.specs.Items.{faultOf, sameJustification, setOf}
 use Rattle.stages.specs.declared.Lists.{Lists}
-use Rattle.store.specs.Reading.{labelHeld, nogoodsHeld}
+use Rattle.store.specs.Reading.{labelHeld}
 use Rattle.store.specs.declared.Store.{Store}
 use Rattle.text.specs.Texts.{braced, digits, digitsIn, field, heading, joined, refusal, row, spaced, word}
 use Rattle.theory.specs.Cases.{at, from, verdict}

@@ -1,5 +1,5 @@
 -- A demand refutes each wrong program, by a small case. Assumes nothing.
-use mathlib.Core.Bool.{Bool, false, true}
+use mathlib.Core.Bool.{false, true}
 use mathlib.Core.List.{List, List·Memᴰ·eq-of-singleton, List·Memᴰ as Mem, [], _∷_, List·Memᴰ·head as here}
 use mathlib.Core.Logic.{inr, ⊎-elim}
 use mathlib.Core.Option.{Option, none, some}

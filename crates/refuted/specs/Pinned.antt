@@ -53,6 +53,8 @@ pub record Pinned (C : Calls) : Type 0 where
   pub sowing-5 : Prints C (sowing C) 5 "5 supported {2}\n"
   pub sowing-6 : Prints C (sowing C) 6 "6 supported {1,3}\n"
   pub sowing-7 : Prints C (sowing C) 7 "7 unsupported\n"
+  -- the length that a line reports
+  pub sowing-length : (out : List ℕ) → 18 ≤ length out → writtenLength (C .reading (sowing C) (line 6 out) .said) ≡ some 18
   -- the three answers, of {1,3} and {2,3}; the sets that they name; the contexts of both
   pub sowing-asked : (C .reading (sowing C) (question 6 5) .said ≡ Supported 5) × (C .reading (sowing C) (question 7 5) .said ≡ Unsupported) × (C .reading (sowing C) (question 7 6) .said ≡ Inconsistent 6)
   pub sowing-named : (answerSet (C .reading (sowing C) (question 6 5) .said) ≡ some 5) × (answerSet (C .reading (sowing C) (question 7 5) .said) ≡ none) × (answerSet (C .reading (sowing C) (question 7 6) .said) ≡ some 6)
