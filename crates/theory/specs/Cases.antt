@@ -1,4 +1,4 @@
--- Cases of the judgement: listing order, the depth, and both sides of each limit at a small size, in one table under one theorem. (Document 01's P cases stand in crate promises, over the calls.) Assumes nothing.
+-- Cases of the judgement: listing order, the depth, and both sides of each limit at a small size, in one table under one theorem. (Document 01's P cases stand in crate refuted, over the calls.) Assumes nothing.
 use mathlib.Core.List.{List, [], _∷_}
 use mathlib.Core.Path.{_≡_}
 use Prim.Native.Nat.{ℕ}
