@@ -40,7 +40,7 @@ numbersFrom (suc n) l = andThen (numberFrom l) (λ x l₁. andThen (numbersFrom 
 unfoldable pub unless : Reply → Item → List ℕ → Taken Item
 unless f i l = choose (eqb (numberOf f) 0) (got i l) (bad f)
 
--- consequent, number of supports, supports; after the number of supports: 6; after the supports: 4, then 5; N is A + M
+-- consequent, number of supports, supports; after the number of supports: 6; after the supports: 4, then 5, then 17; N is A + M
 unfoldable pub recordFrom : ℕ → List ℕ → Taken Item
 recordFrom N l =
     andThen (numberFrom l) (λ c l₁.

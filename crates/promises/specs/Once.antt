@@ -23,6 +23,10 @@ use Rattle.listing.proofs.listing as listing-at
 use Rattle.listing.proofs.listing.Reads as listing-reads
 use Rattle.listing.proofs.printed as printed-at
 use Rattle.listing.proofs.printed.Reads as printed-reads
+use Rattle.labels.proofs.stirred as stirred-at
+use Rattle.labels.proofs.stirred.Reads as stirred-reads
+use Rattle.lines.proofs.lined as lined-at
+use Rattle.lines.proofs.lined.Reads as lined-reads
 use Rattle.lines.proofs.case_line as case-line-at
 use Rattle.lines.proofs.case_line.Reads as case-line-reads
 use Rattle.lines.proofs.line as line-at
@@ -131,6 +135,7 @@ pub record OnceEach : Type 0 where
   pub refusal-one : Once refusal-at.ended refusal-reads.Learnt
   pub listing-one : Once listing-at.ended listing-reads.Learnt
   pub printed-one : Once printed-at.ended printed-reads.Learnt
+  pub lined-one : Once lined-at.ended lined-reads.Learnt
   pub load-one : Once load-at.ended load-reads.Learnt
   pub number-one : Once number-at.ended number-reads.Learnt
   pub union-one : Once union-at.ended union-reads.Learnt
@@ -149,6 +154,7 @@ pub record OnceEach : Type 0 where
   pub insert-one : Once insert-at.ended insert-reads.Learnt
   pub remove-one : Once remove-at.ended remove-reads.Learnt
   pub first-within-one : Once first-within-at.ended first-within-reads.Learnt
+  pub stirred-one : Once stirred-at.ended stirred-reads.Learnt
   pub build-one : Once build-at.ended build-reads.Learnt
   pub start-one : Once start-at.ended start-reads.Learnt
   pub judge-one : Once judge-at.ended judge-reads.Learnt

@@ -138,7 +138,7 @@ unfoldable pub NumbersRows : ℕ → ℕ → List ℕ → Next (List ℕ) → Re
 NumbersRows k zero l next = next [] l
 NumbersRows k (suc n) l next = NumberRows k l (λ x l₁. NumbersRows k n l₁ (λ xs l₂. next (x ∷ xs) l₂))
 
--- n records more, after r of them, which put in H. After a record's number of supports: 6; after its supports: 4, then 5; after the last record: 13; then the stages
+-- n records more, after r of them, which put in H. After a record's number of supports: 6; after its supports: 4, then 5, then 17; after the last record: 13; then the stages
 unfoldable pub RecordRows : ℕ → ℕ → ℕ → ℕ → List Justification → List ℕ → Reported → Type 0
 RecordRows A N zero r H l = given (0 < length l) (13, r) (λ a. StageRows A N H (a .0) × (a .1 ≡ r))
 RecordRows A N (suc n) r H l =

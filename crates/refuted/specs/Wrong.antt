@@ -1,4 +1,4 @@
--- Wrong programs, each as a value of the calls and refuted by a demand: the five empty ones of document 01, then those that go wrong in one call. Nothing else cites this file. Assumes nothing.
+-- Wrong programs, each as a value of the calls and refuted by a demand, by what a made store holds, or by what is said of forged stores: the five empty ones of document 01, then those that go wrong in one call. Nothing else cites this file. Assumes nothing.
 use mathlib.Core.Bool.{not}
 use mathlib.Core.List.{List, [], _++_, _∷_, map, reverse}
 use mathlib.Core.Option.{none}
