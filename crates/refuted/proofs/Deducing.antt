@@ -1,11 +1,11 @@
 -- A question that works the lists out anew from the justifications is right of every made store, and refuses as ours does: the demands over made stores do not tell it from ours. Assumes nothing.
 use mathlib.Core.Bool.{Bool, false, true}
 use mathlib.Core.List.{List}
-use mathlib.Core.Logic.{_↔_}
+use mathlib.Core.Logic.{_↔_, ⊎-elim}
 use mathlib.Core.Path.{_∙_, _≡_, ap, ap₂, refl, sym}
 use Prim.Native.Nat.{_+_, _<_, _^_, _≤_, ℕ}
-use lib.Dec.{eqb}
-use borrow.Author.Tests.{eqb-true}
+use lib.Dec.{eqb, ltb}
+use borrow.Author.Tests.{eqb-true, ltb-false, ltb-true}
 use Rattle.asking.specs.Asking.{answerNumber, questionOf, standing}
 use Rattle.asking.specs.declared.Answer.{Answer}
 use Rattle.promises.proofs.Answers.{question-by}
@@ -16,7 +16,7 @@ use Rattle.promises.proofs.Right.{made-no-own, made-right, own-shape}
 use Rattle.promises.proofs.Sameness.{demand-3, one-store}
 use Rattle.promises.proofs.Table.{reply-table, standing-zero}
 use Rattle.promises.proofs.Truth.{demand-2}
-use Rattle.promises.specs.Calls.{Ask, lentTo, numberSaid, ours, question, readOf}
+use Rattle.promises.specs.Calls.{Ask, lentTo, listAll, numberSaid, ours, question, readOf}
 use Rattle.promises.specs.Demand1.{Refusals}
 use Rattle.promises.specs.Demand2.{Demand2, QuestionSays, Tells}
 use Rattle.promises.specs.Demand3.{Demand3}
@@ -26,11 +26,19 @@ use Rattle.refuted.proofs.Exchange.{by-question}
 use Rattle.refuted.specs.Wrong.{deducing, workedOut}
 use Rattle.rules.specs.Held.{saidBy}
 use Rattle.stages.specs.declared.Lists.{Lists}
-use Rattle.store.specs.Calls.{noStore, storeOf}
+use Rattle.store.specs.Calls.{isDone, noStore, storeOf}
 use Rattle.store.specs.declared.Outcome.{Outcome}
 use Rattle.store.specs.declared.Store.{Store}
 use Rattle.theory.specs.Lists.{choose}
 use Rattle.theory.specs.Stages.{Justification}
+use lib.ListN.{length}
+use Rattle.lines.specs.Lines.{Wrote, writtenNumber}
+use Rattle.casefile.specs.Load.{loadOf}
+use Rattle.replies.proofs.Laws.{zero-done}
+use Rattle.replies.specs.Replies.{numberOf}
+use Rattle.replies.specs.declared.Reply.{Reply}
+use Rattle.replies.specs.declared.Reply.the-variants.{Long}
+use Rattle.theory.proofs.Lists.{clash, either}
 
 -- the question of this program
 abbrev asks : Store → ℕ → ℕ → Answer
@@ -53,6 +61,34 @@ module _ {A M : ℕ} where
   made-ours (withdrawn c l m e) = withdrawn c l (made-ours m) e
   made-ours (kept c l r m e n) = kept c l r (made-ours m) e n
   made-ours (asked {s = s} a m e) = asked a (made-ours m) (read-store s a ∙ sym (its-store s a) ∙ e)
+
+-- ---- it prints what ours prints
+
+prints-ours : (bytes out : List ℕ) → deducing .printing bytes out ≡ ours .printing bytes out
+prints-ours bytes out =
+    ⊎-elim (λ (h : ltb 4096 (length bytes) ≡ true). ap (λ (b : Bool). choose b long rest) h ∙ sym (demand-2 .prints-long bytes out (ltb-true 4096 (length bytes) h)))
+    (λ (h : ltb 4096 (length bytes) ≡ false).
+    let few : length bytes ≤ 4096 = ltb-false 4096 (length bytes) h in
+    ap (λ (b : Bool). choose b long rest) h
+    ∙ ⊎-elim (λ (d : isDone r ≡ true). ap (λ (b : Bool). choose b listed refusal) d ∙ sym (demand-2 .prints-listed bytes out few (zero-done r (eqb-true (numberOf r) 0 d))))
+    (λ (d : isDone r ≡ false). ap (λ (b : Bool). choose b listed refusal) d ∙ sym (demand-2 .prints-refused bytes out few (λ e. clash (ap isDone e) d)))
+    (either (isDone r)))
+    (either (ltb 4096 (length bytes)))
+  where
+    r : Reply
+    r = loadOf bytes .reply
+
+    long : Wrote
+    long = ours .refusal Long 0 out
+
+    listed : Wrote
+    listed = record { answer = readOf (loadOf bytes .store) (listAll out) .said; bytes = readOf (loadOf bytes .store) (listAll out) .bytes }
+
+    refusal : Wrote
+    refusal = ours .refusal r (loadOf bytes .«record») out
+
+    rest : Wrote
+    rest = choose (isDone r) listed refusal
 
 -- ---- its refusals are ours
 
@@ -78,7 +114,10 @@ its-table = record {
   judging = reply-table .judging;
   shape = reply-table .shape;
   refusal = reply-table .refusal;
-  printing = reply-table .printing;
+  printing = λ bytes out a.
+      let r = reply-table .printing bytes out a in
+      let e : writtenNumber (deducing .printing bytes out .answer) ≡ writtenNumber (ours .printing bytes out .answer) = ap (λ (w : Wrote). writtenNumber (w .answer)) (prints-ours bytes out) in
+      (λ q. r .0 (sym e ∙ q), λ w. e ∙ r .1 w);
   decoding = reply-table .decoding;
   adding-names = reply-table .adding-names;
   withdrawing-names = reply-table .withdrawing-names;
@@ -98,7 +137,9 @@ refusals-too = record {
   reading = its-store;
   bytes = λ s. by-question asks readOf s (λ a x. (numberSaid a (x .said) ≡ 0 → ⊥) → x .bytes ≡ lentTo a) (refusals .bytes s) (λ n E k. refl);
   refusal-bytes = refusals .refusal-bytes;
-  printing-bytes = refusals .printing-bytes;
+  printing-bytes = λ bytes out k.
+      ap (λ (w : Wrote). w .bytes) (prints-ours bytes out)
+      ∙ refusals .printing-bytes bytes out (λ z. k (ap (λ (w : Wrote). writtenNumber (w .answer)) (prints-ours bytes out) ∙ z));
 }
 
 -- ---- its answers on made stores are ours
@@ -146,7 +187,7 @@ its-telling m =
     }
 
 pub demand-2-too : Demand2 deducing
-demand-2-too = record { opens = demand-2 .opens; loads = demand-2 .loads; tells = λ m. its-telling (made-ours m); prints-long = demand-2 .prints-long; prints-refused = demand-2 .prints-refused; prints-listed = demand-2 .prints-listed }
+demand-2-too = record { opens = demand-2 .opens; loads = demand-2 .loads; tells = λ m. its-telling (made-ours m); prints-long = λ bytes out h. prints-ours bytes out ∙ demand-2 .prints-long bytes out h; prints-refused = λ bytes out h n. prints-ours bytes out ∙ demand-2 .prints-refused bytes out h n; prints-listed = λ bytes out h d. prints-ours bytes out ∙ demand-2 .prints-listed bytes out h d }
 
 pub demand-3-too : Demand3 deducing
 demand-3-too = record {
@@ -157,7 +198,7 @@ demand-3-too = record {
   repeated = λ c l p d m. demand-3 .repeated c l (made-ours p) d m;
   from-file = λ bytes f e r m h. one-store deducing (demand-3 .from-file bytes f e r (made-ours m) h .store);
   two-files = λ bytes others f g p q a m e. let o = demand-3 .two-files bytes others f g p q a m e in (o .0, λ r. one-store deducing (o .1 r .store));
-  same-print = demand-3 .same-print;
+  same-print = λ bytes others f g p q few less a m e w out. prints-ours bytes out ∙ demand-3 .same-print bytes others f g p q few less a m e w out ∙ sym (prints-ours others out);
   in-between = λ p q. one-store deducing (demand-3 .in-between (made-ours p) (made-ours q) .store);
   undone = λ c l p e k. demand-3 .undone c l (made-ours p) e k;
   redone = λ c l p e k. demand-3 .redone c l (made-ours p) e k;

@@ -10,7 +10,7 @@ use Rattle.asking.specs.Asking.{answerSet, firstIn, questionOf, reasoned}
 use Rattle.asking.specs.declared.Answer.the-variants.{Inconsistent, Supported, Unsupported}
 use Rattle.casefile.specs.Case.{Case, caseOf, recordsFrom, whole}
 use Rattle.items.specs.Items.{Item, headerFrom, numbersFrom, recordFrom, unless}
-use Rattle.lines.specs.Lines.{refusalText, wordOf, writtenLength}
+use Rattle.lines.specs.Lines.{fitted, refusalText, wordOf, writtenLength}
 use Rattle.numbers.specs.Numbers.{numberFrom, secondFrom}
 use Rattle.promises.proofs.Form.{Form, form-said}
 use Rattle.promises.proofs.Standing.{as-they-stand}
@@ -21,7 +21,7 @@ use Rattle.promises.specs.Made.{Made, inOrder, putIn}
 use Rattle.refuted.proofs.Cases.{answers, prints}
 use Rattle.refuted.proofs.Files.{file-are, file-done, file-form, file-made}
 use Rattle.refuted.specs.Cases.{ListsAre}
-use Rattle.refuted.specs.Pinned.{Pinned, Refuses, keysBytes, sowing, sowingBytes}
+use Rattle.refuted.specs.Pinned.{Pinned, PrintsFile, Refuses, keysBytes, sowing, sowingBytes}
 use Rattle.replies.specs.declared.Reply.{Reply}
 use Rattle.replies.specs.declared.Reply.the-variants.{After, Done, Label, Long}
 use Rattle.rules.specs.Held.{put}
@@ -37,6 +37,9 @@ use Rattle.theory.specs.Lists.{alike, allOf, each, numbersBelow, numbersTo, som
 use Rattle.theory.specs.Places.{table}
 use Rattle.theory.specs.Sets.{among, digit, within}
 use Rattle.theory.specs.Stages.{Justification, ahead, follows, gives, lesser}
+use Rattle.listing.proofs.Cases.{empty-printed, listed-printed, long-printed, twice-printed}
+use Rattle.listing.specs.Listing.{listingOf}
+use borrow.Author.Tests.{le-ltb}
 
 abbrev item : ℕ → List ℕ → Item
 item c l = record { consequent = c; supports = l }
@@ -144,6 +147,11 @@ word-bytes : word "case {1,2}\n" ≡ 99 ∷ 97 ∷ 115 ∷ 101 ∷ 32 ∷ 123 �
 unfolding word
 word-bytes = refl
 
+-- what is printed of a file
+printed-as : (bytes : List ℕ) (t : String) → listingOf bytes ≡ word t → PrintsFile ours bytes t
+unfolding fitted
+printed-as bytes t e out h = ap (λ (x : List ℕ). fitted x out) e ∙ rw (le-ltb (length out) (length (word t)) h)
+
 pub pinned : Pinned ours
 pinned =
     let l = seven (s .lists) _ (are .labels) in
@@ -167,6 +175,10 @@ pinned =
       sowing-named = (ap answerSet (asked .0), ap answerSet (asked .1), ap answerSet (asked .2));
       sowing-context = λ out h. demand-2 .tells made .context 5 out (omega arith) (omega arith) ∙ ap (λ (t : List ℕ). reads (context 5 out) Done s (t ++ drop 8 out)) (table-of .0);
       sowing-against = λ out h. demand-2 .tells made .context 6 out (omega arith) (omega arith) ∙ ap (λ (t : List ℕ). reads (context 6 out) Done s (t ++ drop 8 out)) (table-of .1);
+      eighteen = printed-as _ _ listed-printed;
+      twice = printed-as _ _ twice-printed;
+      nothing = printed-as _ _ empty-printed;
+      long = λ bytes h. printed-as bytes _ (long-printed bytes h);
       label-refused = refuses (Label 14) 13 "refused 8 13\n" (refusals .0);
       long-refused = refuses Long 0 "refused 14 0\n" (refusals .1);
       after-refused = refuses After 256 "refused 13 256\n" (refusals .2);

@@ -1,13 +1,27 @@
 -- A program with one of its calls exchanged for another. Assumes nothing.
 use mathlib.Core.List.{List, []}
 use Prim.Native.Nat.{ℕ}
+use lib.Dec.{ltb}
+use lib.ListN.{length}
 use Rattle.asking.specs.declared.Answer.{Answer}
 use Rattle.casefile.specs.declared.Loaded.{Loaded}
+use Rattle.lines.specs.Lines.{Wrote}
 use Rattle.promises.specs.Calls.{Ask, Calls, Read, caseLine, context, line, listAll, member, question, reads}
+use Rattle.replies.specs.declared.Reply.{Reply}
+use Rattle.replies.specs.declared.Reply.the-variants.{Long}
+use Rattle.store.specs.Calls.{isDone}
 use Rattle.store.specs.declared.Outcome.{Outcome}
 use Rattle.store.specs.declared.Store.{Store}
+use Rattle.theory.specs.Lists.{choose}
 
--- C with these five calls for its own
+-- what a program prints of a file, by its own loading, reading and refusals
+abbrev pub printingBy : (List ℕ → Loaded) → (Store → (a : Ask) → Read a) → (Reply → ℕ → List ℕ → Wrote) → List ℕ → List ℕ → Wrote
+printingBy loading reading refusal bytes out =
+    choose (ltb 4096 (length bytes)) (refusal Long 0 out)
+    (choose (isDone (loading bytes .reply)) (record { answer = reading (loading bytes .store) (listAll out) .said; bytes = reading (loading bytes .store) (listAll out) .bytes })
+    (refusal (loading bytes .reply) (loading bytes .«record») out))
+
+-- C with these five calls for its own, and what it prints by them
 abbrev pub exchanged : Calls → (ℕ → ℕ → Outcome) → (List ℕ → Loaded) → (Store → ℕ → List ℕ → Outcome) → (Store → ℕ → List ℕ → Outcome) → (Store → (a : Ask) → Read a) → Calls
 exchanged C opening loading adding withdrawing reading = record {
   opening = opening;
@@ -18,7 +32,7 @@ exchanged C opening loading adding withdrawing reading = record {
   reading = reading;
   shape = C .shape;
   refusal = C .refusal;
-  printing = C .printing;
+  printing = printingBy loading reading (C .refusal);
   decoding = C .decoding;
 }
 

@@ -2,14 +2,14 @@
 use mathlib.Core.List.{List, [], _++_, _∷_, map}
 use mathlib.Core.Option.{none, some}
 use mathlib.Core.Path.{_≡_}
-use Prim.Native.Nat.{_≤_, ℕ}
+use Prim.Native.Nat.{_<_, _≤_, ℕ}
 use Prim.Native.String.{String}
 use lib.ListN.{drop, length}
 use Rattle.asking.specs.Asking.{answerSet}
 use Rattle.asking.specs.declared.Answer.the-variants.{Inconsistent, Supported, Unsupported}
 use Rattle.lines.specs.Lines.{writtenLength}
 use Rattle.promises.specs.Calls.{Calls, caseLine, context, line, over, question, reads, written}
-use Rattle.refuted.specs.Cases.{ListsAre, Prints}
+use Rattle.refuted.specs.Cases.{ListsAre, Prints, listedBytes}
 use Rattle.replies.specs.Replies.{numberOf}
 use Rattle.replies.specs.declared.Reply.{Reply}
 use Rattle.replies.specs.declared.Reply.the-variants.{After, Already, Counts, Done, Ends, Falsity, Form, Full, Itself, Label, Long, Nogoods, Number, Place, Shape, Short, Supports, Unheld}
@@ -31,6 +31,10 @@ keysBytes = 3 ∷ 3 ∷ 7 ∷ 6 ∷ 1 ∷ 1 ∷ 5 ∷ 2 ∷ 2 ∷ 3 ∷ 4 ∷ 2 
 
 abbrev pub keys : Calls → Store
 keys C = C .loading keysBytes .store
+
+-- what is printed of the bytes is the text t
+abbrev pub PrintsFile : Calls → List ℕ → String → Type 0
+PrintsFile C bytes t = (out : List ℕ) → length (word t) ≤ length out → C .printing bytes out ≡ record { answer = written (word t); bytes = over (word t) out }
 
 -- the line of a refusal is the text t
 abbrev pub Refuses : Calls → Reply → ℕ → String → Type 0
@@ -60,6 +64,11 @@ pub record Pinned (C : Calls) : Type 0 where
   pub sowing-named : (answerSet (C .reading (sowing C) (question 6 5) .said) ≡ some 5) × (answerSet (C .reading (sowing C) (question 7 5) .said) ≡ none) × (answerSet (C .reading (sowing C) (question 7 6) .said) ≡ some 6)
   pub sowing-context : (out : List ℕ) → 8 ≤ length out → C .reading (sowing C) (context 5 out) ≡ reads (context 5 out) Done (sowing C) ((0 ∷ 1 ∷ 0 ∷ 1 ∷ 1 ∷ 0 ∷ 1 ∷ 0 ∷ []) ++ drop 8 out)
   pub sowing-against : (out : List ℕ) → 8 ≤ length out → C .reading (sowing C) (context 6 out) ≡ reads (context 6 out) Done (sowing C) ((2 ∷ 2 ∷ 2 ∷ 2 ∷ 2 ∷ 2 ∷ 2 ∷ 2 ∷ []) ++ drop 8 out)
+  -- what is printed: the document's eighteen bytes; a record that stands twice, counted once; no bytes; more than 4,096
+  pub eighteen : PrintsFile C listedBytes "case 3 2 4 2\n0 nogood {1,2}\n1 supported {1}\n2 supported {2}\n3 supported {3}\n4 supported {1} {2,3}\n5 supported {2,3}\n"
+  pub twice : PrintsFile C (1 ∷ 1 ∷ 2 ∷ 2 ∷ 1 ∷ 1 ∷ 2 ∷ 1 ∷ 1 ∷ []) "case 1 1 1 1\n0 nogood\n1 supported {1}\n2 supported {1}\n"
+  pub nothing : PrintsFile C [] "refused 11 0\n"
+  pub long : (bytes : List ℕ) → 4096 < length bytes → PrintsFile C bytes "refused 14 0\n"
   -- a refusal's line; 14 is the program's own
   pub label-refused : Refuses C (Label 14) 13 "refused 8 13\n"
   pub long-refused : Refuses C Long 0 "refused 14 0\n"
