@@ -158,5 +158,9 @@ module _ {A M : ℕ} {H : List Justification} {s : Store} (f : Form A M H s) whe
 
   pub form-listing : (l : ℕ → List ℕ) × ((n : ℕ) → n ≤ A + M → ListsSmallest A (listedFor H n) (l n))
       × ((out : List ℕ) → length (wholeText A M H s l) ≤ length out → readOf s (listAll out) ≡ reads (listAll out) (written (wholeText A M H s l)) s (over (wholeText A M H s l) out))
-  form-listing = (listHeld (s .lists), list-smallest, λ out h.
-      stand .reading (listAll out) (passes ℕ _ _ 0 _ (λ z. omega (arith, ap length whole-text)) refl) ∙ ap (λ (t : List ℕ). reads (listAll out) (written t) s (over t out)) whole-text)
+  form-listing = (
+    listHeld (s .lists),
+    list-smallest,
+    λ out h.
+        stand .reading (listAll out) (passes ℕ _ _ 0 _ (λ z. omega (arith, ap length whole-text)) refl) ∙ ap (λ (t : List ℕ). reads (listAll out) (written t) s (over t out)) whole-text,
+  )

@@ -97,7 +97,6 @@ module _ (s : Store) (right : rightShape s ≡ true) where
   read-stands (caseLine out) w =
       let p = passed _ _ _ w (λ z. omega arith) in
       ap (λ (x : Wrote). reads (caseLine out) (x .answer) s (x .bytes)) (heading-stands out (test-off (ltb (length out) (length (caseText s))) (less-test (length out) (length (caseText s))) (p .0)))
-
   read-stands (listAll out) w =
       let p = passed _ _ _ w (λ z. omega arith) in
       let t : List ℕ = listingText s in
