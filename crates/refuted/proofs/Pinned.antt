@@ -1,5 +1,5 @@
 -- What the shared definitions give, as it is written out. Assumes nothing.
-use mathlib.Core.List.{List, [], _++_, _∷_, map}
+use mathlib.Core.List.{_++_, _∷_, List, [], map}
 use mathlib.Core.Option.{some}
 use mathlib.Core.Path.{_∙_, _≡_, ap, ap₂, refl, sym}
 use Prim.Native.Nat.{_+_, _≤_, suc, ℕ}
@@ -35,7 +35,7 @@ use Rattle.theory.specs.Demands.{carries, contradicts}
 use Rattle.theory.specs.Judge.{judge, limits, sameSets}
 use Rattle.theory.specs.Lists.{alike, allOf, each, numbersBelow, numbersTo, someOf, those}
 use Rattle.theory.specs.Places.{table}
-use Rattle.theory.specs.Sets.{among, digit, within}
+use Rattle.theory.specs.Sets.{among, contains, digit, within}
 use Rattle.theory.specs.Stages.{Justification, ahead, follows, gives, lesser}
 use Rattle.listing.proofs.Cases.{empty-printed, listed-printed, long-printed, twice-printed}
 use Rattle.listing.specs.Listing.{listingOf}
@@ -152,6 +152,10 @@ printed-as : (bytes : List ℕ) (t : String) → listingOf bytes ≡ word t → 
 unfolding fitted
 printed-as bytes t e out h = ap (λ (x : List ℕ). fitted x out) e ∙ rw (le-ltb (length out) (length (word t)) h)
 
+longer-serves : map (contains (1 ∷ 6 ∷ 3 ∷ [])) (numbersBelow 8) ≡ map (contains (1 ∷ 6 ∷ [])) (numbersBelow 8)
+unfolding contains someOf within numbersBelow
+longer-serves = refl
+
 pub pinned : Pinned ours
 pinned =
     let l = seven (s .lists) _ (are .labels) in
@@ -179,6 +183,7 @@ pinned =
       twice = printed-as _ _ twice-printed;
       nothing = printed-as _ _ empty-printed;
       long = λ bytes h. printed-as bytes _ (long-printed bytes h);
+      longer = longer-serves;
       label-refused = refuses (Label 14) 13 "refused 8 13\n" (refusals .0);
       long-refused = refuses Long 0 "refused 14 0\n" (refusals .1);
       after-refused = refuses After 256 "refused 13 256\n" (refusals .2);

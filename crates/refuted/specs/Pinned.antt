@@ -1,5 +1,5 @@
 -- Definitions that code and promises share, said a second time by what they give: numbers, texts, bytes and orders, written out, through the calls. Assumes nothing.
-use mathlib.Core.List.{List, [], _++_, _∷_, map}
+use mathlib.Core.List.{_++_, _∷_, List, [], map}
 use mathlib.Core.Option.{none, some}
 use mathlib.Core.Path.{_≡_}
 use Prim.Native.Nat.{_<_, _≤_, ℕ}
@@ -17,6 +17,8 @@ use Rattle.rules.specs.Held.{saidBy}
 use Rattle.store.specs.declared.Store.{Store}
 use Rattle.text.specs.Texts.{word}
 use Rattle.theory.specs.Cases.{from}
+use Rattle.theory.specs.Lists.{numbersBelow}
+use Rattle.theory.specs.Sets.{contains}
 
 -- the sowing: README tells it
 abbrev pub sowingBytes : List ℕ
@@ -69,6 +71,8 @@ pub record Pinned (C : Calls) : Type 0 where
   pub twice : PrintsFile C (1 ∷ 1 ∷ 2 ∷ 2 ∷ 1 ∷ 1 ∷ 2 ∷ 1 ∷ 1 ∷ []) "case 1 1 1 1\n0 nogood\n1 supported {1}\n2 supported {1}\n"
   pub nothing : PrintsFile C [] "refused 11 0\n"
   pub long : (bytes : List ℕ) → 4096 < length bytes → PrintsFile C bytes "refused 14 0\n"
+  -- {1} {2,3} {1,2} serves where {1} {2,3} does, the label of 4 in the document's case, and is longer
+  pub longer : map (contains (1 ∷ 6 ∷ 3 ∷ [])) (numbersBelow 8) ≡ map (contains (1 ∷ 6 ∷ [])) (numbersBelow 8)
   -- a refusal's line; 14 is the program's own
   pub label-refused : Refuses C (Label 14) 13 "refused 8 13\n"
   pub long-refused : Refuses C Long 0 "refused 14 0\n"
