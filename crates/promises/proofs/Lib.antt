@@ -17,6 +17,7 @@ pub mod Adding
 pub mod Withdrawing
 pub mod Loading
 pub mod Rows
+pub mod Decoding
 pub mod Filing
 pub mod Table
 pub mod Refusals

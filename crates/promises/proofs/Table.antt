@@ -50,6 +50,7 @@ use Rattle.theory.specs.Lists.{choose, someOf}
 use Rattle.theory.specs.Sets.{inRange}
 use Rattle.theory.specs.Stages.{Justification}
 use Rattle.listing.specs.Listing.{listedOf, listingOf, listingText}
+use Rattle.promises.proofs.Decoding.{decode-onward}
 
 abbrev replied : Outcome → ℕ
 replied o = numberOf (o .reply)
@@ -307,6 +308,7 @@ reply-table = record {
   refusal = λ r k out. exactly (RefusalRows r k out) (wrote (fitted (refusalText r k) out)) (given-one _ _ _ no-row-one) (fitted-told (refusalText r k) out);
   printing = λ bytes out. exactly (PrintRows bytes out) (wrote (fitted (listingOf bytes) out)) (given-one _ _ _ no-row-one) (fitted-told (listingOf bytes) out);
   decoding = λ bytes at. exactly (DecodeRows bytes at) (reported (numberAt bytes at)) (decode-one bytes at) (decode-told bytes at);
+  onward = decode-onward;
   adding-names = add-names;
   withdrawing-names = withdraw-names;
   loading-names = load-names;

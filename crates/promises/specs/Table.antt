@@ -159,6 +159,10 @@ reported (Bad f) = (numberOf f, 0)
 abbrev pub DecodeRows : List ℕ → ℕ → Reported → Type 0
 DecodeRows bytes at = NumberRows 0 (drop at bytes) (λ x rest a. a ≡ (0, x))
 
+-- the next number begins one byte on after a number below 128, else two
+abbrev pub Onward : ℕ → ℕ → ℕ → Type 0
+Onward at n next = ((n < 128) × (next ≡ at + 1)) ⊎ ((128 ≤ n) × (next ≡ at + 2))
+
 -- A, M, count J; after the header: 3, then 7; then J records
 abbrev pub LoadRows : List ℕ → Reported → Type 0
 LoadRows l =
@@ -187,6 +191,7 @@ pub record ReplyTable (C : Calls) : Type 0 where
   pub refusal : (r : Reply) (k : ℕ) (out : List ℕ) (a : ℕ) → (writtenNumber (C .refusal r k out .answer) ≡ a) ↔ RefusalRows r k out a
   pub printing : (bytes out : List ℕ) (a : ℕ) → (writtenNumber (C .printing bytes out .answer) ≡ a) ↔ PrintRows bytes out a
   pub decoding : (bytes : List ℕ) (at : ℕ) (a : Reported) → (reported (C .decoding bytes at) ≡ a) ↔ DecodeRows bytes at a
+  pub onward : (bytes : List ℕ) (at n next : ℕ) → C .decoding bytes at ≡ Value n next → Onward at n next
   -- 8 names the lowest such claim or assumption; no other reply names one
   pub adding-names : (s : Store) (c : ℕ) (l : List ℕ) (n : ℕ) → (namedBy (C .adding s c l .reply) ≡ some n)
       ↔ ((numberOf (C .adding s c l .reply) ≡ 8) × LabelFull (s .held .assumptions) (top (s .held)) (enlarged s c l) n)

@@ -119,6 +119,7 @@ its-table = record {
       let e : writtenNumber (deducing .printing bytes out .answer) ≡ writtenNumber (ours .printing bytes out .answer) = ap (λ (w : Wrote). writtenNumber (w .answer)) (prints-ours bytes out) in
       (λ q. r .0 (sym e ∙ q), λ w. e ∙ r .1 w);
   decoding = reply-table .decoding;
+  onward = reply-table .onward;
   adding-names = reply-table .adding-names;
   withdrawing-names = reply-table .withdrawing-names;
   loading-names = reply-table .loading-names;
