@@ -52,7 +52,7 @@ abbrev pub asked : Calls → Store → ℕ → ℕ → Answer
 asked C s n E = C .reading s (question n E) .said
 
 pub record NothingShorter (C : Calls) : Type 0 where
-  -- of every number from 1 on, against every consistent set
+  -- of every number, against every consistent set
   pub label : {A M : ℕ} {H : Input} {s : Store} → Made C A M H s → (n : ℕ) → n ≤ A + M → Shortest A (λ E. not (contradicts H E)) (λ E. carries H E n) (labelHeld (s .lists) n)
   -- of the nogoods, against all sets
   pub nogoods : {A M : ℕ} {H : Input} {s : Store} → Made C A M H s → Shortest A (λ E. true) (contradicts H) (nogoodsHeld (s .lists))
