@@ -72,7 +72,7 @@ pub record Pinned (C : Calls) : Type 0 where
   pub nothing : PrintsFile C [] "refused 11 0\n"
   pub long : (bytes : List ℕ) → 4096 < length bytes → PrintsFile C bytes "refused 14 0\n"
   -- {1} {2,3} {1,2} serves where {1} {2,3} does, the label of 4 in the document's case, and is longer
-  pub longer : map (contains (1 ∷ 6 ∷ 3 ∷ [])) (numbersBelow 8) ≡ map (contains (1 ∷ 6 ∷ [])) (numbersBelow 8)
+  pub longer : (map (contains (1 ∷ 6 ∷ 3 ∷ [])) (numbersBelow 8) ≡ map (contains (1 ∷ 6 ∷ [])) (numbersBelow 8)) × (length {A = ℕ} (1 ∷ 6 ∷ []) < length {A = ℕ} (1 ∷ 6 ∷ 3 ∷ []))
   -- a refusal's line; 14 is the program's own
   pub label-refused : Refuses C (Label 14) 13 "refused 8 13\n"
   pub long-refused : Refuses C Long 0 "refused 14 0\n"
