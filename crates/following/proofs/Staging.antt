@@ -3,7 +3,7 @@ use mathlib.Core.Bool.{Bool, _&&_, _||_, false, true}
 use mathlib.Core.List.{List, List·Memᴰ as Mem}
 use mathlib.Core.Logic.{⊎-elim}
 use mathlib.Core.Path.{_∙_, _≡_, ap, ap₂, refl, sym}
-use Prim.Native.Nat.{_+_, _<_, _≤_, suc, zero, ℕ}
+use Prim.Native.Nat.{_+_, _-_, _<_, _≤_, suc, zero, ℕ}
 use native.Mathlib.Decide.{le-ind}
 use native.Mathlib.Numerals.{add-one}
 use native.Mathlib.Omega.{arith}
@@ -11,7 +11,7 @@ use lib.Dec.{eqb, leb, ltb}
 use lib.ListN.{getD, length}
 use borrow.Author.Tests.{le-leb, le-ltb, lt-leb, lt-ltb}
 use Rattle.following.proofs.Passing.{Inside, pass-at, pass-long}
-use Rattle.following.specs.Marks.{marked, passOver, sinceOf, sown, upTo}
+use Rattle.following.specs.Marks.{marked, passOver, sinceOf, sown, stagesFrom, upTo}
 use Rattle.theory.proofs.Demands.{ends}
 use Rattle.theory.proofs.Depth.{consequents-few, settles}
 use Rattle.theory.proofs.Following.{follows-by, follows-cases, follows-keep, follows-later}
@@ -152,25 +152,66 @@ module _ (J : List Justification) (E : ℕ) where
         ⊎-elim (λ a. a) (λ (a : follows J k E n ≡ false). absurd (omega (arith, q, upTo-no k n a, upTo-yes (suc k) n f))) (either (follows J k E n)))
         (follows-cases J k E n f)
 
+-- the marks of stage 0 are those of what follows there
+pub sown-at : (J : List Justification) (E : ℕ) → sown E ≡ table 129 (upTo J E 0)
+unfolding upTo follows
+sown-at J E = refl
+
 -- ---- the loop
-abbrev pub Staging : List Justification → List ℕ → ℕ → List ℕ → Type 0
-Staging J start k m = (E : ℕ) → start ≡ sown J E → m ≡ table 129 (upTo J E k)
+module _ (J : List Justification) (w : Placed J) (E : ℕ) where
+  abbrev At : ℕ → List ℕ
+  At k = table 129 (upTo J E k)
 
-module _ (J : List Justification) (w : Placed J) (start : List ℕ) where
-  pub staging-start : Staging J start 0 start
-  staging-start E e = e
+  pub ended-table : (k : ℕ) → Ended J E k → At k ≡ table 129 (sinceOf J E)
+  ended-table k d = table-same 129 (upTo J E k) (sinceOf J E) 255 (λ n low. since-is J E k n d)
 
-  pub staging-next : (k : ℕ) (m r : List ℕ) → k < 129 → Staging J start k m → r ≡ passOver k (k + 1) m J → Staging J start (k + 1) r
-  staging-next k m r h s e E q =
-      e ∙ ap (λ (l : List ℕ). passOver k (k + 1) l J) (s E q) ∙ pass-step J E w k h ∙ ap (λ (i : ℕ). table 129 (upTo J E i)) (sym (add-one k))
+  pub pass-plus : (k : ℕ) → k < 129 → passOver k (k + 1) (At k) J ≡ At (k + 1)
+  pass-plus k h = pass-step J E w k h ∙ ap At (sym (add-one k))
 
-  ended-table : (k : ℕ) (m : List ℕ) (E : ℕ) → m ≡ table 129 (upTo J E k) → Ended J E k → m ≡ table 129 (sinceOf J E)
-  ended-table k m E e d = e ∙ table-same 129 (upTo J E k) (sinceOf J E) 255 (λ n low. since-is J E k n d)
+  -- where a pass marks nothing new, nothing new follows
+  pub pass-still : (k : ℕ) → k < 129 → passOver k (k + 1) (At k) J ≡ At k → At k ≡ table 129 (sinceOf J E)
+  pass-still k h e = ended-table k (still-ended J E k (still-same J E w k h (sym (pass-step J E w k h) ∙ e)))
 
-  pub staging-same : (k : ℕ) (m r : List ℕ) → k < 129 → Staging J start k m → r ≡ passOver k (k + 1) m J → (t : Bool) → t ≡ sameSets r m → t ≡ true → (E : ℕ) → start ≡ sown J E → m ≡ table 129 (sinceOf J E)
-  staging-same k m r h s e t p y E q =
-      let same : r ≡ m = same-elim r m (sym p ∙ y) in
-      ended-table k m E (s E q) (still-ended J E k (still-same J E w k h (sym (staging-next k m r h s e E q ∙ ap (λ (i : ℕ). table 129 (upTo J E i)) (add-one k)) ∙ same ∙ s E q)))
+  pub since-last : (k : ℕ) → 129 ≤ k → At k ≡ table 129 (sinceOf J E)
+  since-last k h = ended-table k (ended-129 J E w k h)
 
-  pub staging-end : (k : ℕ) (m : List ℕ) → 129 ≤ k → Staging J start k m → (E : ℕ) → start ≡ sown J E → m ≡ table 129 (sinceOf J E)
-  staging-end k m h s E q = ended-table k m E (s E q) (ended-129 J E w k h)
+  stages-at : (f k : ℕ) → k + f ≡ 129 → stagesFrom J f k (At k) ≡ table 129 (sinceOf J E)
+  unfolding stagesFrom
+  stages-at zero k e = since-last k (omega (arith, e))
+  stages-at (suc f) k e =
+      let low : k < 129 = omega (arith, e) in
+      let next : List ℕ = passOver k (k + 1) (At k) J in
+      ⊎-elim (λ (t : sameSets next (At k) ≡ true). ap (λ (b : Bool). choose b (At k) (stagesFrom J f (k + 1) next)) t ∙ pass-still k low (same-elim next (At k) t))
+      (λ (t : sameSets next (At k) ≡ false).
+      ap (λ (b : Bool). choose b (At k) (stagesFrom J f (k + 1) next)) t ∙ ap (stagesFrom J f (k + 1)) (pass-plus k low) ∙ stages-at f (k + 1) (omega (arith, e)))
+      (either (sameSets next (At k)))
+
+  -- from the marks of stage 0 there are for each number the first stage at which it follows
+  pub stages-since : stagesFrom J 129 0 (sown E) ≡ table 129 (sinceOf J E)
+  stages-since = ap (stagesFrom J 129 0) (sown-at J E) ∙ stages-at 129 0 refl
+
+-- the loop of `stages`, k stages done
+pub stages-same : (J : List Justification) (k : ℕ) (m r : List ℕ) (t : Bool) → k < 129 → r ≡ passOver k (k + 1) m J → t ≡ sameSets r m → t ≡ true → stagesFrom J (129 - k) k m ≡ m
+unfolding stagesFrom
+stages-same J k m r t h e p y =
+    ap (λ (f : ℕ). stagesFrom J f k m) left-one ∙ ap (λ (b : Bool). choose b m (stagesFrom J (128 - k) (k + 1) (passOver k (k + 1) m J))) (sym (p ∙ ap (λ (x : List ℕ). sameSets x m) e) ∙ y)
+  where
+    left-one : 129 - k ≡ suc (128 - k)
+    left-one = omega (arith, h)
+
+pub stages-next : (J : List Justification) (k : ℕ) (m r : List ℕ) (t : Bool) → k < 129 → r ≡ passOver k (k + 1) m J → t ≡ sameSets r m → t ≡ false → stagesFrom J (129 - k) k m ≡ stagesFrom J (129 - (k + 1)) (k + 1) r
+unfolding stagesFrom
+stages-next J k m r t h e p y =
+    ap (λ (f : ℕ). stagesFrom J f k m) left-one
+    ∙ ap (λ (b : Bool). choose b m (stagesFrom J (129 - (k + 1)) (k + 1) (passOver k (k + 1) m J))) (sym (p ∙ ap (λ (x : List ℕ). sameSets x m) e) ∙ y)
+    ∙ ap (stagesFrom J (129 - (k + 1)) (k + 1)) (sym e)
+  where
+    left-one : 129 - k ≡ suc (129 - (k + 1))
+    left-one = omega (arith, h)
+
+pub stages-end : (J : List Justification) (k : ℕ) (m : List ℕ) → 129 ≤ k → stagesFrom J (129 - k) k m ≡ m
+unfolding stagesFrom
+stages-end J k m h = ap (λ (f : ℕ). stagesFrom J f k m) none
+  where
+    none : 129 - k ≡ 0
+    none = omega (arith, h)

@@ -6,7 +6,7 @@ ghost use Rattle.text.specs.Texts.{braced, digits, entered, field, headi
 ghost use Rattle.text.specs.Writing.{Put, Room};
 
 // The decimal digits of n.
-fn number(n: u32, at: usize, out: &mut [u8]) -> usize
+pub fn number(n: u32, at: usize, out: &mut [u8]) -> usize
     requires { ⌜ Room (digits n) at (now out) ⌝ }
     ensures { λ r. ⌜ Put (digits n) at (now (out .entry)) (now (out .exit)) r ⌝ }
 {
@@ -20,7 +20,7 @@ fn number(n: u32, at: usize, out: &mut [u8]) -> usize
 }
 
 // A number after one space.
-fn field(n: u32, at: usize, out: &mut [u8]) -> usize
+pub fn field(n: u32, at: usize, out: &mut [u8]) -> usize
     requires { ⌜ Room (field n) at (now out) ⌝ }
     ensures { λ r. ⌜ Put (field n) at (now (out .entry)) (now (out .exit)) r ⌝ }
 {

@@ -1,0 +1,4 @@
+pub mod Upto
+pub mod Laws
+pub mod Cases
+pub mod Longest
