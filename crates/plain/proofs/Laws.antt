@@ -12,7 +12,8 @@ use Rattle.asking.specs.Asking.{Left, contextReply, left}
 use Rattle.following.proofs.Passing.{getD-any}
 use Rattle.following.proofs.Places.{held-placed}
 use Rattle.following.proofs.Staging.{Placed}
-use Rattle.following.specs.Marks.{sinceOf, sown, upTo}
+use Rattle.following.specs.First.{sinceOf}
+use Rattle.following.specs.Marks.{marksOf, sown}
 use Rattle.following.specs.Promised.{Followable}
 use Rattle.plain.proofs.Since.{since-ever}
 use Rattle.plain.specs.Plainly.{Chasable, byteOf, plainAfter, plainBy, plainBytes, plainOf, readFrom}
@@ -63,7 +64,7 @@ sow-turn E k v m h e q =
     above n k l ne = omega arith
 
 pub sow-end : (E a k : ℕ) (m : List ℕ) → a < k → inRange a E ≡ true → m ≡ table 129 (sowing E k) → m ≡ sown E
-unfolding sowing
+unfolding sowing marksOf
 sow-end E a k m h r e = e ∙ table-same 129 (sowing E k) (λ n. choose (among E n) 0 255) 255 (λ n l.
     ⊎-elim (λ (t : ltb n k ≡ true). ap (λ (b : Bool). choose (b && among E n) 0 255) t)
     (λ (t : ltb n k ≡ false).

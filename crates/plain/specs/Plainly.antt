@@ -6,7 +6,7 @@ use Prim.Native.Nat.{_+_, ℕ}
 use lib.Dec.{ltb}
 use lib.ListN.{drop, getD, length}
 use Rattle.asking.specs.Asking.{contextReply, left}
-use Rattle.following.specs.Marks.{sinceOf}
+use Rattle.following.specs.First.{sinceOf}
 use Rattle.plain.specs.declared.Plain.{Plain}
 use Rattle.plain.specs.declared.Plain.the-variants.{Inconsistent, Refused, Supported, Unsupported}
 use Rattle.plain.specs.declared.Told.{Told}

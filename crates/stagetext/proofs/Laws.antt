@@ -11,7 +11,8 @@ use lib.Seq.{drop-cons}
 use borrow.Author.Tests.{le-ltb, lt-ltb, ltb-true}
 use Rattle.following.proofs.Passing.{marked-no, marked-yes}
 use Rattle.following.proofs.Staging.{Placed}
-use Rattle.following.specs.Marks.{marked, sinceOf}
+use Rattle.following.specs.First.{sinceOf}
+use Rattle.following.specs.Marks.{marked}
 use Rattle.lines.specs.Lines.{Wrote, fitted, kept}
 use Rattle.lines.specs.declared.Listed.{Listed}
 use Rattle.lines.specs.declared.Written.{Written}

@@ -9,8 +9,10 @@ use native.Mathlib.Omega.{arith}
 use lib.Dec.{ltb}
 use lib.ListN.{getD, length}
 use borrow.Author.Tests.{ltb-true}
-use Rattle.following.proofs.Staging.{Placed, since-129, upTo-no, upTo-yes}
-use Rattle.following.specs.Marks.{marked, sinceOf, upTo}
+use Rattle.following.proofs.First.{since-129, upTo-no, upTo-yes}
+use Rattle.following.proofs.Staging.{Placed}
+use Rattle.following.specs.First.{sinceOf, upTo}
+use Rattle.following.specs.Marks.{marked}
 use Rattle.stagetext.proofs.Laws.{row-length, text-is}
 use Rattle.stagetext.proofs.Upto.{upto, upto-few, upto-le, upto-length, upto-none}
 use Rattle.stagetext.specs.Stagetext.{bodyOf, latest, longest, partOf, rowOf, rowsIn, rowsOf, stageText}

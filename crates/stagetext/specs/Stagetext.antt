@@ -3,7 +3,8 @@ use mathlib.Core.Bool.{_&&_, not}
 use mathlib.Core.List.{List, [], _++_, _∷_}
 use Prim.Native.Nat.{_*_, _+_, ℕ}
 use lib.Dec.{ltb}
-use Rattle.following.specs.Marks.{marked, sinceOf}
+use Rattle.following.specs.First.{sinceOf}
+use Rattle.following.specs.Marks.{marked}
 use Rattle.lines.specs.Lines.{Hands, Wrote, fitted, kept}
 use Rattle.lines.specs.declared.Listed.{Listed}
 use Rattle.replies.specs.declared.Reply.the-variants.{Number, Shape}

@@ -1,8 +1,13 @@
--- The lists of a store as they stand. Assumes nothing.
+-- The lists of a store as they stand, and what its justifications say of an empty one. Assumes nothing.
+use mathlib.Core.Bool.{Bool, _&&_, false}
 use mathlib.Core.List.{List, []}
 use Prim.Native.Nat.{_*_, suc, zero, ℕ}
-use lib.ListN.{drop, getD, take}
+use lib.Dec.{eqb}
+use lib.ListN.{drop, getD, length, take}
+use Rattle.rules.specs.Held.{saidBy}
 use Rattle.stages.specs.declared.Lists.{Lists}
+use Rattle.store.specs.declared.Store.{Store}
+use Rattle.theory.specs.Demands.{fromAll}
 
 abbrev pub nogoodsHeld : Lists → List ℕ
 nogoodsHeld l = take (l .count) (l .nogoods)
@@ -16,3 +21,12 @@ labelHeld l (suc i) = take (getD (l .sizes) i 0) (drop (12 * i) (l .members))
 abbrev pub listHeld : Lists → ℕ → List ℕ
 listHeld l zero = nogoodsHeld l
 listHeld l (suc i) = labelHeld l (suc i)
+
+-- n follows from all assumptions together by the justifications held
+abbrev pub heldFromAll : Store → ℕ → Bool
+heldFromAll s n = fromAll (s .held .assumptions) (saidBy (s .held)) n
+
+-- the label of n, from 1 on, is empty, and n follows from all assumptions together by the justifications held
+abbrev pub contradictedIn : Store → ℕ → Bool
+contradictedIn s zero = false
+contradictedIn s (suc i) = eqb (length (labelHeld (s .lists) (suc i))) 0 && heldFromAll s (suc i)

@@ -1,22 +1,29 @@
--- The words of the demands: what `contradicts` and `carries` mean over all stages, and what the lists at the depth say of them. Assumes nothing.
+-- The words of the demands: what `contradicts`, `carries` and `fromAll` mean over all stages, and what the lists at the depth say of them. Assumes nothing.
 use mathlib.Core.Bool.{Bool, false, not, true}
 use mathlib.Core.List.{List}
 use mathlib.Core.Logic.{_↔_}
 use mathlib.Core.Option.{none}
 use mathlib.Core.Path.{_∙_, _≡_, ap, sym}
-use Prim.Native.Nat.{_+_, _<_, _^_, _≤_, zero, ℕ}
+use Prim.Native.Nat.{_+_, _-_, _<_, _^_, _≤_, suc, zero, ℕ}
+use native.Mathlib.Decide.{decLt}
+use native.Mathlib.Nat.{mod-eq-of-lt}
 use native.Mathlib.Omega.{arith}
+use lib.Bits.{and-mask, or-add-and}
+use lib.Dec.{ltb}
 use lib.ListN.{length}
-use borrow.Author.Tests.{not-true}
+use lib.Pow.{ones-lt, pow-lt, pow-mono}
+use borrow.Author.Tests.{le-ltb, lt-ltb, not-true}
 use Rattle.theory.proofs.Lasting.{Upto}
 use Rattle.theory.proofs.Depth.{consequents-length, settles}
-use Rattle.theory.proofs.Following.{follows-later}
+use Rattle.theory.proofs.Following.{follows-later, follows-more}
 use Rattle.theory.proofs.Judgement.{labels-mean, nogoods-mean, settled-stage, stage-labelIn, stage-nogoods}
 use Rattle.theory.proofs.Label.{inconsistent, supported}
-use Rattle.theory.proofs.Lists.{and-intro, and-left, and-right, same-test}
-use Rattle.theory.specs.Demands.{carries, contradicts}
+use Rattle.theory.proofs.Lists.{and-intro, and-left, and-right, not-so, same-test}
+use Rattle.theory.proofs.Sets.{among-within, or-within, within-le}
+use Rattle.theory.proofs.Start.{digit-self, digit-within}
+use Rattle.theory.specs.Demands.{carries, contradicts, fromAll}
 use Rattle.theory.specs.Judge.{Limits, Stage, judge, settled}
-use Rattle.theory.specs.Sets.{contains}
+use Rattle.theory.specs.Sets.{among, contains, digit, together, within}
 use Rattle.theory.specs.Stages.{Justification, follows, labelAt, nogoodsAt}
 use Rattle.theory.specs.Step.{labelIn}
 
@@ -44,6 +51,41 @@ carries-means J E n =
     let p : Bool = not (contradicts J E) in
     let q : Bool = follows J (length J) E n in
     (λ h. (not-true (contradicts J E) (and-left p q h), (length J, and-right p q h)), λ r. and-intro (ap not (r .0)) (ends J (r .1 .0) E n (r .1 .1)))
+
+-- ---- from all assumptions together
+
+pub within-together : (A E : ℕ) → E < 2 ^ A → within E (together A) ≡ true
+unfolding together
+within-together A E h = or-within E (2 ^ A - 1) (omega (arith, or-add-and E (2 ^ A - 1), and-mask E A, mod-eq-of-lt h))
+
+together-low : (A : ℕ) → together A < 2 ^ A
+unfolding together
+together-low A = ones-lt A
+
+pub among-together : (A i : ℕ) → among (together A) (suc i) ≡ ltb i A
+unfolding among
+among-together A i = elim (decLt i A) [
+  | yes h ↦ among-within (2 ^ i) (together A) (suc i) (within-together A (2 ^ i) (pow-lt h)) (digit-self i) ∙ sym (lt-ltb i A h)
+  | no h ↦ not-so (digit (together A) i) (λ d. high d (up h)) ∙ sym (le-ltb i A (up h))
+]
+  where
+    up : (i < A → ⊥) → A ≤ i
+    up h = omega arith
+
+    high : digit (together A) i ≡ true → A ≤ i → ⊥
+    high d h = omega (arith, within-le (2 ^ i) (together A) (digit-within i (together A) d), together-low A, pow-mono h)
+
+-- n follows from all A assumptions together exactly when it follows from some set of them at some stage
+pub from-all-means : (A : ℕ) (J : List Justification) (n : ℕ) → (fromAll A J n ≡ true) ↔ ((E : ℕ) × (E < 2 ^ A) × ((k : ℕ) × (follows J k E n ≡ true)))
+unfolding fromAll
+from-all-means A J n = (
+  λ h. (together A, together-low A, (length J, h)),
+  λ r. ends J (r .2 .0) (together A) n (follows-more J (r .2 .0) (r .0) (together A) n (within-together A (r .0) (r .1)) (r .2 .1)),
+)
+-- so does every assumption
+pub from-all-own : (A : ℕ) (J : List Justification) (i : ℕ) → i < A → fromAll A J (suc i) ≡ true
+unfolding fromAll follows
+from-all-own A J i h = ends J zero (together A) (suc i) (among-together A i ∙ lt-ltb i A h)
 
 -- ---- at a stage
 

@@ -21,6 +21,10 @@ unfoldable pub alone : ℕ → ℕ
 alone zero = 0
 alone (suc i) = 2 ^ i
 
+-- all A assumptions together
+unfoldable pub together : ℕ → ℕ
+together A = 2 ^ A - 1
+
 -- the assumptions in F or in E
 abbrev pub union : ℕ → ℕ → ℕ
 union F E = bitOr F E

@@ -1,8 +1,8 @@
 -- `plain::chased` meets its contract. Assumes nothing.
 use mathlib.Core.Path.{_∙_, ap}
 use Rattle.following.proofs.Places.{held-placed}
-use Rattle.following.proofs.Staging.{stages-since}
-use Rattle.following.specs.Marks.{stagesFrom}
+use Rattle.following.proofs.First.{stages-since}
+use Rattle.following.specs.First.{stagesFrom}
 use Rattle.rules.specs.Held.{saidBy}
 use Rattle.plain.proofs.Laws.{fits-few, followable}
 use Rattle.plain.proofs.chased.Statement.{statement}
