@@ -202,10 +202,10 @@ module _ (s : Store) (e : Entry) where
     fit : Fitting (s .held)
     fit = shape-elim s t .0
 
-    larger-right : heldRight larger ≡ true
+    pub larger-right : heldRight larger ≡ true
     larger-right = put-right (s .held) e (fit .right) k f n
 
-    larger-said : saidBy larger ≡ put (meaning e) J
+    pub larger-said : saidBy larger ≡ put (meaning e) J
     larger-said =
         held-said (s .held .assumptions) (s .held .claims) (put (meaning e) J) (omega (arith, put-length (meaning e) J, said-many (s .held) (fit .right)))
         (λ j m. ⊎-elim (λ (q : j ≡ meaning e). subst (λ (i : Justification). length (i .supports) ≤ 4) (sym q) (fitting-ranged (top (s .held)) e f .few)) (λ i. right-range (s .held) (fit .right) j i .few) (put-cases (meaning e) J m))

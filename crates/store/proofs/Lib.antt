@@ -1,3 +1,4 @@
 pub mod Shapes
 pub mod Judging
 pub mod Right
+pub mod Keeping

@@ -35,7 +35,7 @@ module _ (A M : ℕ) (J : List Justification) (few : A ≤ 32) (claims : M ≤ 9
   unfolding heldOf
   in-range j m = right-range (heldOf A M J) fits j (subst (Mem j) (sym said) m) .low
 
-  settled-right : (d : ℕ) (g : Stage) → judge limits A (A + M) J ≡ settled d g → Whole (record { held = heldOf A M J; lists = listsOf d g })
+  pub settled-right : (d : ℕ) (g : Stage) → judge limits A (A + M) J ≡ settled d g → Whole (record { held = heldOf A M J; lists = listsOf d g })
   unfolding rightShape heldFits heldOf listsOf
   settled-right d g e =
       let t = settled-told limits A (A + M) J d g e in

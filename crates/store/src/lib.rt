@@ -114,22 +114,30 @@ impl Store {
         ensures { λ r. ⌜ Added self consequent (now (supports .entry)) r ⌝ }
     {
         if self.shape() {
-            let held = self.held;
-            let top = held.assumptions + held.claims;
-            let fault = rules::fault(top, consequent, supports);
-            if replies::number(fault) != 0 {
-                return Outcome {
-                    reply: fault,
-                    store: self,
-                };
-            }
-            let entry = rules::canonical(top, consequent, supports);
-            return self.taking(entry);
+            return self.entering(consequent, supports);
         }
         Outcome {
             reply: Reply::Shape,
             store: self,
         }
+    }
+
+    // The same of a store that is known to have the right shape.
+    pub fn entering(self, consequent: u32, supports: &[u32]) -> Outcome
+        requires { ⌜ rightShape self ≡ true ⌝ }
+        ensures { λ r. ⌜ Added self consequent (now (supports .entry)) r ⌝ }
+    {
+        let held = self.held;
+        let top = held.assumptions + held.claims;
+        let fault = rules::fault(top, consequent, supports);
+        if replies::number(fault) != 0 {
+            return Outcome {
+                reply: fault,
+                store: self,
+            };
+        }
+        let entry = rules::canonical(top, consequent, supports);
+        self.taking(entry)
     }
 
     // The same of a justification in its canonical form.

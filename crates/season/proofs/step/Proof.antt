@@ -1,0 +1,24 @@
+-- `season::step` meets its contract. Assumes nothing.
+use mathlib.Core.Path.{_≡_, _∙_, ap}
+use Prim.Native.Nat.{ℕ}
+use borrow.Author.Needs.{needs}
+use Rattle.season.proofs.Folds.{numbered}
+use Rattle.season.specs.Season.{numberedBy}
+use Rattle.season.proofs.step.Statement.{statement}
+use Rattle.season.proofs.step.Tie as tie
+use Rattle.season.proofs.step.Reads as reads
+use Rattle.season.proofs.step.Lts as lts
+use Rattle.replies.proofs.number.Reads as number-reads
+use Rattle.season.proofs.give.Reads as give-reads
+
+give-requires : tie.Need-give-requires
+give-requires c κs = c .pre
+
+number-requires : tie.Need-number-requires
+number-requires c κs = search needs
+
+returns : tie.Need-returns
+returns c = numbered _ _ _ (c .number .ensures) (c .before .before .give .ensures)
+
+pub step-spec : {M : Type 1} → statement M
+step-spec = tie.close (tie.spec give-requires number-requires returns)
