@@ -10,6 +10,7 @@ use Rattle.following.specs.First.{sinceOf}
 use Rattle.plain.specs.declared.Plain.{Plain}
 use Rattle.plain.specs.declared.Plain.the-variants.{Inconsistent, Refused, Supported, Unsupported}
 use Rattle.plain.specs.declared.Told.{Told}
+use Rattle.replies.specs.Replies.{numberOf}
 use Rattle.replies.specs.declared.Reply.the-variants.{Number, Shape}
 use Rattle.rules.specs.Held.{saidBy}
 use Rattle.rules.specs.declared.Held.{Held}
@@ -71,3 +72,10 @@ plainAfter s E out = choose (isDone (contextReply s E (length out))) (plainBytes
 
 abbrev pub Contexted : Store → ℕ → List ℕ → Outcome → List ℕ → Type 0
 Contexted s E out r after = left r after ≡ left (answer (contextReply s E (length out)) s) (plainAfter s E out)
+
+-- the document's number of an answer
+abbrev pub plainNumber : Plain → ℕ
+plainNumber Inconsistent = 0
+plainNumber Supported = 0
+plainNumber Unsupported = 0
+plainNumber (Refused r) = numberOf r

@@ -1,0 +1,3 @@
+pub mod Items
+pub mod Chased
+pub mod Answers

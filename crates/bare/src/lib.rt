@@ -1,0 +1,310 @@
+// The plain path from a bare list of justifications: the items judged in order, then followed stage by stage.
+use handed::Handed;
+use lines::Written;
+use plain::Plain;
+use replies::Reply;
+use sets::Set;
+ghost use mathlib.Core.Bool.{_||_};
+ghost use mathlib.Core.Path.{_≡_};
+ghost use Prim.Native.Nat.{_+_, _<_, _≤_};
+ghost use lib.Dec.{ltb};
+ghost use lib.ListN.{take};
+ghost use Rattle.theory.specs.Lists.{choose};
+ghost use Rattle.theory.specs.Sets.{inRange};
+ghost use Rattle.following.specs.Marks.{markBy};
+ghost use Rattle.replies.specs.declared.Reply.the-variants.{Done};
+ghost use Rattle.bare.specs.declared.Told.the-variants.{Filled};
+ghost use Rattle.bare.specs.Bare.{Answers, answered, faultOfItem, justOf, overCounts, refusedAs};
+ghost use Rattle.bare.specs.Chasing.{Going, againOf, begunOf, filledIn, finishOf, followOf, haltOf, onwardOf, stepOf, toldIn, wordIn};
+
+// What is asked of a list: of a number, of every number, or every stage.
+pub enum What {
+    Number(u32),
+    Context,
+    Stages,
+}
+
+// How many assumptions and claims there are, what is asked, and of which set.
+pub struct Asked {
+    pub assumptions: u32,
+    pub claims: u32,
+    pub what: What,
+    pub set: Set,
+}
+
+// The answer, as the call of a store gives it: a word, the reply of the context, or the length of the lines.
+pub enum Told {
+    Word(Plain),
+    Filled(Reply),
+    Lines(Written),
+}
+
+// A list that is being followed: the reply so far, the item at which it stands, the stage, whether that marked something new, and the marks.
+struct Chase {
+    reply: Reply,
+    assumptions: u8,
+    top: u8,
+    count: usize,
+    at: usize,
+    stage: u8,
+    new: bool,
+    marks: [u8; 129],
+}
+
+// The set that is followed: e where it has no assumption above a, else none.
+fn start(e: Set, a: u8) -> Set
+    requires { ⌜ a ≤ 32 ⌝ }
+    ensures { λ r. ⌜ r ≡ choose (inRange a e) e 0 ⌝ }
+{
+    if sets::low(e, a) {
+        return e;
+    }
+    0
+}
+
+// Before the first of so many items: 3, or the marks of stage 0.
+fn begin(items: usize, ask: Asked) -> Chase
+    ensures { λ r. ⌜ r ≡ begunOf items ask ⌝ }
+{
+    if over(ask) {
+        let marks = [255u8; 129];
+        return Chase {
+            reply: Reply::Counts,
+            assumptions: 0,
+            top: 0,
+            count: items,
+            at: items,
+            stage: 0,
+            new: false,
+            marks,
+        };
+    }
+    let a = ask.assumptions as u8;
+    let top = a + ask.claims as u8;
+    let set = start(ask.set, a);
+    let marks = plain::sown(set, a);
+    Chase {
+        reply: Reply::Done,
+        assumptions: a,
+        top,
+        count: items,
+        at: 0,
+        stage: 0,
+        new: false,
+        marks,
+    }
+}
+
+// Whether there are more than 32 assumptions or more than 96 claims.
+fn over(ask: Asked) -> bool
+    ensures { λ r. ⌜ r ≡ overCounts ask ⌝ }
+{
+    if 32 < ask.assumptions {
+        return true;
+    }
+    96 < ask.claims
+}
+
+// The first fault of an item.
+fn fault(top: u8, item: Handed) -> Reply
+    ensures { λ r. ⌜ r ≡ faultOfItem top item ⌝ }
+{
+    if 4 < item.count {
+        return Reply::Supports;
+    }
+    let supports = item.supports;
+    let n = item.count;
+    rules::fault(top, item.consequent, &supports[..n])
+}
+
+// The mark of the item's consequent after it, at stage k.
+fn mark(top: u8, item: Handed, marks: [u8; 129], k: u8) -> u8
+    requires { ⌜ (top ≤ 128) × (k < 129) × (faultOfItem top item ≡ Done) ⌝ }
+    ensures { λ r. ⌜ r ≡ markBy k (k + 1) marks (justOf top item) ⌝ }
+{
+    let supports = item.supports;
+    let n = item.count;
+    let entry = rules::canonical(top, item.consequent, &supports[..n]);
+    following::mark(entry, &marks, k, k + 1)
+}
+
+// Whether the stage is done and another is to come.
+fn again(chase: Chase, at: usize, new: bool) -> bool
+    ensures { λ r. ⌜ r ≡ againOf chase at new ⌝ }
+{
+    if at < chase.count {
+        return false;
+    }
+    if new {
+        return chase.stage < 128;
+    }
+    false
+}
+
+// With these marks, on to the next item, or to the next stage.
+fn onward(chase: Chase, marks: [u8; 129], new: bool) -> Chase
+    requires { ⌜ Going chase ⌝ }
+    ensures { λ r. ⌜ r ≡ onwardOf chase marks new ⌝ }
+{
+    let reply = chase.reply;
+    let at = chase.at + 1;
+    if again(chase, at, new) {
+        return Chase {
+            reply,
+            assumptions: chase.assumptions,
+            top: chase.top,
+            count: chase.count,
+            at: 0,
+            stage: chase.stage + 1,
+            new: false,
+            marks,
+        };
+    }
+    Chase {
+        reply,
+        assumptions: chase.assumptions,
+        top: chase.top,
+        count: chase.count,
+        at,
+        stage: chase.stage,
+        new,
+        marks,
+    }
+}
+
+// Whether something new was marked, now with this item.
+fn fresh(before: bool, now: u8, old: u8) -> bool
+    ensures { λ r. ⌜ r ≡ (before || ltb now old) ⌝ }
+{
+    if before {
+        return true;
+    }
+    now < old
+}
+
+// One item without fault at its stage.
+fn follow(chase: Chase, item: Handed) -> Chase
+    requires { ⌜ Going chase × (faultOfItem (chase .top) item ≡ Done) ⌝ }
+    ensures { λ r. ⌜ r ≡ followOf chase item ⌝ }
+{
+    let n = item.consequent as usize;
+    let mut marks = chase.marks;
+    let old = marks[n];
+    let now = mark(chase.top, item, marks, chase.stage);
+    marks[n] = now;
+    let new = fresh(chase.new, now, old);
+    onward(chase, marks, new)
+}
+
+// A fault ends it.
+fn halt(chase: Chase, reply: Reply) -> Chase
+    ensures { λ r. ⌜ r ≡ haltOf chase reply ⌝ }
+{
+    let marks = chase.marks;
+    Chase {
+        reply,
+        assumptions: chase.assumptions,
+        top: chase.top,
+        count: chase.count,
+        at: chase.count,
+        stage: chase.stage,
+        new: chase.new,
+        marks,
+    }
+}
+
+// The next item.
+fn step(chase: Chase, item: Handed) -> Chase
+    requires { ⌜ Going chase ⌝ }
+    ensures { λ r. ⌜ r ≡ stepOf chase item ⌝ }
+{
+    let reply = fault(chase.top, item);
+    if replies::number(reply) != 0 {
+        return halt(chase, reply);
+    }
+    follow(chase, item)
+}
+
+// A refusal of what is asked.
+fn refused(what: What, reply: Reply) -> Told
+    ensures { λ r. ⌜ r ≡ refusedAs what reply ⌝ }
+{
+    match what {
+        What::Number(_) => Told::Word(Plain::Refused(reply)),
+        What::Context => Told::Filled(reply),
+        What::Stages => Told::Lines(Written::Refused(reply)),
+    }
+}
+
+// The word for n; 4 where n is above the highest number.
+fn word(marks: [u8; 129], top: u8, n: u32) -> Plain
+    requires { ⌜ top ≤ 128 ⌝ }
+    ensures { λ r. ⌜ r ≡ wordIn marks top n ⌝ }
+{
+    let highest = top as u32;
+    if highest < n {
+        return Plain::Refused(Reply::Number);
+    }
+    plain::read(marks, n as usize)
+}
+
+// The bytes of all numbers; 15 where there are too few.
+fn fill(marks: [u8; 129], top: u8, out: &mut [u8]) -> Reply
+    requires { ⌜ top ≤ 128 ⌝ }
+    ensures { λ r. ⌜ answered (Filled r) (now (out .exit)) ≡ filledIn marks top (now (out .entry)) ⌝ }
+{
+    let end = top as usize + 1;
+    if out.len() < end {
+        return Reply::Short;
+    }
+    plain::fill(marks, end, out);
+    Reply::Done
+}
+
+// What the marks say to what is asked.
+fn tell(marks: [u8; 129], top: u8, what: What, out: &mut [u8]) -> Told
+    requires { ⌜ top ≤ 128 ⌝ }
+    ensures { λ r. ⌜ answered r (now (out .exit)) ≡ toldIn marks top what (now (out .entry)) ⌝ }
+{
+    match what {
+        What::Number(n) => Told::Word(word(marks, top, n)),
+        What::Context => Told::Filled(fill(marks, top, out)),
+        What::Stages => Told::Lines(stagetext::put(marks, top + 1, out)),
+    }
+}
+
+// The answer when the list has been followed: a fault, 4 for the set, or what the marks say.
+fn finish(chase: Chase, ask: Asked, out: &mut [u8]) -> Told
+    requires { ⌜ (chase .assumptions ≤ 32) × (chase .top ≤ 128) ⌝ }
+    ensures { λ r. ⌜ answered r (now (out .exit)) ≡ finishOf chase ask (now (out .entry)) ⌝ }
+{
+    let reply = chase.reply;
+    let what = ask.what;
+    if replies::number(reply) != 0 {
+        return refused(what, reply);
+    }
+    if sets::low(ask.set, chase.assumptions) {
+        let marks = chase.marks;
+        return tell(marks, chase.top, what, out);
+    }
+    refused(what, Reply::Number)
+}
+
+// What is asked of a bare list, any number of items: the items judged in order, then followed stage by stage.
+pub fn ask(asked: Asked, list: &[Handed], out: &mut [u8]) -> Told
+    ensures { λ r. ⌜ Answers asked (now (list .entry)) (now (out .entry)) r (now (out .exit)) ⌝ }
+{
+    let mut chase = begin(list.len(), asked);
+    while chase.at < list.len() {
+        chase = step(chase, list[chase.at]);
+    }
+    finish(chase, asked, out)
+}
+
+// Of the first n of a list by value: a caller of this one takes no slice of items.
+pub fn ask_some(asked: Asked, list: [Handed; 256], n: usize, out: &mut [u8]) -> Told
+    requires { ⌜ n ≤ 256 ⌝ }
+    ensures { λ r. ⌜ Answers asked (take n list) (now (out .entry)) r (now (out .exit)) ⌝ }
+{
+    ask(asked, &list[..n], out)
+}
