@@ -1,12 +1,12 @@
 -- Question, context and member, test by test. Assumes nothing.
-use mathlib.Core.Bool.{Bool, false, true}
+use mathlib.Core.Bool.{Bool, _&&_, false, true}
 use mathlib.Core.List.{List, [], _++_, _∷_, append-assoc}
 use mathlib.Core.Option.{Option, none, some}
 use mathlib.Core.Path.{_∙_, _≡_, ap, ap₂, refl, sym}
 use Prim.Native.Nat.{_*_, _+_, _-_, _<_, _≤_, suc, zero, ℕ}
 use native.Mathlib.Numerals.{add-one}
 use native.Mathlib.Omega.{arith}
-use lib.Dec.{ltb}
+use lib.Dec.{eqb, ltb}
 use lib.ListN.{drop, getD, length, length-drop, length-take, set, take}
 use lib.Seq.{drop-cons, getD-drop, getD-take, length-take-le, set-at}
 use borrow.Author.Tests.{le-leb, le-ltb, lt-leb, lt-ltb}
@@ -17,16 +17,19 @@ use Rattle.asking.specs.declared.Asked.{Asked}
 use Rattle.asking.specs.declared.Found.{Found}
 use Rattle.asking.specs.declared.Found.the-variants.{Is, Not}
 use Rattle.asking.specs.declared.Shown.{Shown}
+use Rattle.following.proofs.Places.{all-told}
+use Rattle.following.specs.Marks.{allMarks}
+use Rattle.following.specs.Promised.{Followable}
 use Rattle.labels.specs.Promised.{firstWithin}
 use Rattle.replies.specs.declared.Reply.the-variants.{Done, Number, Place, Shape, Short}
 use Rattle.shape.proofs.Elim.{label-few, lists-elim}
 use Rattle.stages.specs.declared.Lists.{Lists}
 use Rattle.store.proofs.Shapes.{shape-elim}
 use Rattle.store.specs.Calls.{answer}
-use Rattle.store.specs.Reading.{labelHeld, nogoodsHeld}
+use Rattle.store.specs.Reading.{contradictedIn, labelHeld, nogoodsHeld, unlabelled}
 use Rattle.store.specs.Shape.{rightShape, top}
 use Rattle.store.specs.declared.Store.{Store}
-use Rattle.theory.proofs.Places.{length-table}
+use Rattle.theory.proofs.Places.{getD-table, is-table, length-table}
 use Rattle.theory.specs.Cases.{from}
 use Rattle.theory.specs.Lists.{choose}
 use Rattle.theory.specs.Places.{table}
@@ -154,6 +157,17 @@ fill-more f out i v h e =
     ∙ sym (append-assoc (table i f) (f i ∷ []) (drop (i + 1) out))
     ∙ ap (λ (l : List ℕ). l ++ drop (i + 1) out) (sym (table-push i f))
 
+-- the byte of n, by the marks of what follows from all assumptions together
+abbrev pub byteAt : Lists → List ℕ → ℕ → ℕ → ℕ
+byteAt l marks E n = byteOf (unlabelled l n && eqb (getD marks n 0) 0) (standing l n E)
+
+pub bytes-told : (s : Store) (marks : List ℕ) (E end : ℕ) → marks ≡ allMarks (s .held) → end ≤ 129
+    → table end (byteAt (s .lists) marks E) ≡ table end (λ n. byteOf (contradictedIn s n) (standing (s .lists) n E))
+bytes-told s marks E end e h =
+    is-table (table end (byteAt (s .lists) marks E)) end (λ n. byteOf (contradictedIn s n) (standing (s .lists) n E)) 0 (length-table end (byteAt (s .lists) marks E))
+    (λ n p. getD-table end (byteAt (s .lists) marks E) n 0 p
+    ∙ ap (λ (c : Bool). byteOf (unlabelled (s .lists) n && c) (standing (s .lists) n E)) (all-told (s .held) n (getD marks n 0) (omega arith) (ap (λ (m : List ℕ). getD m n 0) e)))
+
 -- ---- the calls
 module _ (s : Store) where
   pub shape-room : rightShape s ≡ true → length (s .lists .nogoods) ≡ 32 → Room (s .lists)
@@ -164,6 +178,9 @@ module _ (s : Store) where
 
   pub few : rightShape s ≡ true → (s .held .assumptions ≤ 32) × (s .held .claims ≤ 96)
   few t = let f = shape-elim s t .0 in (f .few, f .claims)
+
+  pub followable : rightShape s ≡ true → Followable (s .held)
+  followable t = let f = shape-elim s t .0 in record { right = f .right; low = omega (arith, f .few, f .claims) }
 
   abbrev asked : Answer → Asked
   asked a = record { answer = a; store = s }
@@ -216,6 +233,6 @@ module _ (s : Store) where
     context-short h r k = rw (h, r, lt-ltb (length out) (top (s .held) + 1) k)
 
     pub context-done : rightShape s ≡ true → inRange (s .held .assumptions) E ≡ true → top (s .held) + 1 ≤ length out
-        → (after : List ℕ) → after ≡ table (top (s .held) + 1) (λ n. byteOf (standing (s .lists) n E)) ++ drop (top (s .held) + 1) out → left (answer Done s) after ≡ goal
+        → (after : List ℕ) → after ≡ table (top (s .held) + 1) (λ n. byteOf (contradictedIn s n) (standing (s .lists) n E)) ++ drop (top (s .held) + 1) out → left (answer Done s) after ≡ goal
     unfolding contextReply contextBytes contextOf
     context-done h r k after e = rw (h, r, le-ltb (length out) (top (s .held) + 1) k) (ap (left (answer Done s)) e)

@@ -1,5 +1,5 @@
 -- Question, context and member, as document 01 has them, read from a store's lists as they stand. Assumes nothing.
-use mathlib.Core.Bool.{_||_, not}
+use mathlib.Core.Bool.{Bool, _||_, not}
 use mathlib.Core.List.{List, [], _++_, _∷_}
 use mathlib.Core.Option.{Option, none, some}
 use mathlib.Core.Path.{_≡_}
@@ -17,7 +17,7 @@ use Rattle.replies.specs.declared.Reply.{Reply}
 use Rattle.replies.specs.declared.Reply.the-variants.{Done, Number, Place, Shape, Short}
 use Rattle.stages.specs.declared.Lists.{Lists}
 use Rattle.store.specs.Calls.{answer, isDone}
-use Rattle.store.specs.Reading.{labelHeld, listHeld, nogoodsHeld}
+use Rattle.store.specs.Reading.{contradictedIn, labelHeld, listHeld, nogoodsHeld}
 use Rattle.store.specs.Shape.{rightShape, top}
 use Rattle.store.specs.declared.Outcome.{Outcome}
 use Rattle.store.specs.declared.Store.{Store}
@@ -59,16 +59,16 @@ Questioned s n E r = r ≡ record { answer = questionOf s n E; store = s }
 
 -- ---- context
 
--- 2 if E is inconsistent, else 1 if n is supported, else 0
-abbrev pub byteOf : Answer → ℕ
-byteOf (Inconsistent G) = 2
-byteOf (Supported F) = 1
-byteOf Unsupported = 0
-byteOf (Refused r) = 0
+-- 2 if E is inconsistent, else 1 if n is supported, else 3 where c tells that the line would say `contradicted`, else 0
+abbrev pub byteOf : Bool → Answer → ℕ
+byteOf c (Inconsistent G) = 2
+byteOf c (Supported F) = 1
+byteOf c Unsupported = choose c 3 0
+byteOf c (Refused r) = 0
 
 -- the bytes of 0 to A + M
 unfoldable pub contextOf : Store → ℕ → List ℕ
-contextOf s E = table (top (s .held) + 1) (λ n. byteOf (standing (s .lists) n E))
+contextOf s E = table (top (s .held) + 1) (λ n. byteOf (contradictedIn s n) (standing (s .lists) n E))
 
 -- the reply, room being the length of the lent bytes
 unfoldable pub contextReply : Store → ℕ → ℕ → Reply

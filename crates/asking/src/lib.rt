@@ -3,11 +3,15 @@ use replies::Reply;
 use stages::Lists;
 use store::Outcome;
 use store::Store;
+ghost use mathlib.Core.Bool.{_&&_};
 ghost use mathlib.Core.List.{_++_};
 ghost use mathlib.Core.Path.{_≡_};
 ghost use Prim.Native.Nat.{_+_, _≤_, _<_};
 ghost use lib.ListN.{length, take, drop};
 ghost use Rattle.labels.specs.Promised.{firstWithin};
+ghost use Rattle.following.specs.Marks.{allMarks};
+ghost use Rattle.store.specs.Reading.{contradictedIn, unlabelled};
+ghost use Rattle.theory.specs.Lists.{choose};
 ghost use Rattle.theory.specs.Places.{table};
 ghost use Rattle.asking.specs.Asking.{Room, standing, byteOf, memberAt, Questioned, Contexted, Membered};
 
@@ -96,28 +100,46 @@ pub fn question(store: Store, n: u32, e: u32) -> Asked
     }
 }
 
+// The byte of n where a consistent set does not support it; follows tells whether n follows from all assumptions together.
+fn neither(lists: Lists, n: usize, follows: bool) -> u8
+    requires { ⌜ n ≤ 128 ⌝ }
+    ensures { λ r. ⌜ r ≡ choose (unlabelled lists n && follows) 3 0 ⌝ }
+{
+    if n == 0 {
+        return 0;
+    }
+    if 0 < lists.sizes[n - 1] {
+        return 0;
+    }
+    if follows {
+        return 3;
+    }
+    0
+}
+
 // The byte of n.
-fn byte(lists: Lists, n: usize, e: u32) -> u8
+fn byte(lists: Lists, n: usize, e: u32, follows: bool) -> u8
     requires { ⌜ Room lists × (n ≤ 128) ⌝ }
-    ensures { λ r. ⌜ r ≡ byteOf (standing lists n e) ⌝ }
+    ensures { λ r. ⌜ r ≡ byteOf (unlabelled lists n && follows) (standing lists n e) ⌝ }
 {
     let told = stands(lists, n, e);
     match told {
         Answer::Inconsistent(_) => 2,
         Answer::Supported(_) => 1,
-        Answer::Unsupported => 0,
+        Answer::Unsupported => neither(lists, n, follows),
         Answer::Refused(_) => 0,
     }
 }
 
-// The bytes of the numbers below the end.
-fn fill(lists: Lists, e: u32, end: usize, out: &mut [u8])
-    requires { ⌜ Room lists × (end ≤ 129) × (end ≤ length (now out)) ⌝ }
-    ensures { λ _. ⌜ now (out .exit) ≡ table end (λ n. byteOf (standing lists n e)) ++ drop end (now (out .entry)) ⌝ }
+// The bytes of the numbers below the end, by the marks of what follows from all assumptions together.
+fn fill(store: Store, marks: &[u8], e: u32, end: usize, out: &mut [u8])
+    requires { ⌜ Room (store .lists) × (now marks ≡ allMarks (store .held)) × (end ≤ 129) × (end ≤ length (now out)) ⌝ }
+    ensures { λ _. ⌜ now (out .exit) ≡ table end (λ n. byteOf (contradictedIn store n) (standing (store .lists) n e)) ++ drop end (now (out .entry)) ⌝ }
 {
+    let lists = store.lists;
     let mut i = 0;
     while i < end {
-        out[i] = byte(lists, i, e);
+        out[i] = byte(lists, i, e, marks[i] == 0);
         i += 1;
     }
 }
@@ -137,8 +159,8 @@ pub fn context(store: Store, e: u32, out: &mut [u8]) -> Outcome
                     store,
                 };
             }
-            let lists = store.lists;
-            fill(lists, e, end, out);
+            let marks = following::from_all(held);
+            fill(store, &marks, e, end, out);
             return Outcome {
                 reply: Reply::Done,
                 store,

@@ -20,9 +20,9 @@ use Rattle.theory.specs.Sets.{among, together}
 abbrev mark : ℕ → ℕ → ℕ
 mark k n = choose (among (together k) n) 0 255
 
-pub sown-long : (E : ℕ) → length (sown E) ≡ 129
+pub marks-long : (p : ℕ → Bool) → length (marksOf p) ≡ 129
 unfolding marksOf
-sown-long E = length-table 129 (λ n. choose (among E n) 0 255)
+marks-long p = length-table 129 (λ n. choose (p n) 0 255)
 
 none-among : (n : ℕ) → among (together 0) n ≡ false
 unfolding among
@@ -49,13 +49,13 @@ module _ (k : ℕ) (low : k < 128) where
   pub sown-next : set (sown (together k)) (k + 1) 0 ≡ sown (together (k + 1))
   unfolding marksOf
   sown-next =
-      is-table (set (sown (together k)) (k + 1) 0) 129 (mark (k + 1)) 255 (length-set (sown (together k)) (k + 1) 0 ∙ sown-long (together k)) at
+      is-table (set (sown (together k)) (k + 1) 0) 129 (mark (k + 1)) 255 (length-set (sown (together k)) (k + 1) 0 ∙ marks-long (among (together k))) at
     where
       at : (n : ℕ) → n < 129 → getD (set (sown (together k)) (k + 1) 0) n 255 ≡ mark (k + 1) n
       at n p = ⊎-elim
           (λ (e : eqb n (k + 1) ≡ true).
           let q : n ≡ k + 1 = eqb-true n (k + 1) e in
-          ap (λ (x : ℕ). getD (set (sown (together k)) (k + 1) 0) x 255) q ∙ getD-set-same (sown (together k)) (k + 1) 0 255 (omega (arith, sown-long (together k))) ∙ sym (ap (mark (k + 1)) q ∙ own))
+          ap (λ (x : ℕ). getD (set (sown (together k)) (k + 1) 0) x 255) q ∙ getD-set-same (sown (together k)) (k + 1) 0 255 (omega (arith, marks-long (among (together k)))) ∙ sym (ap (mark (k + 1)) q ∙ own))
           (λ (e : eqb n (k + 1) ≡ false).
           getD-set-other (sown (together k)) (k + 1) n 0 255 (eqb-false n (k + 1) e) ∙ getD-table 129 (mark k) n 255 p ∙ ap (λ (b : Bool). choose b 0 255) (other n (eqb-false n (k + 1) e)))
           (either (eqb n (k + 1)))

@@ -36,7 +36,7 @@ module _ (s : Store) (out : List ℕ) where
     unfolding lineOf
     line-number e h = hands s (rw (e, lt-ltb (top (s .held)) n h))
 
-    pub line-rest : rightShape s ≡ true → n ≤ top (s .held) → {t : List ℕ} → t ≡ lineText (s .lists) n → {r : Written} {after : List ℕ} → Leaves (fitted t out) r after → Lined s n out (record { answer = r; store = s }) after
+    pub line-rest : rightShape s ≡ true → n ≤ top (s .held) → {t : List ℕ} → t ≡ lineText s n → {r : Written} {after : List ℕ} → Leaves (fitted t out) r after → Lined s n out (record { answer = r; store = s }) after
     unfolding lineOf
     line-rest e h f l = hands s (l ∙ ap (λ (x : List ℕ). fitted x out) f ∙ rw (e, le-ltb (top (s .held)) n h))
 

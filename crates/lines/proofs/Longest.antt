@@ -1,5 +1,5 @@
 -- How long a line can be, and that no call refuses lent bytes as long as the longest. Assumes nothing.
-use mathlib.Core.Bool.{true}
+use mathlib.Core.Bool.{Bool, false, true}
 use mathlib.Core.List.{List, [], _∷_}
 use mathlib.Core.Path.{_≡_, refl}
 use Prim.Native.Nat.{_*_, _<_, _^_, _≤_, suc, zero, ℕ}
@@ -8,12 +8,12 @@ use lib.Dec.{lit<}
 use lib.ListN.{drop, getD, length, length-take}
 use borrow.Author.Tests.{le-ltb}
 use Rattle.lines.proofs.Bounds.{bounded}
-use Rattle.lines.specs.Lines.{caseText, fitted, headingOf, lineOf, lineText, longest, refusalText, wordOf}
+use Rattle.lines.specs.Lines.{caseText, fitted, headingOf, lineOf, lineText, lineWith, longest, refusalText, wordOf}
 use Rattle.lines.specs.declared.Written.the-variants.{Length}
 use Rattle.replies.proofs.Laws.{two-digits}
 use Rattle.replies.specs.Replies.{numberOf}
 use Rattle.replies.specs.declared.Reply.{Reply}
-use Rattle.store.specs.Reading.{listHeld}
+use Rattle.store.specs.Reading.{heldFromAll, listHeld}
 use Rattle.store.specs.Shape.{rightShape, top}
 use Rattle.store.specs.declared.Store.{Store}
 use Rattle.text.proofs.Digits.{digits-most}
@@ -22,27 +22,28 @@ use Rattle.text.specs.Texts.{word}
 
 -- ---- how long a line can be
 
-word-length : (n : ℕ) (l : List ℕ) → length (wordOf n l) ≤ 12
+pub word-length : (n : ℕ) (l : List ℕ) (c : Bool) → length (wordOf n l c) ≤ 13
 unfolding wordOf word
-word-length zero l = omega arith
-word-length (suc i) [] = omega arith
-word-length (suc i) (E ∷ l) = omega arith
+word-length zero l c = omega arith
+word-length (suc i) [] true = omega arith
+word-length (suc i) [] false = omega arith
+word-length (suc i) (E ∷ l) c = omega arith
 
-nogood-length : (l : List ℕ) → length (wordOf 0 l) ≡ 7
+nogood-length : (l : List ℕ) (c : Bool) → length (wordOf 0 l c) ≡ 7
 unfolding wordOf word
-nogood-length l = refl
+nogood-length l c = refl
 
 -- `0 nogood` and 32 sets, or a number of three digits, a word and 12 sets
-pub line-length : (s : Store) (n : ℕ) → rightShape s ≡ true → length (s .lists .nogoods) ≤ 32 → n ≤ 128 → length (lineText (s .lists) n) ≤ longest
-unfolding lineText
-line-length s zero t e h =
+pub line-length : (s : Store) (n : ℕ) (c : Bool) → rightShape s ≡ true → length (s .lists .nogoods) ≤ 32 → n ≤ 128 → length (lineWith (s .lists) n c) ≤ longest
+unfolding lineWith
+line-length s zero c t e h =
     let l : List ℕ = listHeld (s .lists) 0 in
     let b = bounded s t in
-    omega (arith, row-length 0 (wordOf 0 l) l, digits-most 0 0 (lit< tt), nogood-length l, length-take (s .lists .count) (s .lists .nogoods))
-line-length s (suc i) t e h =
+    omega (arith, row-length 0 (wordOf 0 l c) l, digits-most 0 0 (lit< tt), nogood-length l c, length-take (s .lists .count) (s .lists .nogoods))
+line-length s (suc i) c t e h =
     let l : List ℕ = listHeld (s .lists) (suc i) in
     let k : suc i < 1000 = omega arith in
-    omega (arith, row-length (suc i) (wordOf (suc i) l) l, digits-most 2 (suc i) k, word-length (suc i) l, bounded s t .sizes i h, length-take (getD (s .lists .sizes) i 0) (drop (12 * i) (s .lists .members)))
+    omega (arith, row-length (suc i) (wordOf (suc i) l c) l, digits-most 2 (suc i) k, word-length (suc i) l c, bounded s t .sizes i h, length-take (getD (s .lists .sizes) i 0) (drop (12 * i) (s .lists .members)))
 
 pub case-length : (s : Store) → rightShape s ≡ true → length (caseText s) ≤ 19
 unfolding caseText
@@ -61,13 +62,13 @@ unfolding fitted
 fits t out h = rw (le-ltb (length out) (length t) h)
 
 module _ (s : Store) (right : rightShape s ≡ true) (out : List ℕ) (room : longest ≤ length out) where
-  pub line-fits : length (s .lists .nogoods) ≤ 32 → (n : ℕ) → n ≤ top (s .held) → lineOf s n out .answer ≡ Length (length (lineText (s .lists) n))
-  unfolding lineOf
+  pub line-fits : length (s .lists .nogoods) ≤ 32 → (n : ℕ) → n ≤ top (s .held) → lineOf s n out .answer ≡ Length (length (lineText s n))
+  unfolding lineOf lineText
   line-fits e n h =
       let b = bounded s right in
       let l : n ≤ 128 = omega arith in
-      let k : length (lineText (s .lists) n) ≤ longest = line-length s n right e l in
-      rw (right, le-ltb (top (s .held)) n h) (fits (lineText (s .lists) n) out (omega arith))
+      let k : length (lineText s n) ≤ longest = line-length s n (heldFromAll s n) right e l in
+      rw (right, le-ltb (top (s .held)) n h) (fits (lineText s n) out (omega arith))
 
   pub case-fits : headingOf s out .answer ≡ Length (length (caseText s))
   unfolding headingOf

@@ -1,5 +1,5 @@
 -- The lines of the listing, as document 01 has them, and the calls that write them into lent bytes. Assumes nothing.
-use mathlib.Core.Bool.{not}
+use mathlib.Core.Bool.{Bool, not}
 use mathlib.Core.List.{List, [], _++_, _∷_}
 use mathlib.Core.Option.{Option, none, some}
 use mathlib.Core.Path.{_≡_}
@@ -13,7 +13,7 @@ use Rattle.replies.specs.Replies.{numberOf}
 use Rattle.replies.specs.declared.Reply.{Reply}
 use Rattle.replies.specs.declared.Reply.the-variants.{Number, Shape, Short}
 use Rattle.stages.specs.declared.Lists.{Lists}
-use Rattle.store.specs.Reading.{listHeld}
+use Rattle.store.specs.Reading.{heldFromAll, listHeld}
 use Rattle.store.specs.Shape.{rightShape, top}
 use Rattle.store.specs.declared.Store.{Store}
 use Rattle.text.specs.Texts.{heading, refusal, row, word}
@@ -21,15 +21,19 @@ use Rattle.theory.specs.Lists.{choose}
 
 -- ---- the lines
 
--- the word of n, whose list is l: `nogood` for 0; for the others `supported`, or `unsupported` where the label is empty
-unfoldable pub wordOf : ℕ → List ℕ → List ℕ
-wordOf zero l = word " nogood"
-wordOf (suc i) [] = word " unsupported"
-wordOf (suc i) (E ∷ l) = word " supported"
+-- the word of n, whose list is l, c telling whether n follows from all assumptions together: `nogood` for 0; for the others `supported`; where the label is empty `contradicted` or `unsupported`
+unfoldable pub wordOf : ℕ → List ℕ → Bool → List ℕ
+wordOf zero l c = word " nogood"
+wordOf (suc i) [] c = choose c (word " contradicted") (word " unsupported")
+wordOf (suc i) (E ∷ l) c = word " supported"
 
 -- the number, its word and the members of its list
-unfoldable pub lineText : Lists → ℕ → List ℕ
-lineText t n = row 32 n (wordOf n (listHeld t n)) (listHeld t n)
+unfoldable pub lineWith : Lists → ℕ → Bool → List ℕ
+lineWith t n c = row 32 n (wordOf n (listHeld t n) c) (listHeld t n)
+
+-- .. by the justifications held
+unfoldable pub lineText : Store → ℕ → List ℕ
+lineText s n = lineWith (s .lists) n (heldFromAll s n)
 
 -- line one: `case`, A, M, distinct justifications held, depth
 unfoldable pub caseText : Store → List ℕ
@@ -65,7 +69,7 @@ unfoldable pub lineOf : Store → ℕ → List ℕ → Wrote
 lineOf s n out =
     choose (not (rightShape s)) (kept Shape out)
     (choose (ltb (top (s .held)) n) (kept Number out)
-    (fitted (lineText (s .lists) n) out))
+    (fitted (lineText s n) out))
 
 -- the first line: refusals 2, 15
 unfoldable pub headingOf : Store → List ℕ → Wrote

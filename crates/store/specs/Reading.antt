@@ -26,7 +26,11 @@ listHeld l (suc i) = labelHeld l (suc i)
 abbrev pub heldFromAll : Store → ℕ → Bool
 heldFromAll s n = fromAll (s .held .assumptions) (saidBy (s .held)) n
 
--- the label of n, from 1 on, is empty, and n follows from all assumptions together by the justifications held
+-- the label of n, from 1 on, is empty
+abbrev pub unlabelled : Lists → ℕ → Bool
+unlabelled l zero = false
+unlabelled l (suc i) = eqb (length (labelHeld l (suc i))) 0
+
+-- .. and n follows from all assumptions together by the justifications held
 abbrev pub contradictedIn : Store → ℕ → Bool
-contradictedIn s zero = false
-contradictedIn s (suc i) = eqb (length (labelHeld (s .lists) (suc i))) 0 && heldFromAll s (suc i)
+contradictedIn s n = unlabelled (s .lists) n && heldFromAll s n

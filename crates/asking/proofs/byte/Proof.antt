@@ -1,11 +1,13 @@
+-- `asking::byte` meets its contract. Assumes nothing.
+use mathlib.Core.Bool.{_&&_}
 use mathlib.Core.Path.{_∙_, ap, sym}
+use Prim.Native.Nat.{ℕ}
 use borrow.Author.Needs.{needs}
 use Rattle.asking.specs.Asking.{byteOf}
+use Rattle.asking.specs.declared.Answer.{Answer}
+use Rattle.store.specs.Reading.{unlabelled}
 use Rattle.asking.proofs.byte.Statement.{statement}
 use Rattle.asking.proofs.byte.Tie as tie
-use Rattle.asking.proofs.byte.Reads as reads
-use Rattle.asking.proofs.byte.Lts as lts
-use Rattle.asking.proofs.stands.Reads as stands-reads
 
 stands-requires : tie.Need-stands-requires
 stands-requires c κs = search needs
@@ -22,17 +24,24 @@ enum-told-3 c = search needs
 enum-told-4 : tie.Need-enum-told-4
 enum-told-4 c = search needs
 
+-- the byte of what `stands` answered
+abbrev told : tie.Start → Answer → ℕ
+told s a = byteOf (unlabelled (s .args .lists) (s .args .n) && s .args .follows) a
+
+neither-requires : tie.Need-neither-requires
+neither-requires c κs = search needs
+
 returns : tie.Need-returns
-returns c = ap byteOf (sym (c .enum-told .given .1) ∙ c .before .before .stands .ensures)
+returns c = ap (told (c .before .before .before)) (sym (c .enum-told .given .1) ∙ c .before .before .stands .ensures)
 
 returns-2 : tie.Need-returns-2
-returns-2 c = ap byteOf (sym (c .enum-told2 .given .1) ∙ c .before .before .stands .ensures)
+returns-2 c = ap (told (c .before .before .before)) (sym (c .enum-told2 .given .1) ∙ c .before .before .stands .ensures)
 
 returns-3 : tie.Need-returns-3
-returns-3 c = ap byteOf (sym (c .enum-told3 .given .1) ∙ c .before .before .stands .ensures)
+returns-3 c = c .neither .ensures ∙ ap (told (c .before .before .before .before)) (sym (c .before .enum-told3 .given .1) ∙ c .before .before .before .stands .ensures)
 
 returns-4 : tie.Need-returns-4
-returns-4 c = ap byteOf (sym (c .enum-told4 .given .1) ∙ c .before .before .stands .ensures)
+returns-4 c = ap (told (c .before .before .before)) (sym (c .enum-told4 .given .1) ∙ c .before .before .stands .ensures)
 
 pub byte-spec : {M : Type 1} → statement M
 byte-spec =
@@ -42,6 +51,7 @@ byte-spec =
     enum-told
     enum-told-2
     enum-told-3
+    neither-requires
     enum-told-4
     returns
     returns-2

@@ -1,14 +1,14 @@
-use mathlib.Core.Path.{_∙_, sym}
+-- `asking::context` meets its contract. Assumes nothing.
+use mathlib.Core.Path.{_∙_, ap, sym}
 use native.Mathlib.Omega.{arith}
+use lib.ListN.{length}
 use borrow.Author.Needs.{needs}
-use Rattle.asking.proofs.Laws.{context-done, context-set, context-shape, context-short, few, shape-room}
+use Rattle.asking.proofs.Laws.{context-done, context-set, context-shape, context-short, few, followable, shape-room}
+use Rattle.following.proofs.Sowing.{marks-long}
+use Rattle.rules.specs.Held.{saidBy}
+use Rattle.theory.specs.Demands.{fromAll}
 use Rattle.asking.proofs.context.Statement.{statement}
 use Rattle.asking.proofs.context.Tie as tie
-use Rattle.asking.proofs.context.Reads as reads
-use Rattle.asking.proofs.context.Lts as lts
-use Rattle.asking.proofs.fill.Reads as fill-reads
-use Rattle.sets.proofs.low.Reads as low-reads
-use Rattle.store.proofs.Store.shape.Reads as shape-reads
 
 shape-requires : tie.Need-shape-requires
 shape-requires c κs = search needs
@@ -30,18 +30,25 @@ returns c =
     let a = c .before .before .before .before .before .before .before .before .args in
     context-short (a .store) (a .e) (a .out .now) (sym (c .before .before .before .before .before .before .shape .ensures) ∙ c .before .before .before .before .before .if1 .taken) (sym (c .before .before .before .low .ensures) ∙ c .before .before .if2 .taken) (c .if3 .taken)
 
+from-all-requires : tie.Need-from-all-requires
+from-all-requires c κs = followable (c .before .before .before .before .before .before .before .before .args .store) (sym (c .before .before .before .before .before .before .shape .ensures) ∙ c .before .before .before .before .before .if1 .taken)
+
+slice-aggregate-fill : tie.Need-slice-aggregate-fill
+slice-aggregate-fill c = sym (ap length (c .before .from-all .ensures) ∙ marks-long (fromAll (c .before .before .before .before .before .before .before .before .before .before .args .store .held .assumptions) (saidBy (c .before .before .before .before .before .before .before .before .before .before .args .store .held))))
+
 fill-requires : tie.Need-fill-requires
 fill-requires c κs =
-    let t = sym (c .before .before .before .before .before .before .before .before .shape .ensures) ∙ c .before .before .before .before .before .before .before .if1 .taken in
-    (shape-room (c .before .before .before .before .before .before .before .before .before .before .args .store) t (search needs), omega (arith, few (c .before .before .before .before .before .before .before .before .before .before .args .store) t), c .before .before .if3 .left)
+    let s = c .before .before .before .before .before .before .before .before .before .before .before in
+    let t = sym (c .before .before .before .before .before .before .before .before .before .shape .ensures) ∙ c .before .before .before .before .before .before .before .before .if1 .taken in
+    (shape-room (s .args .store) t (search needs), c .before .before .from-all .ensures, omega (arith, few (s .args .store) t), c .before .before .before .if3 .left)
 
 same-length : tie.Need-same-length
 same-length c = search needs
 
 returns-2 : tie.Need-returns-2
 returns-2 c =
-    let a = c .before .before .before .before .before .before .before .before .before .before .before .before .before .args in
-    context-done (a .store) (a .e) (a .out .now) (sym (c .before .before .before .before .before .before .before .before .before .before .before .shape .ensures) ∙ c .before .before .before .before .before .before .before .before .before .before .if1 .taken) (sym (c .before .before .before .before .before .before .before .before .low .ensures) ∙ c .before .before .before .before .before .before .before .if2 .taken) (c .before .before .before .before .before .if3 .left) _ (c .before .before .fill .ensures)
+    let a = c .before .before .before .before .before .before .before .before .before .before .before .before .before .before .args in
+    context-done (a .store) (a .e) (a .out .now) (sym (c .before .before .before .before .before .before .before .before .before .before .before .before .shape .ensures) ∙ c .before .before .before .before .before .before .before .before .before .before .before .if1 .taken) (sym (c .before .before .before .before .before .before .before .before .before .low .ensures) ∙ c .before .before .before .before .before .before .before .before .if2 .taken) (c .before .before .before .before .before .before .if3 .left) _ (c .before .before .fill .ensures)
 
 returns-3 : tie.Need-returns-3
 returns-3 c =
@@ -61,6 +68,8 @@ context-spec =
     cast-end
     add-end-2
     returns
+    from-all-requires
+    slice-aggregate-fill
     fill-requires
     same-length
     returns-2

@@ -5,9 +5,9 @@ use Prim.Native.Nat.{_+_, _-_, _≤_, ℕ}
 use native.Mathlib.Omega.{arith}
 use borrow.Author.Needs.{needs}
 use lib.ListN.{length, set}
-use Rattle.following.proofs.Sowing.{sown-long, sown-next, sown-none}
+use Rattle.following.proofs.Sowing.{marks-long, sown-next, sown-none}
 use Rattle.following.specs.Marks.{sown}
-use Rattle.theory.specs.Sets.{together}
+use Rattle.theory.specs.Sets.{among, together}
 use Rattle.following.proofs.all.Statement.{statement}
 use Rattle.following.proofs.all.Tie as tie
 
@@ -27,7 +27,7 @@ add-n : tie.Need-add-n Inv-loop μ-loop
 add-n c = search needs
 
 array-write-marks : tie.Need-array-write-marks Inv-loop μ-loop
-array-write-marks c = omega (arith, c .loop-test .taken, c .before .before .pre, ap length (c .before .loop .inv .1), sown-long (together (c .before .loop .k)))
+array-write-marks c = omega (arith, c .loop-test .taken, c .before .before .pre, ap length (c .before .loop .inv .1), marks-long (among (together (c .before .loop .k))))
 
 add-k : tie.Need-add-k Inv-loop μ-loop
 add-k c = omega (arith, c .loop-test .taken, c .before .before .pre)

@@ -9,7 +9,8 @@ use lib.Seq.{length-take-le}
 use Rattle.lines.proofs.Bounds.{Bounded, bounded}
 use Rattle.lines.proofs.Longest.{line-length}
 use Rattle.lines.proofs.Fits.{line-number, line-rest, line-shape}
-use Rattle.lines.specs.Lines.{lineText}
+use Rattle.lines.proofs.Rows.{text-told}
+use Rattle.lines.specs.Lines.{lineWith}
 use Rattle.store.specs.Shape.{rightShape}
 use Rattle.text.proofs.Writing.{blank-room, front-room, front-taken}
 use borrow.Author.Needs.{needs}
@@ -40,13 +41,16 @@ cast-if2 c = search needs
 returns-2 : tie.Need-returns-2
 returns-2 c = let s = c .before .before .before .before .before .before in line-number (s .args .store) _ (s .args .n) (right (c .before .before .before)) (c .if2 .taken)
 
+contradicted-requires : tie.Need-contradicted-requires
+contradicted-requires c κs = let k = bound (c .before .before .before) in (right (c .before .before .before), omega arith)
+
 slice-aggregate-lined : tie.Need-slice-aggregate-lined
 slice-aggregate-lined c = search needs
 
 lined-requires : tie.Need-lined-requires
-lined-requires c κs = let s = c .before .before .before .before .before .before .before in let k = bound (c .before .before .before .before) in
+lined-requires c κs = let s = c .before .before .before .before .before .before .before .before in let k = bound (c .before .before .before .before .before) in
     let h : s .args .n ≤ 128 = omega arith in
-    (right (c .before .before .before .before), h, blank-room 2857 (lineText (s .args .store .lists) (s .args .n)) (line-length (s .args .store) (s .args .n) (right (c .before .before .before .before)) (nogoods s) h))
+    (right (c .before .before .before .before .before), h, blank-room 2857 (lineWith (s .args .store .lists) (s .args .n) (c .before .contradicted .result)) (line-length (s .args .store) (s .args .n) _ (right (c .before .before .before .before .before)) (nogoods s) h))
 
 array-share-prefix-text : tie.Need-array-share-prefix-text
 array-share-prefix-text c = front-room (c .before .lined .ensures)
@@ -61,7 +65,9 @@ same-length : tie.Need-same-length
 same-length c = search needs
 
 returns-3 : tie.Need-returns-3
-returns-3 c = let s = c .before .before .before .before .before .before .before .before .before .before .before .before .before .before in line-rest (s .args .store) _ (s .args .n) (right (c .before .before .before .before .before .before .before .before .before .before .before)) (c .before .before .before .before .before .before .before .before .if2 .left) (front-taken (c .before .before .before .before .before .before .lined .ensures)) (c .before .before .fit .ensures)
+returns-3 c =
+    let s = c .before .before .before .before .before .before .before .before .before .before .before .before .before .before .before in
+    line-rest (s .args .store) _ (s .args .n) (right (c .before .before .before .before .before .before .before .before .before .before .before .before)) (c .before .before .before .before .before .before .before .before .before .if2 .left) (front-taken (c .before .before .before .before .before .before .lined .ensures) ∙ text-told (s .args .store) (s .args .n) _ (c .before .before .before .before .before .before .before .before .contradicted .ensures)) (c .before .before .fit .ensures)
 
 pub line-spec : {M : Type 1} → statement M
 line-spec =
@@ -72,6 +78,7 @@ line-spec =
     add-if2
     cast-if2
     returns-2
+    contradicted-requires
     slice-aggregate-lined
     lined-requires
     array-share-prefix-text

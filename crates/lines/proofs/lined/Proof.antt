@@ -6,7 +6,7 @@ use lib.ListN.{getD, length, take}
 use lib.Seq.{length-take-le}
 use Rattle.lines.proofs.Bounds.{bounded}
 use Rattle.lines.proofs.Rows.{labelOf, text-label, text-nogoods}
-use Rattle.lines.specs.Lines.{lineText, wordOf}
+use Rattle.lines.specs.Lines.{lineWith, wordOf}
 use Rattle.text.proofs.Writing.{Left, left-as}
 use Rattle.text.specs.Texts.{row}
 use borrow.Author.Needs.{needs}
@@ -14,12 +14,12 @@ use Rattle.lines.proofs.lined.Statement.{statement}
 use Rattle.lines.proofs.lined.Tie as tie
 
 nogoods : (c : tie.Then1) → let s = c .before .before .before in let l = s .args .store .lists in let n = s .args .n in let out = s .args .out .now in let x = take (l .count) (l .nogoods) in
-    Left (row 32 n (wordOf n x) x) 0 out (lineText l n) 0 out
-nogoods c = let s = c .before .before .before in left-as (text-nogoods (s .args .store .lists) (s .args .n) (c .if1 .taken)) (s .pre .2)
+    Left (row 32 n (wordOf n x (s .args .follows)) x) 0 out (lineWith l n (s .args .follows)) 0 out
+nogoods c = let s = c .before .before .before in left-as (text-nogoods (s .args .store .lists) (s .args .n) (s .args .follows) (c .if1 .taken)) (s .pre .2)
 
 label : (c : tie.Else1) → let s = c .before .before .before in let l = s .args .store .lists in let n = s .args .n in let out = s .args .out .now in let x = labelOf l (n - 1) in
-    Left (row 32 n (wordOf n x) x) 0 out (lineText l n) 0 out
-label c = let s = c .before .before .before in left-as (text-label (s .args .store .lists) (s .args .n) (c .if1 .left)) (s .pre .2)
+    Left (row 32 n (wordOf n x (s .args .follows)) x) 0 out (lineWith l n (s .args .follows)) 0 out
+label c = let s = c .before .before .before in left-as (text-label (s .args .store .lists) (s .args .n) (s .args .follows) (c .if1 .left)) (s .pre .2)
 
 size : (c : tie.Else1) → let s = c .before .before .before in getD (s .args .store .lists .sizes) (s .args .n - 1) 0 ≤ 12
 size c = let s = c .before .before .before in bounded (s .args .store) (s .pre .0) .sizes (s .args .n - 1) (omega arith)
