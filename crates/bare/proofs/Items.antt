@@ -33,6 +33,9 @@ itemAt l i = getD l i noItem
 
 -- ---- faults
 
+pub is-zero : (f : Reply) → numberOf f ≡ 0 → f ≡ Done
+is-zero f e = zero-done f e
+
 pub is-done : (f : Reply) → isDone f ≡ true → f ≡ Done
 is-done f t = zero-done f (eqb-true (numberOf f) 0 t)
 

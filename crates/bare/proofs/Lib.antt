@@ -1,3 +1,4 @@
 pub mod Items
+pub mod Steps
 pub mod Chased
 pub mod Answers
