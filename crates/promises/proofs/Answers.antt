@@ -48,11 +48,12 @@ each-same f g (x ∷ l) h = ap₂ (λ (a b : List ℕ). a ++ b) (h x (here refl)
 -- ---- the answer over what was put in
 
 module _ (A : ℕ) (H : List Justification) (n E : ℕ) where
-  pub byte-says : (a : Answer) → QuestionSays A H n E a → byteOf (contradictedBy A H n) a ≡ byteBy A H E n
-  byte-says (Inconsistent G) h = let c : contradicts H E ≡ true = h .0 in rw c
-  byte-says (Supported F) h = let k : carries H E n ≡ true = h .0 in let c : contradicts H E ≡ false = carries-means H E n .0 k .0 in rw (c, k)
-  byte-says Unsupported h = let c : contradicts H E ≡ false = h .0 in let k : carries H E n ≡ false = h .1 in rw (c, k)
-  byte-says (Refused r) h = absurd h
+  -- c telling whether the line would say `contradicted`
+  pub byte-says : (c : Bool) (a : Answer) → QuestionSays A H n E a → byteOf c a ≡ choose (contradicts H E) 2 (choose (carries H E n) 1 (choose c 3 0))
+  byte-says b (Inconsistent G) h = let c : contradicts H E ≡ true = h .0 in rw c
+  byte-says b (Supported F) h = let k : carries H E n ≡ true = h .0 in let c : contradicts H E ≡ false = carries-means H E n .0 k .0 in rw (c, k)
+  byte-says b Unsupported h = let c : contradicts H E ≡ false = h .0 in let k : carries H E n ≡ false = h .1 in rw (c, k)
+  byte-says b (Refused r) h = absurd h
 
   -- one answer is right
   pub says-one : (a b : Answer) → QuestionSays A H n E a → QuestionSays A H n E b → a ≡ b
@@ -76,7 +77,7 @@ module _ {A M : ℕ} {H : List Justification} {s : Store} (f : Form A M H s) whe
   abbrev bad : List ℕ
   bad = nogoodsHeld (s .lists)
 
-  standing-says : (n E : ℕ) → n ≤ A + M → E < 2 ^ A → QuestionSays A H n E (standing (s .lists) n E)
+  pub standing-says : (n E : ℕ) → n ≤ A + M → E < 2 ^ A → QuestionSays A H n E (standing (s .lists) n E)
   unfolding standing
   standing-says n E l h = go (firstIn bad E) (firstIn (labelHeld (s .lists) n) E) refl refl
     where
@@ -125,7 +126,7 @@ module _ {A M : ℕ} {H : List Justification} {s : Store} (f : Form A M H s) whe
           ∙ sym (ap (λ (b : Bool). not b && fromAll A H (suc i)) (carried-some i h F l e))
 
   pub standing-byte : (n E : ℕ) → n ≤ A + M → E < 2 ^ A → byteOf (contradictedIn s n) (standing (s .lists) n E) ≡ byteBy A H E n
-  standing-byte n E l h = ap (λ (c : Bool). byteOf c (standing (s .lists) n E)) (contradicted-by n l) ∙ byte-says A H n E (standing (s .lists) n E) (standing-says n E l h)
+  standing-byte n E l h = ap (λ (c : Bool). byteOf c (standing (s .lists) n E)) (contradicted-by n l) ∙ byte-says A H n E (contradictedBy A H n) (standing (s .lists) n E) (standing-says n E l h)
 
   tops : top (s .held) ≡ A + M
   tops = ap₂ (λ (a m : ℕ). a + m) (form-a f) (form-m f)
@@ -181,7 +182,7 @@ module _ {A M : ℕ} {H : List Justification} {s : Store} (f : Form A M H s) whe
 
   -- ---- lines
 
-  line-text : (n : ℕ) → n ≤ A + M → lineText s n ≡ textOf A H n (listHeld (s .lists) n)
+  pub line-text : (n : ℕ) → n ≤ A + M → lineText s n ≡ textOf A H n (listHeld (s .lists) n)
   unfolding lineText lineWith
   line-text n h = ap (λ (w : List ℕ). row 32 n w (listHeld (s .lists) n)) (word-by n h)
 
