@@ -92,5 +92,13 @@ fault "reason: the smallest number within" store.rs \
     's/list.iter().copied().find(|&member| inside(member, set))/list.iter().copied().filter(|\&member| inside(member, set)).min()/'
 fault "reason: an inconsistent one names the set asked" store.rs \
     's/return Answer::Inconsistent(nogood);/return Answer::Inconsistent(if nogood == 0 { 0 } else { set });/'
+fault "contradicted: judged at the depth" store.rs \
+    's/n != 0 \&\& self.list(n).is_empty() \&\& self.from_all\[n as usize\]/n != 0 \&\& self.list(n).is_empty() \&\& self.from_all_at_depth()[n as usize]/'
+fault "contradicted: an assumption stays unsupported" store.rs \
+    's/n != 0 \&\& self.list(n).is_empty()/n > self.a \&\& self.list(n).is_empty()/'
+fault "contradicted: 3 also where the label is not empty" store.rs \
+    's/Answer::Unsupported if self.is_contradicted(n) => 3/Answer::Unsupported if n != 0 \&\& self.from_all[n as usize] => 3/'
+fault "contradicted: whatever some rule names" store.rs \
+    's/n != 0 \&\& self.list(n).is_empty() \&\& self.from_all\[n as usize\]/n != 0 \&\& self.list(n).is_empty() \&\& (n <= self.a || self.held.iter().any(|rule| rule.consequent == n))/'
 rm -rf "$work"
 if [ $missed = 0 ]; then echo "all faults seen"; else echo "faults.sh: FAILED"; exit 1; fi

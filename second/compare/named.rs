@@ -22,6 +22,7 @@ pub fn all() -> Vec<Named> {
     cases.extend(withdrawals());
     cases.extend(own_reasons());
     cases.extend(reasons());
+    cases.extend(third_word());
     cases
 }
 
@@ -267,6 +268,41 @@ fn reasons() -> Vec<Named> {
                 .to_string(),
             "done\ndone\ndone\ndone\nsupported {3}\nsupported {4}\nsupported {1,2}\ndone\ndone\ninconsistent {1,2}\ninconsistent {3,4}\n\
              done\ninconsistent {}\ninconsistent {}\n"
+                .to_string(),
+        ),
+    ]
+}
+
+/// `contradicted`: from all assumptions together, in the end, falsity ignored.
+fn third_word() -> Vec<Named> {
+    vec![
+        file(
+            "contradicted above the depth",
+            vec![1, 2, 3, 0, 1, 1, 2, 1, 1, 3, 1, 2],
+            "case 1 2 3 1\n0 nogood {1}\n1 contradicted\n2 contradicted\n3 contradicted\n",
+        ),
+        file(
+            "a premise for falsity",
+            vec![1, 2, 2, 0, 0, 2, 0],
+            "case 1 2 2 1\n0 nogood {}\n1 contradicted\n2 contradicted\n3 unsupported\n",
+        ),
+        file("no rule mentions it", vec![0, 1, 0], "case 0 1 0 0\n0 nogood\n1 unsupported\n"),
+        file(
+            "two claims that support each other",
+            vec![1, 2, 2, 2, 1, 3, 3, 1, 2],
+            "case 1 2 2 0\n0 nogood\n1 supported {1}\n2 unsupported\n3 unsupported\n",
+        ),
+        file(
+            "only from a group that contradicts itself",
+            vec![3, 1, 2, 0, 2, 1, 2, 4, 3, 1, 2, 3],
+            "case 3 1 2 1\n0 nogood {1,2}\n1 supported {1}\n2 supported {2}\n3 supported {3}\n4 contradicted\n",
+        ),
+        script(
+            "contradicted in a context",
+            "open 3 2\nadd 0 1 2\nadd 4 1 2\ncontext\ncontext 1 3\ncontext 2 1\nask 4 1\nline 4\nline 5\nadd 4 3\ncontext 1\nline 4\nwithdraw 0 1 2\nwithdraw 4 3\ncontext 1\n"
+                .to_string(),
+            "done\ndone\ndone\n0 0 0 0 3 0\n0 1 0 1 3 0\n2 2 2 2 2 2\nunsupported\n4 contradicted\n5 unsupported\ndone\n\
+             0 1 0 0 0 0\n4 supported {3}\ndone\ndone\n0 1 0 0 0 0\n"
                 .to_string(),
         ),
     ]

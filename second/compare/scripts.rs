@@ -364,6 +364,10 @@ fn asking(r: &mut Random) -> Vec<u8> {
         if r.chance(25) {
             telling(r, case.a, case.m, &mut lines);
         }
+        if r.chance(25) {
+            let line = words("context", &wide_set(r, case.a));
+            lines.line(r, &line);
+        }
     }
     lines.line(r, "list");
     lines.bytes(r)

@@ -61,6 +61,17 @@ const KINDS: &[&str] = &[
     "inconsistent, one nogood within",
     "falsity unsupported",
     "unsupported",
+    "line of nogoods",
+    "line of a contradicted assumption",
+    "line contradicted only above the depth",
+    "line contradicted",
+    "line unsupported",
+    "line supported",
+    "context of 2s",
+    "context with 1s and 3s",
+    "context with 3s and no 1",
+    "context with 1s and no 3",
+    "context of 0s",
 ];
 
 #[derive(Default)]
@@ -79,6 +90,7 @@ impl Tally {
     pub fn count_file(&mut self, listed: &Listed) {
         self.count(FILES, listed.number, listed.stage);
         self.deepest = self.deepest.max(listed.depth);
+        listed.kinds.iter().for_each(|kind| self.count_kind(kind));
         if listed.depth > 100 {
             self.count_kind("depth above 100");
         }

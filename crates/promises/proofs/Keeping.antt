@@ -94,7 +94,7 @@ module _ (s : Store) where
 
   line-keeps : (n : ℕ) (out : List ℕ) → KeptBytes out (lineOf s n out)
   unfolding lineOf
-  line-keeps n out = kept-choose out (not (rightShape s)) Shape _ (kept-choose out (ltb (top (s .held)) n) Number _ (kept-fitted (lineText (s .lists) n) out))
+  line-keeps n out = kept-choose out (not (rightShape s)) Shape _ (kept-choose out (ltb (top (s .held)) n) Number _ (kept-fitted (lineText s n) out))
 
   heading-keeps : (out : List ℕ) → KeptBytes out (headingOf s out)
   unfolding headingOf

@@ -25,6 +25,7 @@ pub mod Shaped
 pub mod Counting
 pub mod Models
 pub mod Meaning
+pub mod Words
 pub mod Truth
 pub mod Printing
 pub mod Promises

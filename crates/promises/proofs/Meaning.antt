@@ -2,25 +2,27 @@
 use mathlib.Core.Bool.{true}
 use mathlib.Core.List.{List, List·Memᴰ as Mem, _∷_}
 use mathlib.Core.Logic.{_↔_}
-use mathlib.Core.Path.{_∙_, _≡_, ap, sym}
-use Prim.Native.Nat.{_≤_, suc, ℕ}
+use mathlib.Core.Path.{_∙_, _≡_, ap, refl, sym}
+use Prim.Native.Nat.{_≤_, suc, zero, ℕ}
 use native.Mathlib.Decide.{decLt}
+use native.Mathlib.Nat.{not-suc-le-zero}
 use native.Mathlib.Omega.{arith}
 use lib.ListN.{length}
+use borrow.Author.Tests.{lt-ltb, ltb-true}
 use Rattle.promises.proofs.Counting.{ones-members}
 use Rattle.promises.proofs.Models.{carries-models, contradicts-models}
 use Rattle.promises.proofs.Shaped.{shape-says}
 use Rattle.promises.specs.Demand2.{IsDepth}
 use Rattle.promises.specs.Meaning.{AtSomeStage, Meaning, Unrivalled}
 use Rattle.sets.proofs.Membership.{among-alone, among-union, among-without, range-members, within-members}
-use Rattle.theory.proofs.Demands.{carries-means, contradicts-means}
+use Rattle.theory.proofs.Demands.{among-together, carries-means, contradicts-means, from-all-means}
 use Rattle.theory.proofs.Depth.{consequents-less}
 use Rattle.theory.proofs.Judgement.{agree-at-last, agree-elim}
 use Rattle.theory.proofs.Lists.{clash, not-so}
 use Rattle.theory.proofs.Step.{Least, label-step, nogood-step}
 use Rattle.theory.specs.Demands.{carries, contradicts}
 use Rattle.theory.specs.Judge.{consequents, stageAt}
-use Rattle.theory.specs.Sets.{alone}
+use Rattle.theory.specs.Sets.{alone, among, together}
 use Rattle.theory.specs.Stages.{Justification, labelAt, labelOf, nogoodsAt, nogoodsOf}
 use Rattle.theory.specs.Step.{candidates}
 
@@ -32,6 +34,16 @@ module _ (H : List Justification) (E : ℕ) where
     λ h. let r = carries-means H E n .0 h in (λ f. clash (contradicts-means H E .1 f) (r .0), r .1),
     λ p. carries-means H E n .1 (not-so (contradicts H E) (λ h. p .0 (contradicts-means H E .0 h)), p .1),
   )
+
+-- ---- all assumptions together
+
+together-members : (A k : ℕ) → (among (together A) k ≡ true) ↔ ((1 ≤ k) × (k ≤ A))
+unfolding among
+together-members A zero = (λ h. clash h refl, λ p. absurd (not-suc-le-zero (p .0)))
+together-members A (suc i) = (
+  λ h. (omega arith, ltb-true i A (sym (among-together A i) ∙ h)),
+  λ p. among-together A i ∙ lt-ltb i A (p .1),
+)
 
 -- ---- the step
 
@@ -59,6 +71,8 @@ meaning = record {
   shape-says = shape-says;
   contradicts-stages = contradicts-means;
   carries-stages = carries-stages;
+  together-members = together-members;
+  from-all = from-all-means;
   contradicts-models = contradicts-models;
   carries-models = carries-models;
   nogoods-step = λ A H k E. let s = nogood-step A H k E in let u = unrivalled _ E in (λ m. u .0 (s .0 m), λ r. s .1 (u .1 r));

@@ -64,9 +64,9 @@ module _ (s : Store) (right : rightShape s ≡ true) where
   unfolding memberOf
   member-stands n place h = rw (right, h)
 
-  line-stands : (n : ℕ) (out : List ℕ) → ltb N n ≡ false → ltb (length out) (length (lineText (s .lists) n)) ≡ false → lineOf s n out ≡ wrote (lineText (s .lists) n) out
+  line-stands : (n : ℕ) (out : List ℕ) → ltb N n ≡ false → ltb (length out) (length (lineText s n)) ≡ false → lineOf s n out ≡ wrote (lineText s n) out
   unfolding lineOf
-  line-stands n out h k = rw (right, h) (fits (lineText (s .lists) n) out k)
+  line-stands n out h k = rw (right, h) (fits (lineText s n) out k)
 
   heading-stands : (out : List ℕ) → ltb (length out) (length (caseText s)) ≡ false → headingOf s out ≡ wrote (caseText s) out
   unfolding headingOf
@@ -92,7 +92,7 @@ module _ (s : Store) (right : rightShape s ≡ true) where
   read-stands (line n out) w =
       let p = passed _ _ _ w (λ z. omega arith) in
       let q = passed _ _ _ (p .1) (λ z. omega arith) in
-      let t : List ℕ = lineText (s .lists) n in
+      let t : List ℕ = lineText s n in
       ap (λ (x : Wrote). reads (line n out) (x .answer) s (x .bytes)) (line-stands n out (test-off (ltb N n) (less-test N n) (p .0)) (test-off (ltb (length out) (length t)) (less-test (length out) (length t)) (q .0)))
   read-stands (caseLine out) w =
       let p = passed _ _ _ w (λ z. omega arith) in

@@ -280,9 +280,9 @@ module _ (s : Store) where
       (λ p. by-choice _ memberNumber (ltb (top (s .held)) n) (Not Number) (choose (leb (length l) place) (Not Place) (Is (getD l place 0))) (less-test (top (s .held)) n) refl
       (λ q. by-choice noRow memberNumber (leb (length l) place) (Not Place) (Is (getD l place 0)) (most-test (length l) place) refl (λ z. refl)))
   read-told (line n out) =
-      let w : Wrote = fitted (lineText (s .lists) n) out in
+      let w : Wrote = fitted (lineText s n) out in
       by-choice _ wrote (not (rightShape s)) (kept Shape out) (choose (ltb (top (s .held)) n) (kept Number out) w) (not-test (rightShape s)) refl
-      (λ p. by-choice _ wrote (ltb (top (s .held)) n) (kept Number out) w (less-test (top (s .held)) n) refl (λ q. fitted-told (lineText (s .lists) n) out))
+      (λ p. by-choice _ wrote (ltb (top (s .held)) n) (kept Number out) w (less-test (top (s .held)) n) refl (λ q. fitted-told (lineText s n) out))
   read-told (caseLine out) = by-choice _ wrote (not (rightShape s)) (kept Shape out) (fitted (caseText s) out) (not-test (rightShape s)) refl (λ p. fitted-told (caseText s) out)
   read-told (listAll out) = by-choice _ wrote (not (rightShape s)) (kept Shape out) (fitted (listingText s) out) (not-test (rightShape s)) refl (λ p. fitted-told (listingText s) out)
 

@@ -2,11 +2,11 @@
 use mathlib.Core.Bool.{Bool, false, true}
 use mathlib.Core.List.{List, List·Memᴰ as Mem}
 use mathlib.Core.Logic.{_↔_}
-use mathlib.Core.Path.{_∙_, _≡_, ap, refl, subst, sym}
+use mathlib.Core.Path.{_∙_, _≡_, ap, ap₂, refl, subst, sym}
 use Prim.Native.Nat.{_+_, _<_, _^_, _≤_, suc, zero, ℕ}
 use native.Mathlib.Omega.{arith}
 use Rattle.labels.specs.Layout.{lying}
-use Rattle.promises.proofs.Form.{Form, form-lists, form-ranged, form-settled}
+use Rattle.promises.proofs.Form.{Form, form-a, form-lists, form-ranged, form-said, form-settled}
 use Rattle.promises.proofs.InOrder.{in-order-from, in-order-to}
 use Rattle.promises.proofs.Right.{form-room, form-stage}
 use Rattle.promises.specs.Demand2.{IsDepth, ListsSmallest}
@@ -15,9 +15,9 @@ use Rattle.shape.proofs.Stage.{Antichain, label-antichain, nogoods-antichain}
 use Rattle.stages.proofs.Stages.{lies, nogoods-lie}
 use Rattle.stages.specs.Lists.{listsOf}
 use Rattle.stages.specs.declared.Lists.{Lists}
-use Rattle.store.specs.Reading.{labelHeld, nogoodsHeld}
+use Rattle.store.specs.Reading.{heldFromAll, labelHeld, nogoodsHeld}
 use Rattle.store.specs.declared.Store.{Store}
-use Rattle.theory.proofs.Demands.{carries-means, contradicts-means, depth-carries, depth-contradicts}
+use Rattle.theory.proofs.Demands.{carries-means, contradicts-means, depth-carries, depth-contradicts, from-all-means}
 use Rattle.theory.proofs.Judgement.{agree-stage, settled-agrees, settled-later, settled-least, stage-labelIn, stage-nogoods}
 use Rattle.theory.proofs.Label.{contains-elim, contains-intro, inconsistent, label-elim}
 use Rattle.theory.proofs.Lasting.{Upto}
@@ -25,7 +25,7 @@ use Rattle.theory.proofs.Listing.{within-below}
 use Rattle.theory.proofs.Lists.{same-test}
 use Rattle.theory.proofs.Sameness.{Covered, same-follows, same-label, same-nogoods, same-stage}
 use Rattle.theory.proofs.Sets.{within-antisym, within-refl, within-trans}
-use Rattle.theory.specs.Demands.{carries, contradicts}
+use Rattle.theory.specs.Demands.{carries, contradicts, fromAll}
 use Rattle.theory.specs.Judge.{Stage, judge, limits, settled, stageAt}
 use Rattle.theory.specs.Sets.{contains, within}
 use Rattle.theory.specs.Stages.{Justification, follows, labelAt, nogoodsAt}
@@ -56,6 +56,12 @@ module _ (J H : List Justification) (f : SameMembers J H) where
       same-test
       (λ h. let r = carries-means J E n .0 h in carries-means H E n .1 (sym (contradicts-same E) ∙ r .0, (r .1 .0, along (r .1 .0) E n (r .1 .1))))
       (λ h. let r = carries-means H E n .0 h in carries-means J E n .1 (contradicts-same E ∙ r .0, (r .1 .0, back (r .1 .0) E n (r .1 .1))))
+
+  pub from-all-same : (A n : ℕ) → fromAll A J n ≡ fromAll A H n
+  from-all-same A n =
+      same-test
+      (λ h. let r = from-all-means A J n .0 h in from-all-means A H n .1 (r .0, r .1, (r .2 .0, along (r .2 .0) (r .0) n (r .2 .1))))
+      (λ h. let r = from-all-means A H n .0 h in from-all-means A J n .1 (r .0, r .1, (r .2 .0, back (r .2 .0) (r .0) n (r .2 .1))))
 
 -- ---- an antichain that has a member in each set with P lists the smallest sets with P
 
@@ -132,6 +138,11 @@ module _ {A M : ℕ} {H : List Justification} {s : Store} (f : Form A M H s) whe
       let g : contains (nogoodsHeld (s .lists)) E ≡ contains (stage .nogoods) E = ap (λ (x : List ℕ). contains x E) held-nogoods in
       let b : contains (labelHeld (s .lists) n) E ≡ contains (labelIn (stage .labels) n) E = ap (λ (x : List ℕ). contains x E) (held-label n l) in
       (λ c. let r = d .0 (carries-same J H same E n ∙ c) in (g ∙ r .0, b ∙ r .1), λ r. sym (carries-same J H same E n) ∙ d .1 (sym g ∙ r .0, sym b ∙ r .1))
+
+  -- what follows from all assumptions together by what is held
+  pub form-from-all : (n : ℕ) → heldFromAll s n ≡ fromAll A H n
+  form-from-all n =
+      ap₂ (λ (a : ℕ) (K : List Justification). fromAll a K n) (form-a f) (form-said f) ∙ from-all-same J H same A n
 
   -- ---- the lists
 

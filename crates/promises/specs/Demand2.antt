@@ -1,5 +1,5 @@
 -- Demand 2, over what was put in and not over the store's arrays: answers, labels, nogoods, the depth, and when a list is called full. Assumes nothing.
-use mathlib.Core.Bool.{Bool, false, true}
+use mathlib.Core.Bool.{Bool, _&&_, false, not, true}
 use mathlib.Core.List.{List, List·Memᴰ as Mem, _++_}
 use mathlib.Core.Logic.{_↔_, _⊎_}
 use mathlib.Core.Path.{_≡_}
@@ -11,7 +11,6 @@ use Rattle.asking.specs.declared.Answer.the-variants.{Inconsistent, Refused, Su
 use Rattle.asking.specs.declared.Found.{Found}
 use Rattle.asking.specs.declared.Found.the-variants.{Is, Not}
 use Rattle.casefile.specs.Case.{Case, caseOf, whole}
-use Rattle.lines.specs.Lines.{wordOf}
 use Rattle.promises.specs.Calls.{Calls, caseLine, context, line, listAll, member, over, question, reads, written}
 use Rattle.promises.specs.Made.{Input, Made, inOrder, putIn}
 use Rattle.promises.specs.Room.{AddSays, StagesSay, WithdrawSays}
@@ -19,12 +18,12 @@ use Rattle.replies.specs.declared.Reply.{Reply}
 use Rattle.replies.specs.declared.Reply.the-variants.{Done, Long, Place}
 use Rattle.store.specs.Reading.{labelHeld, nogoodsHeld}
 use Rattle.store.specs.declared.Store.{Store}
-use Rattle.text.specs.Texts.{heading, row}
-use Rattle.theory.specs.Demands.{carries, contradicts}
+use Rattle.text.specs.Texts.{heading, row, word}
+use Rattle.theory.specs.Demands.{carries, contradicts, fromAll}
 use Rattle.theory.specs.Judge.{consequents, stageAt}
-use Rattle.theory.specs.Lists.{choose, each, numbersBelow, sortedBy}
+use Rattle.theory.specs.Lists.{choose, each, numbersBelow, someOf, sortedBy}
 use Rattle.theory.specs.Places.{table}
-use Rattle.theory.specs.Sets.{before, within}
+use Rattle.theory.specs.Sets.{before, listing, within}
 use Rattle.theory.specs.Stages.{labelAt, nogoodsAt}
 
 -- ---- smallest sets
@@ -51,9 +50,18 @@ QuestionSays A H n E (Supported F) = (carries H E n ≡ true) × FirstOf A (λ D
 QuestionSays A H n E Unsupported = (contradicts H E ≡ false) × (carries H E n ≡ false)
 QuestionSays A H n E (Refused r) = ⊥
 
--- 2 if E is inconsistent, else 1 if n is supported, else 0
-abbrev pub byteBy : Input → ℕ → ℕ → ℕ
-byteBy H E n = choose (contradicts H E) 2 (choose (carries H E n) 1 0)
+-- some set of A assumptions carries n
+unfoldable pub carriedBy : ℕ → Input → ℕ → Bool
+carriedBy A H n = someOf (λ E. carries H E n) (listing A)
+
+-- n, from 1 on, is carried by no set, and follows from all A assumptions together, falsity ignored
+unfoldable pub contradictedBy : ℕ → Input → ℕ → Bool
+contradictedBy A H zero = false
+contradictedBy A H (suc i) = not (carriedBy A H (suc i)) && fromAll A H (suc i)
+
+-- 2 if E is inconsistent, else 1 if n is supported, else 3 where the line would say `contradicted`, else 0
+abbrev pub byteBy : ℕ → Input → ℕ → ℕ → ℕ
+byteBy A H E n = choose (contradicts H E) 2 (choose (carries H E n) 1 (choose (contradictedBy A H n) 3 0))
 
 -- ---- lists
 
@@ -71,9 +79,14 @@ listedFor H (suc i) E = carries H E (suc i)
 abbrev pub atPlace : List ℕ → ℕ → Found
 atPlace l place = choose (leb (length l) place) (Not Place) (Is (getD l place 0))
 
+-- the word of n: `nogood` for 0; for the others `supported` where some set carries it, else `contradicted` where it follows from all assumptions together, else `unsupported`
+unfoldable pub wordBy : ℕ → Input → ℕ → List ℕ
+wordBy A H zero = word " nogood"
+wordBy A H (suc i) = choose (carriedBy A H (suc i)) (word " supported") (choose (fromAll A H (suc i)) (word " contradicted") (word " unsupported"))
+
 -- the line of n whose list is l, as the listing has it
-abbrev pub textOf : ℕ → List ℕ → List ℕ
-textOf n l = row 32 n (wordOf n l) l
+abbrev pub textOf : ℕ → Input → ℕ → List ℕ → List ℕ
+textOf A H n l = row 32 n (wordBy A H n) l
 
 -- line one: A, M, distinct justifications held, depth
 abbrev pub firstText : ℕ → ℕ → Input → Store → List ℕ
@@ -81,7 +94,7 @@ firstText A M H s = heading A M (length (inOrder H)) (s .lists .depth)
 
 -- the whole listing, l n being the list of n: line one, then the lines of 0 to A + M, each once and in order
 abbrev pub wholeText : ℕ → ℕ → Input → Store → (ℕ → List ℕ) → List ℕ
-wholeText A M H s l = firstText A M H s ++ each (λ n. textOf n (l n)) (numbersBelow (suc (A + M)))
+wholeText A M H s l = firstText A M H s ++ each (λ n. textOf A H n (l n)) (numbersBelow (suc (A + M)))
 
 -- the least k for which all labels and nogoods at k and k + 1 agree
 pub record IsDepth (A N : ℕ) (H : Input) (k : ℕ) : Type 0 where
@@ -94,14 +107,14 @@ pub record Tells (C : Calls) (A M : ℕ) (H : Input) (s : Store) : Type 0 where
   -- for every number and every set of assumptions
   pub question : (n E : ℕ) → n ≤ A + M → E < 2 ^ A → (a : Answer) → (C .reading s (question n E) .said ≡ a) ↔ QuestionSays A H n E a
   -- byte n, for n from 0 to A + M; bytes from A + M + 1 on are kept
-  pub context : (E : ℕ) (out : List ℕ) → E < 2 ^ A → A + M + 1 ≤ length out → C .reading s (context E out) ≡ reads (context E out) Done s (table (A + M + 1) (byteBy H E) ++ drop (A + M + 1) out)
+  pub context : (E : ℕ) (out : List ℕ) → E < 2 ^ A → A + M + 1 ≤ length out → C .reading s (context E out) ≡ reads (context E out) Done s (table (A + M + 1) (byteBy A H E) ++ drop (A + M + 1) out)
   -- each label lists the sets of this kind that have no smaller one inside them, all of them, once; so do the nogoods
   pub label : (n : ℕ) → n ≤ A + M → ListsSmallest A (λ E. carries H E n) (labelHeld (s .lists) n)
   pub nogoods : ListsSmallest A (contradicts H) (nogoodsHeld (s .lists))
   -- member reads them, place by place (only one list is so: the order is strict)
   pub member : (n : ℕ) → n ≤ A + M → (l : List ℕ) × ListsSmallest A (listedFor H n) l × ((place : ℕ) → C .reading s (member n place) .said ≡ atPlace l place)
   -- so does the text line, of that one list; and line one
-  pub line : (n : ℕ) → n ≤ A + M → (l : List ℕ) × ListsSmallest A (listedFor H n) l × ((out : List ℕ) → length (textOf n l) ≤ length out → C .reading s (line n out) ≡ reads (line n out) (written (textOf n l)) s (over (textOf n l) out))
+  pub line : (n : ℕ) → n ≤ A + M → (l : List ℕ) × ListsSmallest A (listedFor H n) l × ((out : List ℕ) → length (textOf A H n l) ≤ length out → C .reading s (line n out) ≡ reads (line n out) (written (textOf A H n l)) s (over (textOf A H n l) out))
   pub caseLine : (out : List ℕ) → length (firstText A M H s) ≤ length out → C .reading s (caseLine out) ≡ reads (caseLine out) (written (firstText A M H s)) s (over (firstText A M H s) out)
   -- .. and the whole listing
   pub listing : (l : ℕ → List ℕ) × ((n : ℕ) → n ≤ A + M → ListsSmallest A (listedFor H n) (l n))

@@ -11,10 +11,10 @@ use Rattle.promises.specs.Made.{Input, SameMembers}
 use Rattle.promises.specs.Shaped.{ShapeSays}
 use Rattle.store.specs.Shape.{rightShape}
 use Rattle.store.specs.declared.Store.{Store}
-use Rattle.theory.specs.Demands.{carries, contradicts}
+use Rattle.theory.specs.Demands.{carries, contradicts, fromAll}
 use Rattle.theory.specs.Judge.{consequents}
 use Rattle.theory.specs.Lists.{numbersTo, those}
-use Rattle.theory.specs.Sets.{among, contains, inRange, union, within, without}
+use Rattle.theory.specs.Sets.{among, contains, inRange, together, union, within, without}
 use Rattle.theory.specs.Stages.{Justification, follows, labelAt, nogoodsAt}
 use Rattle.theory.specs.Step.{joinsFor}
 
@@ -48,6 +48,10 @@ pub record Meaning : Type 1 where
   pub contradicts-stages : (H : Input) (E : ℕ) → (contradicts H E ≡ true) ↔ AtSomeStage H E 0
   -- a set carries n: falsity follows from it at no stage, and n at some stage
   pub carries-stages : (H : Input) (E n : ℕ) → (carries H E n ≡ true) ↔ ((AtSomeStage H E 0 → ⊥) × AtSomeStage H E n)
+  -- all A assumptions together: 1 to A
+  pub together-members : (A k : ℕ) → (among (together A) k ≡ true) ↔ ((1 ≤ k) × (k ≤ A))
+  -- n follows from them: exactly when it follows from some set of A assumptions at some stage
+  pub from-all : (A : ℕ) (H : Input) (n : ℕ) → (fromAll A H n ≡ true) ↔ ((E : ℕ) × (E < 2 ^ A) × AtSomeStage H E n)
   -- document 003: no model contains it
   pub contradicts-models : (H : Input) (E : ℕ) → (contradicts H E ≡ true) ↔ ((S : ℕ → Type 0) → ModelOf H E S → ⊥)
   -- .. it has a model, and all its models have n

@@ -11,6 +11,8 @@ use Rattle.asking.proofs.question as question-at
 use Rattle.asking.proofs.question.Reads as question-reads
 use Rattle.casefile.proofs.load as load-at
 use Rattle.casefile.proofs.load.Reads as load-reads
+use Rattle.following.proofs.from_all as from-all-at
+use Rattle.following.proofs.from_all.Reads as from-all-reads
 use Rattle.items.proofs.header as header-at
 use Rattle.items.proofs.header.Reads as header-reads
 use Rattle.items.proofs.record as record-at
@@ -153,6 +155,7 @@ pub record OnceEach : Type 0 where
   pub holds-one : Once holds-at.ended holds-reads.Learnt
   pub insert-one : Once insert-at.ended insert-reads.Learnt
   pub remove-one : Once remove-at.ended remove-reads.Learnt
+  pub from-all-one : Once from-all-at.ended from-all-reads.Learnt
   pub first-within-one : Once first-within-at.ended first-within-reads.Learnt
   pub stirred-one : Once stirred-at.ended stirred-reads.Learnt
   pub build-one : Once build-at.ended build-reads.Learnt

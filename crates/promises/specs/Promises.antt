@@ -7,6 +7,7 @@ use Rattle.promises.specs.Made.{Stores}
 use Rattle.promises.specs.Meaning.{Meaning}
 use Rattle.promises.specs.Shortest.{NothingShorter}
 use Rattle.promises.specs.Standing.{AsTheyStand}
+use Rattle.promises.specs.Words.{Words}
 
 pub record Promises (C : Calls) : Type 2 where
   pub demand1 : Demand1 C
@@ -15,4 +16,5 @@ pub record Promises (C : Calls) : Type 2 where
   pub stores : Stores C
   pub standing : AsTheyStand C
   pub meaning : Meaning
+  pub words : Words
   pub shortest : NothingShorter C

@@ -1,4 +1,4 @@
--- Whatever store of right shape is handed in, forged or not: adding and withdrawing work from the justifications alone; questions read the lists as they stand. Assumes nothing.
+-- Whatever store of right shape is handed in, forged or not: adding and withdrawing work from the justifications alone; questions read the lists as they stand; whether an empty label is contradicted comes from the justifications. Assumes nothing.
 use mathlib.Core.Bool.{true}
 use mathlib.Core.List.{List, [], _++_}
 use mathlib.Core.Path.{_≡_}
@@ -12,17 +12,18 @@ use Rattle.promises.specs.Table.{ShapedRows, enlarged, lessened}
 use Rattle.replies.specs.declared.Reply.{Reply}
 use Rattle.replies.specs.declared.Reply.the-variants.{Done}
 use Rattle.store.specs.Calls.{answer, noStore, storeOf}
+use Rattle.store.specs.Reading.{contradictedIn}
 use Rattle.store.specs.Shape.{rightShape, top}
 use Rattle.store.specs.declared.Store.{Store}
 use Rattle.theory.specs.Places.{table}
 use Rattle.listing.specs.Listing.{listingText}
 
--- what is read of the lists
+-- what is read of the lists; of an empty label the third word, and byte 3, of the justifications
 abbrev pub asRead : Store → (a : Ask) → Read a
 asRead s (question n E) = reads (question n E) (standing (s .lists) n E) s []
-asRead s (context E out) = reads (context E out) Done s (table (top (s .held) + 1) (λ n. byteOf (standing (s .lists) n E)) ++ drop (top (s .held) + 1) out)
+asRead s (context E out) = reads (context E out) Done s (table (top (s .held) + 1) (λ n. byteOf (contradictedIn s n) (standing (s .lists) n E)) ++ drop (top (s .held) + 1) out)
 asRead s (member n place) = reads (member n place) (memberAt (s .lists) n place) s []
-asRead s (line n out) = reads (line n out) (written (lineText (s .lists) n)) s (over (lineText (s .lists) n) out)
+asRead s (line n out) = reads (line n out) (written (lineText s n)) s (over (lineText s n) out)
 asRead s (caseLine out) = reads (caseLine out) (written (caseText s)) s (over (caseText s) out)
 asRead s (listAll out) = reads (listAll out) (written (listingText s)) s (over (listingText s) out)
 

@@ -96,7 +96,7 @@ abbrev pub ShapedRows : Store → Ask → ℕ → Type 0
 ShapedRows s (question n E) = given ((top (s .held) < n) ⊎ Outside s E) 4 noRow
 ShapedRows s (context E out) = given (Outside s E) 4 (given (length out < top (s .held) + 1) 15 noRow)
 ShapedRows s (member n place) = given (top (s .held) < n) 4 (given (length (listHeld (s .lists) n) ≤ place) 16 noRow)
-ShapedRows s (line n out) = given (top (s .held) < n) 4 (given (length out < length (lineText (s .lists) n)) 15 noRow)
+ShapedRows s (line n out) = given (top (s .held) < n) 4 (given (length out < length (lineText s n)) 15 noRow)
 ShapedRows s (caseLine out) = given (length out < length (caseText s)) 15 noRow
 ShapedRows s (listAll out) = given (length out < length (listingText s)) 15 noRow
 

@@ -1,5 +1,5 @@
 -- Every case of the table holds of our calls: the answers by the demands, the lists by computing the judgement of what was put in. Assumes nothing.
-use mathlib.Core.Bool.{false}
+use mathlib.Core.Bool.{Bool, false}
 use mathlib.Core.List.{List, List·Memᴰ·eq-of-singleton, List·Memᴰ as Mem, [], _∷_, List·Memᴰ·head as here, map, List·Memᴰ·tail as there}
 use mathlib.Core.Path.{_∙_, _≡_, ap, ap₂, refl, sym}
 use Prim.Native.Nat.{_+_, _<_, _^_, _≤_, suc, zero, ℕ}
@@ -10,16 +10,16 @@ use Rattle.asking.specs.Asking.{firstIn, memberNumber, memberOf, memberSet, que
 use Rattle.asking.specs.declared.Answer.the-variants.{Unsupported}
 use Rattle.casefile.proofs.Cases.{listed as spells, listedCase}
 use Rattle.casefile.specs.Load.{loadOf}
-use Rattle.lines.specs.Lines.{wordOf}
+use Rattle.lines.specs.Lines.{lineText, lineWith, wordOf}
 use Rattle.numbers.specs.Numbers.{numberAt, numberFrom, replied, secondFrom}
-use Rattle.promises.proofs.Answers.{line-by, member-by, question-by}
+use Rattle.promises.proofs.Answers.{line-by, line-text, member-by, question-by}
 use Rattle.promises.proofs.Form.{Form, form-a, form-settled, made-form}
 use Rattle.promises.proofs.Right.{form-stage}
 use Rattle.refuted.proofs.Absurdity.{absurdity-depth, absurdity-done, absurdity-labels, absurdity-made, absurdity-nogoods}
 use Rattle.refuted.proofs.Small.{add-done, few-room, made-add, made-open, one-done, one-made}
 use Rattle.promises.proofs.Rows.{room-says}
 use Rattle.promises.proofs.Sameness.{demand-3}
-use Rattle.promises.proofs.Telling.{held-label-at, held-nogoods-at}
+use Rattle.promises.proofs.Telling.{form-from-all, held-label-at, held-nogoods-at}
 use Rattle.promises.proofs.Truth.{demand-2}
 use Rattle.promises.specs.Calls.{line, ours, over, reads, written}
 use Rattle.refuted.specs.Cases.{Decodes, ListsAre, PCases, Prints, assumed, eachOther, listed, listedBytes, oneWay, struck, withOne}
@@ -38,10 +38,10 @@ use Rattle.text.specs.Texts.{digits, digitsIn, row, spaced, word}
 use Rattle.theory.proofs.Judgement.{stage-length, stage-nogoods}
 use Rattle.theory.proofs.Listing.{below-elim}
 use Rattle.theory.specs.Cases.{at, from, verdict, worked}
-use Rattle.theory.specs.Demands.{carries, contradicts}
+use Rattle.theory.specs.Demands.{carries, contradicts, fromAll}
 use Rattle.theory.specs.Judge.{Stage, Verdict, judge, labelOver, limits, nogoodsOver, settled, stageAt, stageOf}
 use Rattle.theory.specs.Lists.{allOf, each, numbersBelow, numbersTo, someOf, those}
-use Rattle.theory.specs.Sets.{among, digit}
+use Rattle.theory.specs.Sets.{among, digit, together}
 use Rattle.theory.specs.Stages.{Justification, ahead, follows, gives, labelAt, lesser}
 
 -- ---- the lists of a made store are those of the judgement of what was put in
@@ -162,14 +162,21 @@ each-other-carry (suc (suc zero)) (suc (suc E)) p q r = absurd (omega arith)
 each-other-carry (suc (suc (suc zero))) (suc (suc E)) p q r = absurd (omega arith)
 each-other-carry (suc (suc (suc (suc n)))) E p q r = absurd (omega arith)
 
-each-other-texts : (textOf 2 [] ≡ word "2 unsupported\n") × (textOf 3 [] ≡ word "3 unsupported\n")
+each-other-texts : (row 32 2 (wordOf 2 [] false) [] ≡ word "2 unsupported\n") × (row 32 3 (wordOf 3 [] false) [] ≡ word "3 unsupported\n")
 unfolding row wordOf digits digitsIn spaced each word
 each-other-texts = (refl, refl)
 
--- the line of a number whose list is known
-pub prints : {A M : ℕ} {H : List Justification} {s : Store} (f : Form A M H s) (n : ℕ) → n ≤ A + M → (l : List ℕ) (t : String) → listHeld (s .lists) n ≡ l → textOf n l ≡ word t → Prints ours s n t
-prints {s = s} f n h l t e u out w =
-    let x : textOf n (listHeld (s .lists) n) ≡ word t = ap (textOf n) e ∙ u in
+each-other-follow : (fromAll 1 (from 3 (2 ∷ []) ∷ from 2 (3 ∷ []) ∷ []) 2 ≡ false) × (fromAll 1 (from 3 (2 ∷ []) ∷ from 2 (3 ∷ []) ∷ []) 3 ≡ false)
+unfolding fromAll together follows among digit someOf gives allOf
+each-other-follow = (refl, refl)
+
+-- the line of a number whose list is known, c telling whether it follows from all assumptions together
+pub prints : {A M : ℕ} {H : List Justification} {s : Store} (f : Form A M H s) (n : ℕ) → n ≤ A + M → (l : List ℕ) (c : Bool) (t : String)
+    → listHeld (s .lists) n ≡ l → fromAll A H n ≡ c → row 32 n (wordOf n l c) l ≡ word t → Prints ours s n t
+unfolding lineText lineWith
+prints {A} {H = H} {s = s} f n h l c t e k u out w =
+    let x : textOf A H n (listHeld (s .lists) n) ≡ word t =
+    sym (line-text f n h) ∙ ap₂ (λ (y : List ℕ) (b : Bool). row 32 n (wordOf n y b) y) e (form-from-all f n ∙ k) ∙ u in
     line-by f n h out (omega (arith, ap length x)) ∙ ap (λ (y : List ℕ). reads (line n out) (written y) s (over y out)) x
 
 -- the answer where the nogoods and the label are known
@@ -257,7 +264,7 @@ p-cases = record {
   each-other-lines =
       let f = made-form made-each-other in
       let e = second-third (eachOther ours .lists) (1 ∷ []) [] [] (made-are made-each-other each-other-verdict .labels) in
-      (prints f 2 (omega arith) [] "2 unsupported\n" (e .0) (each-other-texts .0), prints f 3 (omega arith) [] "3 unsupported\n" (e .1) (each-other-texts .1));
+      (prints f 2 (omega arith) [] false "2 unsupported\n" (e .0) (each-other-follow .0) (each-other-texts .0), prints f 3 (omega arith) [] false "3 unsupported\n" (e .1) (each-other-follow .1) (each-other-texts .1));
   absurdity-done = absurdity-done;
   absurdity-made = absurdity-made;
   absurdity-nogoods = absurdity-nogoods;

@@ -1,10 +1,12 @@
 -- What the shared definitions give, as it is written out. Assumes nothing.
+use mathlib.Core.Bool.{Bool, true}
 use mathlib.Core.List.{_++_, _∷_, List, [], map}
 use mathlib.Core.Option.{some}
 use mathlib.Core.Path.{_∙_, _≡_, ap, ap₂, refl, sym}
 use Prim.Native.Nat.{_+_, _≤_, suc, ℕ}
 use Prim.Native.String.{String}
 use native.Mathlib.Omega.{arith}
+use lib.Count.{ones}
 use lib.ListN.{drop, getD, length}
 use Rattle.asking.specs.Asking.{answerSet, firstIn, questionOf, reasoned}
 use Rattle.asking.specs.declared.Answer.the-variants.{Inconsistent, Supported, Unsupported}
@@ -16,7 +18,7 @@ use Rattle.promises.proofs.Form.{Form, form-said}
 use Rattle.promises.proofs.Standing.{as-they-stand}
 use Rattle.promises.proofs.Truth.{demand-2}
 use Rattle.promises.specs.Calls.{Read, caseLine, context, line, ours, over, reads, written}
-use Rattle.promises.specs.Demand2.{byteBy, firstText, textOf}
+use Rattle.promises.specs.Demand2.{byteBy, carriedBy, contradictedBy, firstText}
 use Rattle.promises.specs.Made.{Made, inOrder, putIn}
 use Rattle.refuted.proofs.Cases.{answers, prints}
 use Rattle.refuted.proofs.Files.{file-are, file-done, file-form, file-made}
@@ -31,13 +33,13 @@ use Rattle.store.specs.Reading.{labelHeld}
 use Rattle.store.specs.declared.Store.{Store}
 use Rattle.text.specs.Texts.{braced, digits, digitsIn, field, heading, joined, refusal, row, spaced, word}
 use Rattle.theory.specs.Cases.{at, from, verdict}
-use Rattle.theory.specs.Demands.{carries, contradicts}
+use Rattle.theory.specs.Demands.{carries, contradicts, fromAll}
 use Rattle.theory.specs.Judge.{judge, limits, sameSets}
 use Rattle.theory.specs.Lists.{alike, allOf, each, numbersBelow, numbersTo, someOf, those}
 use Rattle.theory.specs.Places.{table}
-use Rattle.theory.specs.Sets.{among, contains, digit, within}
+use Rattle.theory.specs.Sets.{among, bySize, contains, digit, listing, together, within}
 use Rattle.theory.specs.Stages.{Justification, ahead, follows, gives, lesser}
-use Rattle.listing.proofs.Cases.{empty-printed, listed-printed, long-printed, twice-printed}
+use Rattle.listing.proofs.Cases.{beside-printed, beyond-printed, empty-printed, listed-printed, long-printed, twice-printed}
 use Rattle.listing.specs.Listing.{listingOf}
 use borrow.Author.Tests.{le-ltb}
 
@@ -97,10 +99,18 @@ seven l ls p =
     let g : ℕ → List (List ℕ) → List ℕ = λ i x. getD x i [] in
     (ap (g 0) p, ap (g 1) p, ap (g 2) p, ap (g 3) p, ap (g 4) p, ap (g 5) p, ap (g 6) p)
 
-texts : (textOf 0 (3 ∷ 6 ∷ []) ≡ word "0 nogood {1,2} {2,3}\n") × (textOf 1 (1 ∷ []) ≡ word "1 supported {1}\n") × (textOf 2 (2 ∷ []) ≡ word "2 supported {2}\n") × (textOf 3 (4 ∷ []) ≡ word "3 supported {3}\n")
-    × (textOf 4 (1 ∷ []) ≡ word "4 supported {1}\n") × (textOf 5 (2 ∷ []) ≡ word "5 supported {2}\n") × (textOf 6 (5 ∷ []) ≡ word "6 supported {1,3}\n") × (textOf 7 [] ≡ word "7 unsupported\n")
+abbrev with : ℕ → List ℕ → Bool → List ℕ
+with n l c = row 32 n (wordOf n l c) l
+
+-- of a list that is not empty, and of the nogoods, whatever follows
+texts : (c : Bool) → (with 0 (3 ∷ 6 ∷ []) c ≡ word "0 nogood {1,2} {2,3}\n") × (with 1 (1 ∷ []) c ≡ word "1 supported {1}\n") × (with 2 (2 ∷ []) c ≡ word "2 supported {2}\n") × (with 3 (4 ∷ []) c ≡ word "3 supported {3}\n")
+    × (with 4 (1 ∷ []) c ≡ word "4 supported {1}\n") × (with 5 (2 ∷ []) c ≡ word "5 supported {2}\n") × (with 6 (5 ∷ []) c ≡ word "6 supported {1,3}\n") × (with 7 [] true ≡ word "7 contradicted\n")
 unfolding row wordOf digits digitsIn spaced each word braced joined those among digit numbersTo numbersBelow
-texts = (refl, refl, refl, refl, refl, refl, refl, refl)
+texts c = (refl, refl, refl, refl, refl, refl, refl, refl)
+
+seven-follows : fromAll 3 (putIn sown) 7 ≡ true
+unfolding fromAll together follows among digit someOf gives allOf setOf those numbersBelow
+seven-follows = refl
 
 six-long : length (word "6 supported {1,3}\n") ≡ 18
 unfolding word
@@ -129,8 +139,8 @@ asked =
       answers form 7 6 (omega arith) (omega arith) _ _ (are .nogoods) (l .6) ∙ named .2,
     )
 
-table-of : (table 8 (byteBy (putIn sown) 5) ≡ 0 ∷ 1 ∷ 0 ∷ 1 ∷ 1 ∷ 0 ∷ 1 ∷ 0 ∷ []) × (table 8 (byteBy (putIn sown) 6) ≡ 2 ∷ 2 ∷ 2 ∷ 2 ∷ 2 ∷ 2 ∷ 2 ∷ 2 ∷ [])
-unfolding table carries contradicts follows among digit someOf gives allOf setOf those numbersBelow
+table-of : (table 8 (byteBy 3 (putIn sown) 5) ≡ 0 ∷ 1 ∷ 0 ∷ 1 ∷ 1 ∷ 0 ∷ 1 ∷ 3 ∷ []) × (table 8 (byteBy 3 (putIn sown) 6) ≡ 2 ∷ 2 ∷ 2 ∷ 2 ∷ 2 ∷ 2 ∷ 2 ∷ 2 ∷ [])
+unfolding table contradictedBy carriedBy fromAll together listing bySize ones carries contradicts follows among digit someOf gives allOf setOf those numbersBelow
 table-of = (refl, refl)
 
 -- ---- refusals
@@ -164,16 +174,16 @@ pinned =
       bytes = word-bytes;
       sowing-done = file-done sowingBytes sown (spelled .0) (omega arith);
       sowing-first = first-line;
-      sowing-0 = prints form 0 (omega arith) _ "0 nogood {1,2} {2,3}\n" (are .nogoods) (texts .0);
-      sowing-1 = prints form 1 (omega arith) _ "1 supported {1}\n" (l .0) (texts .1);
-      sowing-2 = prints form 2 (omega arith) _ "2 supported {2}\n" (l .1) (texts .2);
-      sowing-3 = prints form 3 (omega arith) _ "3 supported {3}\n" (l .2) (texts .3);
-      sowing-4 = prints form 4 (omega arith) _ "4 supported {1}\n" (l .3) (texts .4);
-      sowing-5 = prints form 5 (omega arith) _ "5 supported {2}\n" (l .4) (texts .5);
-      sowing-6 = prints form 6 (omega arith) _ "6 supported {1,3}\n" (l .5) (texts .6);
-      sowing-7 = prints form 7 (omega arith) _ "7 unsupported\n" (l .6) (texts .7);
+      sowing-0 = prints form 0 (omega arith) _ _ "0 nogood {1,2} {2,3}\n" (are .nogoods) refl (texts _ .0);
+      sowing-1 = prints form 1 (omega arith) _ _ "1 supported {1}\n" (l .0) refl (texts _ .1);
+      sowing-2 = prints form 2 (omega arith) _ _ "2 supported {2}\n" (l .1) refl (texts _ .2);
+      sowing-3 = prints form 3 (omega arith) _ _ "3 supported {3}\n" (l .2) refl (texts _ .3);
+      sowing-4 = prints form 4 (omega arith) _ _ "4 supported {1}\n" (l .3) refl (texts _ .4);
+      sowing-5 = prints form 5 (omega arith) _ _ "5 supported {2}\n" (l .4) refl (texts _ .5);
+      sowing-6 = prints form 6 (omega arith) _ _ "6 supported {1,3}\n" (l .5) refl (texts _ .6);
+      sowing-7 = prints form 7 (omega arith) _ _ "7 contradicted\n" (l .6) seven-follows (texts true .7);
       sowing-length = λ out h.
-          let p = prints form 6 (omega arith) _ "6 supported {1,3}\n" (l .5) (texts .6) out (omega (arith, six-long)) in
+          let p = prints form 6 (omega arith) _ _ "6 supported {1,3}\n" (l .5) refl (texts _ .6) out (omega (arith, six-long)) in
           ap (λ (x : Read (line 6 out)). writtenLength (x .said)) p ∙ ap some six-long;
       sowing-asked = asked;
       sowing-named = (ap answerSet (asked .0), ap answerSet (asked .1), ap answerSet (asked .2));
@@ -181,6 +191,8 @@ pinned =
       sowing-against = λ out h. demand-2 .tells made .context 6 out (omega arith) (omega arith) ∙ ap (λ (t : List ℕ). reads (context 6 out) Done s (t ++ drop 8 out)) (table-of .1);
       eighteen = printed-as _ _ listed-printed;
       twice = printed-as _ _ twice-printed;
+      beyond = printed-as _ _ beyond-printed;
+      beside = printed-as _ _ beside-printed;
       nothing = printed-as _ _ empty-printed;
       long = λ bytes h. printed-as bytes _ (long-printed bytes h);
       longer = (longer-serves, omega arith);

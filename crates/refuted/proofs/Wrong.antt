@@ -19,9 +19,10 @@ use Rattle.refuted.proofs.Deducing.{demand-2-too, demand-3-too, lists-a
 use Rattle.refuted.proofs.Naming.{names-the-asked, names-the-last}
 use Rattle.casefile.proofs.Cases.{listed as spells, listedCase}
 use Rattle.promises.proofs.Adding.{reached}
-use Rattle.promises.proofs.Answers.{byte-says, in-set, standing-byte}
+use Rattle.promises.proofs.Answers.{byte-says, in-set, standing-says}
 use Rattle.promises.proofs.Form.{Form, done-by, done-store, form-a, form-count, form-m, form-said, made-form, none-store}
 use Rattle.refuted.proofs.Prefixed.{judges-prefixes}
+use Rattle.refuted.proofs.Third.{calls-all-contradicted, stops-at-the-depth}
 use Rattle.promises.proofs.Right.{made-right}
 use Rattle.refuted.proofs.Small.{add-done, done-with, few-room, made-add, made-open, one-done, one-made, opens-at}
 use Rattle.promises.proofs.Rows.{passes, room-says}
@@ -30,7 +31,7 @@ use Rattle.promises.proofs.Table.{standing-zero}
 use Rattle.promises.proofs.Truth.{demand-2}
 use Rattle.promises.proofs.Withdrawing.{lets-go}
 use Rattle.promises.specs.Calls.{Calls, Read, ours, question}
-use Rattle.promises.specs.Demand2.{Demand2, IsDepth, Smallest, byteBy}
+use Rattle.promises.specs.Demand2.{Demand2, IsDepth, Smallest}
 use Rattle.promises.specs.Made.{Made, Stores, added, inOrder, opened, putIn, withdrawn}
 use Rattle.promises.specs.Room.{Reaches}
 use Rattle.promises.specs.Rows.{given}
@@ -65,18 +66,28 @@ use Rattle.theory.specs.Stages.{Justification, ahead, follows, gives, lesser, m
 
 -- ---- the bytes of two answers
 
-not-both : (a : Answer) → byteOf a ≡ 1 → byteOf a ≡ 0 → ⊥
+-- the answer to a question, as a byte without the third word
+abbrev plain : Answer → ℕ
+plain a = byteOf false a
+
+abbrev plainBy : List Justification → ℕ → ℕ → ℕ
+plainBy H E n = choose (contradicts H E) 2 (choose (carries H E n) 1 0)
+
+not-both : (a : Answer) → plain a ≡ 1 → plain a ≡ 0 → ⊥
 not-both a p q = let z : _≡_ {A = ℕ} 1 0 = sym p ∙ q in omega arith
 
 -- demand 2 gives the byte of every answer
-told : {C : Calls} {A M : ℕ} {H : List Justification} {s : Store} → Demand2 C → Made C A M H s → (n E : ℕ) → n ≤ A + M → E < 2 ^ A → byteOf (C .reading s (question n E) .said) ≡ byteBy H E n
-told {C} {A} {H = H} {s = s} d m n E l h = byte-says A H n E (C .reading s (question n E) .said) (d .tells m .question n E l h (C .reading s (question n E) .said) .0 refl)
+told : {C : Calls} {A M : ℕ} {H : List Justification} {s : Store} → Demand2 C → Made C A M H s → (n E : ℕ) → n ≤ A + M → E < 2 ^ A → plain (C .reading s (question n E) .said) ≡ plainBy H E n
+told {C} {A} {H = H} {s = s} d m n E l h = byte-says A H n E false (C .reading s (question n E) .said) (d .tells m .question n E l h (C .reading s (question n E) .said) .0 refl)
+
+standing-plain : {A M : ℕ} {H : List Justification} {s : Store} → Form A M H s → (n E : ℕ) → n ≤ A + M → E < 2 ^ A → plain (standing (s .lists) n E) ≡ plainBy H E n
+standing-plain {A} {H = H} {s = s} f n E l h = byte-says A H n E false (standing (s .lists) n E) (standing-says f n E l h)
 
 module _ (H : List Justification) (E n : ℕ) where
-  carried : carries H E n ≡ true → byteBy H E n ≡ 1
+  carried : carries H E n ≡ true → plainBy H E n ≡ 1
   carried k = let c : contradicts H E ≡ false = carries-means H E n .0 k .0 in rw (c, k)
 
-  struck : contradicts H E ≡ true → byteBy H E n ≡ 2
+  struck : contradicts H E ≡ true → plainBy H E n ≡ 2
   struck c = rw c
 
 -- ---- refuses each call
@@ -128,7 +139,7 @@ none-carries : (contradicts [] 1 ≡ false) × (carries [] 1 2 ≡ false)
 unfolding carries contradicts follows among digit someOf
 none-carries = (refl, refl)
 
-none-byte : byteBy [] 1 2 ≡ 0
+none-byte : plainBy [] 1 2 ≡ 0
 none-byte = let c = none-carries .0 in let k = none-carries .1 in rw (c, k)
 
 adds-nothing : Demand2 idle → ⊥
@@ -262,13 +273,13 @@ strikes-nothing d =
 
 -- .. {1} is called supported or unsupported, never inconsistent
 
-never-inconsistent : (l : Lists) (n E : ℕ) (a : Answer) → byteOf (forgetting l n E a) ≡ 2 → ⊥
+never-inconsistent : (l : Lists) (n E : ℕ) (a : Answer) → plain (forgetting l n E a) ≡ 2 → ⊥
 never-inconsistent l n E (Supported F) e = omega arith
 never-inconsistent l n E Unsupported e = omega arith
 never-inconsistent l n E (Refused r) e = omega arith
 never-inconsistent l n E (Inconsistent G) e = go (firstIn (labelHeld l n) E) e
   where
-    go : (m : Option ℕ) → byteOf (reasoned none m) ≡ 2 → ⊥
+    go : (m : Option ℕ) → plain (reasoned none m) ≡ 2 → ⊥
     go (some F) e = omega arith
     go none e = omega arith
 
@@ -320,13 +331,13 @@ forged-right =
 unrefused : {H : List Justification} {s : Store} → Form 1 1 H s → ShapedRows s (question 2 1) 0
 unrefused {s = s} f = passes ℕ _ _ 0 _ (⊎-elim (λ (p : top (s .held) < 2). omega (arith, form-a f, form-m f)) (in-set f 1 (omega arith))) refl
 
-supported-as-listed : byteOf (standing (listed .lists) 2 1) ≡ 1
-supported-as-listed = standing-byte (made-form made-listed) 2 1 (omega arith) (omega arith) ∙ carried (first 1 ∷ []) 1 2 first-carries
+supported-as-listed : plain (standing (listed .lists) 2 1) ≡ 1
+supported-as-listed = standing-plain (made-form made-listed) 2 1 (omega arith) (omega arith) ∙ carried (first 1 ∷ []) 1 2 first-carries
 
-unsupported-anew : byteOf (workedOut (bare .held) 2 1) ≡ 0
+unsupported-anew : plain (workedOut (bare .held) 2 1) ≡ 0
 unsupported-anew =
     let f = made-form made-bare in
-    ap (λ (l : Lists). byteOf (standing l 2 1)) (lists-again f) ∙ standing-byte f 2 1 (omega arith) (omega arith) ∙ none-byte
+    ap (λ (l : Lists). plain (standing l 2 1)) (lists-again f) ∙ standing-plain f 2 1 (omega arith) (omega arith) ∙ none-byte
 
 -- ---- withdraws the rule and keeps the lists, or the count
 
@@ -453,7 +464,7 @@ reads-no-list d =
     let said : deducing .reading forged (question 2 1) .said ≡ standing (listed .lists) 2 1 = ap (λ (a : Read (question 2 1)). a .said) (d .stands forged forged-right .reading (question 2 1) w) in
     let worked : deducing .reading forged (question 2 1) .said ≡ workedOut (bare .held) 2 1 =
     ap (λ (k : ℕ). choose (eqb k 0) (workedOut (bare .held) 2 1) (questionOf forged 2 1)) (ap answerNumber read ∙ standing-zero (listed .lists) 2 1) in
-    not-both (deducing .reading forged (question 2 1) .said) (ap byteOf said ∙ supported-as-listed) (ap byteOf worked ∙ unsupported-anew)
+    not-both (deducing .reading forged (question 2 1) .said) (ap plain said ∙ supported-as-listed) (ap plain worked ∙ unsupported-anew)
 
 -- ---- holds what names its own consequent as a support: claim 1 from itself
 
@@ -469,6 +480,8 @@ holds-its-own d =
 
 pub refuted : Refuted
 refuted = record {
+  stops-at-the-depth = stops-at-the-depth;
+  calls-all-contradicted = calls-all-contradicted;
   refuses = refuses;
   refuses-table = refuses-table;
   adds-none = adds-none;

@@ -60,5 +60,17 @@ answering f r s (line n out) = r s (line n out)
 answering f r s (caseLine out) = r s (caseLine out)
 answering f r s (listAll out) = r s (listAll out)
 
+-- a line written by f, what else is read by r
+abbrev pub lining : (Store → ℕ → List ℕ → Wrote) → (Store → (a : Ask) → Read a) → Store → (a : Ask) → Read a
+lining f r s (question n E) = r s (question n E)
+lining f r s (context E out) = r s (context E out)
+lining f r s (member n place) = r s (member n place)
+lining f r s (line n out) = reads (line n out) (f s n out .answer) s (f s n out .bytes)
+lining f r s (caseLine out) = r s (caseLine out)
+lining f r s (listAll out) = r s (listAll out)
+
+abbrev pub withLine : (Store → ℕ → List ℕ → Wrote) → Calls → Calls
+withLine f C = withReading (lining f (C .reading)) C
+
 abbrev pub withQuestion : (Store → ℕ → ℕ → Answer) → Calls → Calls
 withQuestion f C = withReading (answering f (C .reading)) C

@@ -58,17 +58,20 @@ pub record Pinned (C : Calls) : Type 0 where
   pub sowing-4 : Prints C (sowing C) 4 "4 supported {1}\n"
   pub sowing-5 : Prints C (sowing C) 5 "5 supported {2}\n"
   pub sowing-6 : Prints C (sowing C) 6 "6 supported {1,3}\n"
-  pub sowing-7 : Prints C (sowing C) 7 "7 unsupported\n"
+  pub sowing-7 : Prints C (sowing C) 7 "7 contradicted\n"
   -- the length that a line reports
   pub sowing-length : (out : List ℕ) → 18 ≤ length out → writtenLength (C .reading (sowing C) (line 6 out) .said) ≡ some 18
   -- the three answers, of {1,3} and {2,3}; the sets that they name; the contexts of both
   pub sowing-asked : (C .reading (sowing C) (question 6 5) .said ≡ Supported 5) × (C .reading (sowing C) (question 7 5) .said ≡ Unsupported) × (C .reading (sowing C) (question 7 6) .said ≡ Inconsistent 6)
   pub sowing-named : (answerSet (C .reading (sowing C) (question 6 5) .said) ≡ some 5) × (answerSet (C .reading (sowing C) (question 7 5) .said) ≡ none) × (answerSet (C .reading (sowing C) (question 7 6) .said) ≡ some 6)
-  pub sowing-context : (out : List ℕ) → 8 ≤ length out → C .reading (sowing C) (context 5 out) ≡ reads (context 5 out) Done (sowing C) ((0 ∷ 1 ∷ 0 ∷ 1 ∷ 1 ∷ 0 ∷ 1 ∷ 0 ∷ []) ++ drop 8 out)
+  pub sowing-context : (out : List ℕ) → 8 ≤ length out → C .reading (sowing C) (context 5 out) ≡ reads (context 5 out) Done (sowing C) ((0 ∷ 1 ∷ 0 ∷ 1 ∷ 1 ∷ 0 ∷ 1 ∷ 3 ∷ []) ++ drop 8 out)
   pub sowing-against : (out : List ℕ) → 8 ≤ length out → C .reading (sowing C) (context 6 out) ≡ reads (context 6 out) Done (sowing C) ((2 ∷ 2 ∷ 2 ∷ 2 ∷ 2 ∷ 2 ∷ 2 ∷ 2 ∷ []) ++ drop 8 out)
-  -- what is printed: the document's eighteen bytes; a record that stands twice, counted once; no bytes; more than 4,096
+  -- what is printed: the document's eighteen bytes; a record that stands twice, counted once; then no bytes, and more than 4,096
   pub eighteen : PrintsFile C listedBytes "case 3 2 4 2\n0 nogood {1,2}\n1 supported {1}\n2 supported {2}\n3 supported {3}\n4 supported {1} {2,3}\n5 supported {2,3}\n"
   pub twice : PrintsFile C (1 ∷ 1 ∷ 2 ∷ 2 ∷ 1 ∷ 1 ∷ 2 ∷ 1 ∷ 1 ∷ []) "case 1 1 1 1\n0 nogood\n1 supported {1}\n2 supported {1}\n"
+  -- empty labels: 3 follows from 1 beyond the depth; a premise for falsity, and no rule for 3
+  pub beyond : PrintsFile C (1 ∷ 2 ∷ 3 ∷ 0 ∷ 1 ∷ 1 ∷ 2 ∷ 1 ∷ 1 ∷ 3 ∷ 1 ∷ 2 ∷ []) "case 1 2 3 1\n0 nogood {1}\n1 contradicted\n2 contradicted\n3 contradicted\n"
+  pub beside : PrintsFile C (1 ∷ 2 ∷ 2 ∷ 0 ∷ 0 ∷ 2 ∷ 0 ∷ []) "case 1 2 2 1\n0 nogood {}\n1 contradicted\n2 contradicted\n3 unsupported\n"
   pub nothing : PrintsFile C [] "refused 11 0\n"
   pub long : (bytes : List ℕ) → 4096 < length bytes → PrintsFile C bytes "refused 14 0\n"
   -- {1} {2,3} {1,2} serves where {1} {2,3} does, the label of 4 in the document's case, and is longer

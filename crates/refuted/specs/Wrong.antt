@@ -1,10 +1,10 @@
 -- Wrong programs, each as a value of the calls and refuted by a demand, by what a made store holds, or by what is said of forged stores: the five empty ones of document 01, then those that go wrong in one call. Nothing else cites this file. Assumes nothing.
-use mathlib.Core.Bool.{not}
+use mathlib.Core.Bool.{Bool, not, true}
 use mathlib.Core.List.{List, [], _++_, _∷_, map, reverse}
 use mathlib.Core.Option.{none}
 use mathlib.Core.Path.{_≡_}
 use Prim.Native.Nat.{_+_, _≤_, suc, ℕ}
-use lib.Dec.{eqb}
+use lib.Dec.{eqb, ltb}
 use lib.ListN.{length}
 use Rattle.asking.specs.Asking.{answerNumber, firstIn, questionOf, reasoned, standing}
 use Rattle.asking.specs.declared.Answer.{Answer}
@@ -14,6 +14,7 @@ use Rattle.casefile.specs.Case.{Case, Reading, caseOf, joined, refused, whole}
 use Rattle.casefile.specs.Load.{loadedOf, recorded}
 use Rattle.casefile.specs.declared.Loaded.{Loaded}
 use Rattle.items.specs.Items.{Item}
+use Rattle.lines.specs.Lines.{Wrote, fitted, kept, lineWith}
 use Rattle.lines.specs.declared.Written.the-variants.{Refused as Unwritten}
 use Rattle.promises.specs.Calls.{Ask, Calls, Read, caseLine, context, line, listAll, member, ours, question, reads}
 use Rattle.promises.specs.Demand1.{Refusals}
@@ -22,8 +23,8 @@ use Rattle.promises.specs.Demand3.{Demand3}
 use Rattle.promises.specs.Made.{Input, Made, Stores, inOrder}
 use Rattle.promises.specs.Standing.{AsTheyStand}
 use Rattle.promises.specs.Table.{ReplyTable}
-use Rattle.refuted.specs.Exchange.{exchanged, withAdding, withLoading, withOpening, withQuestion, withWithdrawing}
-use Rattle.replies.specs.declared.Reply.the-variants.{Counts, Done, Ends, Nogoods, Shape}
+use Rattle.refuted.specs.Exchange.{exchanged, withAdding, withLine, withLoading, withOpening, withQuestion, withWithdrawing}
+use Rattle.replies.specs.declared.Reply.the-variants.{Counts, Done, Ends, Nogoods, Number, Shape}
 use Rattle.rules.specs.Held.{heldOf, put, saidBy}
 use Rattle.rules.specs.Items.{justificationOf}
 use Rattle.rules.specs.declared.Held.{Held}
@@ -31,12 +32,12 @@ use Rattle.stages.specs.Lists.{listsOf}
 use Rattle.stages.specs.declared.Lists.{Lists}
 use Rattle.store.specs.Calls.{answer, isDone, noStore, storeOf}
 use Rattle.store.specs.Reading.{labelHeld, nogoodsHeld}
-use Rattle.store.specs.Shape.{top}
+use Rattle.store.specs.Shape.{rightShape, top}
 use Rattle.store.specs.declared.Outcome.{Outcome}
 use Rattle.store.specs.declared.Store.{Store}
 use Rattle.theory.specs.Judge.{Stage, consequents}
 use Rattle.theory.specs.Lists.{choose, numbersTo, someOf, those}
-use Rattle.theory.specs.Sets.{listing}
+use Rattle.theory.specs.Sets.{listing, together}
 use Rattle.theory.specs.Stages.{Justification, follows, minimal}
 
 -- ---- empty programs
@@ -186,6 +187,24 @@ lastNamed l n E = reasoned (firstIn (reverse (nogoodsHeld l)) E) (firstIn (rever
 abbrev pub lasting : Calls
 lasting = withQuestion (λ s n E. choose (eqb (answerNumber (questionOf s n E)) 0) (lastNamed (s .lists) n E) (questionOf s n E)) ours
 
+-- the line of n, f telling of an empty label whether its number follows from all assumptions together
+abbrev pub linedBy : (Store → ℕ → Bool) → Store → ℕ → List ℕ → Wrote
+linedBy f s n out =
+    choose (not (rightShape s)) (kept Shape out)
+    (choose (ltb (top (s .held)) n) (kept Number out)
+    (fitted (lineWith (s .lists) n (f s n)) out))
+
+-- follows the justifications no further than the store's depth
+abbrev pub atDepth : Store → ℕ → Bool
+atDepth s n = follows (saidBy (s .held)) (s .lists .depth) (together (s .held .assumptions)) n
+
+abbrev pub stopping : Calls
+stopping = withLine (linedBy atDepth) ours
+
+-- calls every empty label contradicted
+abbrev pub always : Calls
+always = withLine (linedBy (λ s n. true)) ours
+
 -- ---- classes
 
 -- answers no adding with 0
@@ -218,6 +237,8 @@ pub record Refuted : Type 0 where
   pub judges-prefixes : Demand2 prefixed → ⊥
   pub forgets-nogoods : Demand2 forgetful → ⊥
   pub calls-all-full : Demand2 alwaysFull → ⊥
+  pub stops-at-the-depth : Demand2 stopping → ⊥
+  pub calls-all-contradicted : Demand2 always → ⊥
   pub names-the-asked : Demand2 echoing → ⊥
   pub names-the-last : Demand2 lasting → ⊥
   pub holds-its-own : Stores welcoming → ⊥

@@ -9,13 +9,14 @@ pub const MOST_BYTES: usize = 4096;
 
 /// What the listing program printed, with the reply number behind it (0 where
 /// the case was listed), the stage that decided, and of a case that was listed
-/// the depth and the count of different consequents.
+/// the depth, the count of different consequents and the kinds of its lines.
 pub struct Listed {
     pub text: Vec<u8>,
     pub number: u32,
     pub stage: u32,
     pub depth: u32,
     pub consequents: u32,
+    pub kinds: Vec<&'static str>,
 }
 
 /// The listing program as a function.
@@ -24,12 +25,12 @@ pub fn list(input: &[u8]) -> Listed {
         Ok(store) => {
             let text = listing(&store).into_bytes();
             let (depth, consequents) = (store.depth(), store.consequent_count() as u32);
-            Listed { text, number: 0, stage: 0, depth, consequents }
+            Listed { text, number: 0, stage: 0, depth, consequents, kinds: line_kinds(&store) }
         }
         Err(fault) => {
             let Refusal { number, stage, .. } = fault.refusal;
             let text = format!("refused {} {}\n", number, fault.record);
-            Listed { text: text.into_bytes(), number, stage, depth: 0, consequents: 0 }
+            Listed { text: text.into_bytes(), number, stage, depth: 0, consequents: 0, kinds: vec![] }
         }
     }
 }
@@ -52,11 +53,38 @@ pub fn listing(store: &Store) -> String {
     text
 }
 
+/// The kinds of line that a listing has, each once.
+fn line_kinds(store: &Store) -> Vec<&'static str> {
+    let at_depth = store.from_all_at_depth();
+    let mut kinds: Vec<&'static str> =
+        (0..=store.last()).map(|n| kind_of_line(store, n, &at_depth)).collect();
+    kinds.sort();
+    kinds.dedup();
+    kinds
+}
+
+/// The kind of a number's line.
+pub fn line_kind(store: &Store, n: u32) -> &'static str {
+    kind_of_line(store, n, &store.from_all_at_depth())
+}
+
+fn kind_of_line(store: &Store, n: u32, at_depth: &[bool]) -> &'static str {
+    match n {
+        0 => "line of nogoods",
+        _ if store.is_contradicted(n) && n <= store.a => "line of a contradicted assumption",
+        _ if store.is_contradicted(n) && !at_depth[n as usize] => "line contradicted only above the depth",
+        _ if store.is_contradicted(n) => "line contradicted",
+        _ if store.list(n).is_empty() => "line unsupported",
+        _ => "line supported",
+    }
+}
+
 /// The line of a number in range, its newline included.
 pub fn line(store: &Store, n: u32) -> String {
     let list = store.list(n);
     let word = match n {
         0 => "nogood",
+        _ if store.is_contradicted(n) => "contradicted",
         _ if list.is_empty() => "unsupported",
         _ => "supported",
     };

@@ -4,6 +4,7 @@
 mod by_joins;
 mod by_subsets;
 pub mod case_file;
+mod following;
 pub mod listing;
 pub mod random;
 pub mod rule;

@@ -139,14 +139,20 @@ fn run(store: &mut Store, line: usize, command: Command) -> Reply {
             let kind = answer.map_or("", |answer| answer_kind(store, n, answer, &set));
             return Reply { kind, ..reply(line, Call::Ask, answer.map(answer_text)) };
         }
-        Command::Context(set) => (Call::Context, store.context(&set).map(context_text)),
+        Command::Context(set) => {
+            let values = store.context(&set);
+            let kind = values.as_ref().map_or("", |values| context_kind(values));
+            return Reply { kind, ..reply(line, Call::Context, values.map(context_text)) };
+        }
         Command::Member(n, place) => {
             let set = store.member(n, place);
             (Call::Member, set.map(|set| listing::set_text(set) + "\n"))
         }
         Command::Line(n) => {
             let checked = store.check_number(n);
-            (Call::Line, checked.map(|()| listing::line(store, n)))
+            let kind = checked.map_or("", |()| listing::line_kind(store, n));
+            let text = checked.map(|()| listing::line(store, n));
+            return Reply { kind, ..reply(line, Call::Line, text) };
         }
         Command::List => (Call::List, Ok(listing::listing(store))),
     };
@@ -227,4 +233,15 @@ fn answer_kind(store: &Store, n: u32, answer: Answer, assumptions: &[u32]) -> &'
 fn context_text(values: Vec<u8>) -> String {
     let words: Vec<String> = values.iter().map(u8::to_string).collect();
     words.join(" ") + "\n"
+}
+
+/// The kind of a context: which values it has.
+fn context_kind(values: &[u8]) -> &'static str {
+    match (values.contains(&1), values.contains(&3)) {
+        _ if values.contains(&2) => "context of 2s",
+        (true, true) => "context with 1s and 3s",
+        (false, true) => "context with 3s and no 1",
+        (true, false) => "context with 1s and no 3",
+        (false, false) => "context of 0s",
+    }
 }

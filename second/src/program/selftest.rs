@@ -26,7 +26,7 @@ const BY_HAND: &[(&str, &str)] = &[
     // Withdrawing a nogood gives the struck members back, and the depth falls.
     (
         "open 2 1\nadd 3 1 2\nadd 0 2\nlist\nwithdraw 0 2\nline 3\nwithdraw 3 2 1\nlist",
-        "done\ndone\ndone\ncase 2 1 2 1\n0 nogood {2}\n1 supported {1}\n2 unsupported\n3 unsupported\n\
+        "done\ndone\ndone\ncase 2 1 2 1\n0 nogood {2}\n1 supported {1}\n2 contradicted\n3 contradicted\n\
          done\n3 supported {1,2}\ndone\ncase 2 1 0 0\n0 nogood\n1 supported {1}\n2 supported {2}\n3 unsupported\n",
     ),
     // 6 before 4 before 5 before 18.
@@ -49,11 +49,18 @@ const BY_HAND: &[(&str, &str)] = &[
         "done\ndone\ndone\nsupported {3}\nsupported {1,2}\nunsupported\ndone\ndone\ndone\nsupported {1,2}\n\
          supported {2,3}\ndone\ndone\ninconsistent {2,3}\ninconsistent {4}\ninconsistent {2,3}\nunsupported\nsupported {1}\ndone\nsupported {}\n",
     ),
+    // 3 follows from all assumptions at stage 2 only, above the depth; 4 does not
+    // follow at all. A 3 stands in the context of a consistent set alone.
+    (
+        "open 1 3\nadd 0 1\nadd 2 1\nadd 3 2\nlist\ncontext\ncontext 1\nask 3\nadd 2\nline 3\nline 4\ncontext",
+        "done\ndone\ndone\ndone\ncase 1 3 3 1\n0 nogood {1}\n1 contradicted\n2 contradicted\n3 contradicted\n4 unsupported\n\
+         0 3 3 3 0\n2 2 2 2 2\nunsupported\ndone\n3 supported {}\n4 unsupported\n0 3 1 1 0\n",
+    ),
     // Depth 2 with two consequents, 3 with falsity too; two more rules for them add no stage.
     (
         "open 1 2\nadd 2 1\nadd 3 2\nadd 3 1 2\nadd 2\nlist\nadd 0 3\nlist",
         "done\ndone\ndone\ndone\ndone\ncase 1 2 4 2\n0 nogood\n1 supported {1}\n2 supported {}\n3 supported {}\n\
-         done\ncase 1 2 5 3\n0 nogood {}\n1 unsupported\n2 unsupported\n3 unsupported\n",
+         done\ncase 1 2 5 3\n0 nogood {}\n1 contradicted\n2 contradicted\n3 contradicted\n",
     ),
 ];
 

@@ -1,5 +1,6 @@
 //! The store and its calls.
 
+use super::following::{at_stage_zero, from_all, next_stage, Follows};
 use super::rule::{inside, single, Refusal, Rule, Set};
 use super::rule::{MOST_ASSUMPTIONS, MOST_CLAIMS, MOST_HELD, MOST_SUPPORTS};
 use super::stages::{judge, Judged};
@@ -10,6 +11,8 @@ pub struct Store {
     pub m: u32,
     held: BTreeSet<Rule>,
     judged: Judged,
+    /// At place n: does n follow from all assumptions together?
+    from_all: Follows,
 }
 
 /// A justification was taken in, or was there already.
@@ -37,8 +40,10 @@ impl Store {
     /// The store of a whole set of justifications, judged once. Counts and
     /// justifications have been checked before.
     pub fn of_rules(a: u32, m: u32, held: BTreeSet<Rule>) -> Result<Store, Refusal> {
-        let judged = judge(a, m, &held.iter().collect::<Vec<&Rule>>())?;
-        Ok(Store { a, m, held, judged })
+        let rules: Vec<&Rule> = held.iter().collect();
+        let judged = judge(a, m, &rules)?;
+        let from_all = from_all(a, m, &rules);
+        Ok(Store { a, m, held, judged, from_all })
     }
 
     /// Refusals in this order: 6, 4, 5, 17; 1; 7; then the stages.
@@ -79,6 +84,7 @@ impl Store {
         let value = |n| match self.answer(n, set) {
             Answer::Inconsistent(_) => 2,
             Answer::Supported(_) => 1,
+            Answer::Unsupported if self.is_contradicted(n) => 3,
             Answer::Unsupported => 0,
         };
         Ok((0..=self.last()).map(value).collect())
@@ -92,6 +98,22 @@ impl Store {
     /// The nogoods for 0, else the label of n. The number is in range.
     pub fn list(&self, n: u32) -> &[Set] {
         &self.judged.lists[n as usize]
+    }
+
+    /// Does the number, in range, have an empty label and yet follow from all
+    /// assumptions together?
+    pub fn is_contradicted(&self, n: u32) -> bool {
+        n != 0 && self.list(n).is_empty() && self.from_all[n as usize]
+    }
+
+    /// What follows from all assumptions together at the stage of the depth.
+    pub fn from_all_at_depth(&self) -> Follows {
+        let all = (1..=self.a).fold(0, |set, k| set | single(k));
+        let mut follows = at_stage_zero(self.a, self.m, all);
+        for _ in 0..self.depth() {
+            follows = next_stage(self.held.iter(), &follows);
+        }
+        follows
     }
 
     /// The highest number: A+M.
