@@ -5,6 +5,7 @@ use Rattle.promises.specs.Demand2.{Demand2}
 use Rattle.promises.specs.Demand3.{Demand3}
 use Rattle.promises.specs.Made.{Stores}
 use Rattle.promises.specs.Meaning.{Meaning}
+use Rattle.promises.specs.Season.{OneByOne}
 use Rattle.promises.specs.Shortest.{NothingShorter}
 use Rattle.promises.specs.Standing.{AsTheyStand}
 
@@ -16,3 +17,4 @@ pub record Promises (C : Calls) : Type 2 where
   pub standing : AsTheyStand C
   pub meaning : Meaning
   pub shortest : NothingShorter C
+  pub season : OneByOne C
