@@ -12,7 +12,7 @@ use Rattle.promises.specs.Calls.{ours}
 use Rattle.promises.specs.Season.{OneByOne, afterEach, numbersEach, passing}
 use Rattle.replies.specs.Replies.{numberOf}
 use Rattle.replies.specs.declared.Reply.the-variants.{Done}
-use Rattle.season.proofs.Folds.{all-done}
+use Rattle.season.proofs.Folds.{all-done, give-many, supplied-few}
 use Rattle.season.specs.Season.{addedAll, giveOf, repliesOf}
 use Rattle.store.specs.Calls.{addOf, answer, isDone}
 use Rattle.store.specs.declared.Outcome.{Outcome}
@@ -44,4 +44,6 @@ one-by-one = record {
       let d = all-done s l out right few in
       let e = each-one s l in
       ap₂ (λ (o : Outcome) (b : List ℕ). left o b) (sym (d .0) ∙ ap (answer Done) (e .0)) (sym (d .1) ∙ ap (λ (x : List ℕ). x ++ drop (length l) out) (e .1));
+  few = λ h p. sym (supplied-few h p);
+  many = λ s h right p. sym (give-many s h right p);
 }

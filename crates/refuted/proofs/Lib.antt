@@ -9,5 +9,6 @@ pub mod Prefixed
 pub mod Arrival
 pub mod Deducing
 pub mod Naming
+pub mod Season
 pub mod Wrong
 pub mod Product
