@@ -1,5 +1,6 @@
 -- Our calls are what the compiled functions do: each by the function's own theorem. Assumes nothing.
 use mathlib.Core.Logic.{_↔_}
+use mathlib.Core.Path.{refl}
 use Rattle.asking.proofs.context.Met as context-at
 use Rattle.asking.proofs.member.Met as member-at
 use Rattle.asking.proofs.question.Met as question-at
@@ -12,6 +13,7 @@ use Rattle.lines.proofs.refusal.Met as refusal-at
 use Rattle.numbers.proofs.read.Met as read-at
 use Rattle.promises.specs.Calls.{ours}
 use Rattle.promises.specs.Coded.{Coded}
+use Rattle.season.proofs.add_all.Met as add-all-at
 use Rattle.store.proofs.Store.add.Met as add-at
 use Rattle.store.proofs.Store.open.Met as open-at
 use Rattle.store.proofs.Store.shape.Met as shape-at
@@ -26,6 +28,7 @@ coded = record {
   opening = record { keeps = λ M. open-at.met; free = λ κs a. tt; exact = λ κs a r e. same };
   loading = record { keeps = λ M. load-at.met; free = λ κs a. tt; exact = λ κs a r e. same };
   adding = record { keeps = λ M. add-at.met; free = λ κs a. tt; exact = λ κs a r e. same };
+  addingAll = record { keeps = λ M. add-all-at.met; exact = λ M 𝓤 H A mem run. refl };
   withdrawing = record { keeps = λ M. withdraw-at.met; free = λ κs a. tt; exact = λ κs a r e. same };
   question = record { keeps = λ M. question-at.met; free = λ κs a. tt; exact = λ κs a r e. same };
   context = record { keeps = λ M. context-at.met; free = λ κs a. tt; exact = λ κs a r e. same };

@@ -1,27 +1,30 @@
 -- A made store is the store of what was put in, judged once. Assumes nothing.
 use mathlib.Core.Bool.{Bool, _||_, false, not, true}
-use mathlib.Core.List.{List, List·Memᴰ·cases-cons, List·Memᴰ as Mem, [], _∷_, List·Memᴰ·head as here, map, List·Memᴰ·tail as there}
+use mathlib.Core.List.{List, List·Memᴰ·cases-cons, List·Memᴰ as Mem, [], _++_, _∷_, List·Memᴰ·head as here, map, List·Memᴰ·tail as there}
 use mathlib.Core.Logic.{⊎-elim}
 use mathlib.Core.Path.{_∙_, _≡_, ap, ap₂, refl, subst, sym}
 use Prim.Native.Nat.{_+_, _≤_, ℕ}
 use native.Mathlib.Omega.{arith}
 use lib.Dec.{eqb, leb, ltb}
-use lib.ListN.{length}
+use lib.ListN.{drop, length}
 use borrow.Author.Tests.{eqb-true, leb-false, ltb-false, not-false}
 use Rattle.casefile.proofs.Gathering.{meant}
 use Rattle.casefile.proofs.Whole.{Checked, Sound, case-checked, case-sure, held-item, held-only}
 use Rattle.casefile.specs.Case.{Case, caseOf, heldBy, whole}
 use Rattle.casefile.specs.Load.{loadOf, loadedOf, recorded}
 use Rattle.casefile.specs.declared.Loaded.{Loaded}
+use Rattle.asking.specs.Asking.{Left, left}
+use Rattle.handed.specs.Supplied.{suppliedBy}
+use Rattle.handed.specs.declared.Handed.{Handed}
 use Rattle.promises.proofs.InOrder.{in-order-dropped, in-order-from, in-order-is, in-order-members, in-order-new, in-order-ordered}
 use Rattle.promises.proofs.Opening.{judge-none}
-use Rattle.promises.proofs.Keeping.{add-keeps, read-store, withdraw-keeps}
+use Rattle.promises.proofs.Keeping.{add-keeps, all-keeps, read-store, withdraw-keeps}
 use Rattle.promises.specs.Calls.{ours}
-use Rattle.promises.specs.Made.{HoldsExactly, Made, SameMembers, added, asked, inOrder, judged, kept, loaded, opened, putIn, refused, withdrawn}
+use Rattle.promises.specs.Made.{HoldsExactly, Made, SameMembers, added, asked, gained, inOrder, judged, kept, listed, loaded, opened, putIn, refused, unlisted, withdrawn}
 use Rattle.replies.proofs.Laws.{zero-done}
 use Rattle.replies.specs.Replies.{numberOf}
 use Rattle.replies.specs.declared.Reply.{Reply}
-use Rattle.replies.specs.declared.Reply.the-variants.{Already, Counts, Done, Full, Shape, Unheld}
+use Rattle.replies.specs.declared.Reply.the-variants.{Already, Counts, Done, Full, Shape, Short, Unheld}
 use Rattle.rules.proofs.Dropping.{dropped-few, dropped-from}
 use Rattle.rules.proofs.Entries.{said-many}
 use Rattle.rules.proofs.Laws.{Ranged, faultless-ranged, held-said, right-range}
@@ -30,6 +33,7 @@ use Rattle.rules.proofs.Scan.{right-elim}
 use Rattle.rules.specs.Held.{dropped, heldOf, ordered, put, saidBy}
 use Rattle.rules.specs.Items.{faultOf, justificationOf, sameJustification}
 use Rattle.rules.specs.declared.Held.{Held}
+use Rattle.season.specs.Season.{addAllOf, addedAll, bytesAfter, giveOf, repliesOf}
 use Rattle.stages.specs.Lists.{listsOf}
 use Rattle.store.proofs.Shapes.{fits-elim}
 use Rattle.store.specs.Calls.{addOf, answer, isDone, joinedBy, judgedOf, noStore, ofVerdict, openOf, partedFrom, startStore, storeOf, withdrawOf}
@@ -188,6 +192,38 @@ module _ {A M : ℕ} {H : List Justification} {s t : Store} (f : Form A M H s) (
         ranged = λ j m. ⊎-elim (λ (q : j ≡ i). subst (Ranged (A + M)) (sym q) (faultless-ranged (A + M) c l (p .sound))) (λ k. f .ranged j k) (List·Memᴰ·cases-cons m);
         store = ap (storeOf noStore A M) o ∙ p .store;
       }
+
+-- ---- a list
+
+-- one item: answered 0 it is put in, else all is as it was
+form-given : {A M : ℕ} {H : List Justification} {s : Store} → Form A M H s → (h : Handed) (b : Bool) → isDone (giveOf s h .reply) ≡ b
+    → Form A M (choose b (justificationOf (A + M) (h .consequent) (suppliedBy h) ∷ H) H) (giveOf s h .store)
+form-given {s = s} f h true e =
+    let o : Outcome = giveOf s h in
+    form-next f (h .consequent) (suppliedBy h) (ap (λ (r : Reply). answer r (o .store)) (zero-done (o .reply) (eqb-true (numberOf (o .reply)) 0 e)))
+form-given {A} {M} {H} {s} f h false e = subst (Form A M H) (sym (add-keeps s (h .consequent) (suppliedBy h) (λ d. clash (ap isDone d) e))) f
+
+form-all : {A M : ℕ} {H : List Justification} {s : Store} → Form A M H s → (l : List Handed) (rest : List ℕ) → Form A M (gained (A + M) l (repliesOf s l ++ rest) H) (addedAll s l)
+unfolding gained repliesOf addedAll
+form-all f [] rest = f
+form-all {s = s} f (h ∷ l) rest = form-all (form-given f h (isDone (giveOf s h .reply)) refl) l rest
+
+-- answered 0, every item was given
+pub all-given : (s t : Store) (l : List Handed) (out : List ℕ) → addAllOf s l out ≡ answer Done t → (addedAll s l ≡ t) × (bytesAfter s l out ≡ repliesOf s l ++ drop (length l) out)
+unfolding addAllOf bytesAfter
+all-given s t l out e =
+    let p = pass (not (rightShape s)) (answer Shape s) _ t (λ (z : _≡_ {A = ℕ} 2 0). omega arith) e in
+    let q = pass (ltb (length out) (length l)) (answer Short s) _ t (λ (z : _≡_ {A = ℕ} 15 0). omega arith) (p .1) in
+    let b = p .0 in
+    let c = q .0 in
+    (done-store (addedAll s l) t (q .1), rw (b, c))
+
+form-listed : {A M : ℕ} {H : List Justification} {s t : Store} → Form A M H s → (l : List Handed) (out after : List ℕ) → left (addAllOf s l out) (bytesAfter s l out) ≡ left (answer Done t) after
+    → Form A M (gained (A + M) l after H) t
+form-listed {A} {M} {H} {s} {t} f l out after e =
+    let g = all-given s t l out (ap (λ (x : Left). x .outcome) e) in
+    let b : repliesOf s l ++ drop (length l) out ≡ after = sym (g .1) ∙ ap (λ (x : Left). x .bytes) e in
+    subst (λ (x : List ℕ). Form A M (gained (A + M) l x H) t) b (subst (Form A M (gained (A + M) l (repliesOf s l ++ drop (length l) out) H)) (g .0) (form-all f l (drop (length l) out)))
 
 -- ---- one less
 
@@ -350,6 +386,10 @@ module _ {A M : ℕ} where
   made-form (refused {H = H} {s = s} {t = t} c l r m e n) =
       let k : addOf s c l .store ≡ s = add-keeps s c l (λ q. n (sym (ap (λ (a : Outcome). a .reply) e) ∙ q)) in
       subst (Form A M H) (sym k ∙ ap (λ (a : Outcome). a .store) e) (made-form m)
+  made-form (listed l out after m e) = form-listed (made-form m) l out after e
+  made-form (unlisted {H = H} {s = s} {t = t} l out after r m e n) =
+      let k : addAllOf s l out .store ≡ s = all-keeps s l out (λ q. n (sym (ap (λ (x : Left). x .outcome .reply) e) ∙ q)) in
+      subst (Form A M H) (sym k ∙ ap (λ (x : Left). x .outcome .store) e) (made-form m)
   made-form (withdrawn c l m e) = form-less (made-form m) c l e
   made-form (kept {H = H} {s = s} {t = t} c l r m e n) =
       let k : withdrawOf s c l .store ≡ s = withdraw-keeps s c l (λ q. n (sym (ap (λ (a : Outcome). a .reply) e) ∙ q)) in

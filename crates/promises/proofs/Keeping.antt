@@ -9,6 +9,7 @@ use borrow.Author.Tests.{eqb-true}
 use Rattle.asking.specs.Asking.{contextBytes, contextOf, contextReply}
 use Rattle.casefile.specs.Case.{Case, Reading, caseOf, heldBy, refused as unread, whole}
 use Rattle.casefile.specs.Load.{loadOf, loadedOf}
+use Rattle.handed.specs.declared.Handed.{Handed}
 use Rattle.lines.specs.Lines.{Wrote, caseText, fitted, headingOf, kept, lineOf, lineText, refusalText, writtenNumber}
 use Rattle.promises.specs.Calls.{Ask, caseLine, context, lentTo, line, listAll, member, numberSaid, question, readOf}
 use Rattle.replies.specs.Replies.{numberOf}
@@ -17,6 +18,7 @@ use Rattle.replies.specs.declared.Reply.the-variants.{Already, Counts, Done, Fu
 use Rattle.rules.specs.Held.{dropped, heldOf, put, saidBy}
 use Rattle.rules.specs.Items.{faultOf, justificationOf, sameJustification}
 use Rattle.rules.specs.declared.Held.{Held}
+use Rattle.season.specs.Season.{addAllOf, addedAll, bytesAfter, repliesOf}
 use Rattle.store.specs.Calls.{addOf, answer, isDone, joinedBy, judgedOf, noStore, ofVerdict, openOf, partedFrom, startStore, storeOf, withdrawOf}
 use Rattle.store.specs.Shape.{heldFits, rightShape, top}
 use Rattle.store.specs.declared.Outcome.{Outcome}
@@ -56,6 +58,21 @@ module _ (s : Store) where
       let N : ℕ = top (s .held) in
       keeps-choose (not (rightShape s)) (answer Shape s) _ refl
       (keeps-choose (not (isDone (faultOf N c l))) (answer (faultOf N c l) s) _ refl (keeps-join (justificationOf N c l)))
+
+  -- a list
+
+  pub all-keeps : (l : List Handed) (out : List ℕ) → (addAllOf s l out .reply ≡ Done → ⊥) → addAllOf s l out .store ≡ s
+  unfolding addAllOf
+  all-keeps l out = keeps-choose (not (rightShape s)) (answer Shape s) _ refl (keeps-choose (ltb (length out) (length l)) (answer Short s) (answer Done (addedAll s l)) refl (λ k. absurd (k refl)))
+
+  pub all-bytes : (l : List Handed) (out : List ℕ) → (addAllOf s l out .reply ≡ Done → ⊥) → bytesAfter s l out ≡ out
+  unfolding addAllOf bytesAfter
+  all-bytes l out = go (not (rightShape s)) (ltb (length out) (length l))
+    where
+      go : (b c : Bool) → (choose b (answer Shape s) (choose c (answer Short s) (answer Done (addedAll s l))) .reply ≡ Done → ⊥) → choose b out (choose c out (repliesOf s l ++ drop (length l) out)) ≡ out
+      go true c n = refl
+      go false true n = refl
+      go false false n = absurd (n refl)
 
   keeps-part : (j : Justification) → Keeps (partedFrom s j)
   unfolding partedFrom

@@ -5,6 +5,7 @@ pub mod InOrder
 pub mod Opening
 pub mod Keeping
 pub mod Form
+pub mod Season
 pub mod Shortest
 pub mod Standing
 pub mod Right

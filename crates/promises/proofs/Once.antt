@@ -13,6 +13,9 @@ pub once-each : OnceEach
 once-each = record {
   open-one = λ κs a r r′ w w′ p q. (p ∙ sym q, refl);
   add-one = λ κs a r r′ w w′ p q. (p ∙ sym q, refl);
+  entering-one = λ κs a r r′ w w′ p q. (p ∙ sym q, refl);
+  add-all-one = λ κs a r r′ w w′ p q. (p .0 ∙ sym (q .0), ap (λ (l : List ℕ). (tt, (tt, (l, tt)))) (p .1 ∙ sym (q .1)));
+  add-some-one = λ κs a r r′ w w′ p q. (p .0 ∙ sym (q .0), ap (λ (l : List ℕ). (tt, (tt, (tt, (l, tt))))) (p .1 ∙ sym (q .1)));
   withdraw-one = λ κs a r r′ w w′ p q. (p ∙ sym q, refl);
   judged-one = λ κs a r r′ w w′ p q. (p ∙ sym q, refl);
   shape-one = λ κs a r r′ w w′ p q. (p ∙ sym q, refl);

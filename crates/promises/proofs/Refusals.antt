@@ -1,6 +1,6 @@
 -- Demand 1 of our calls. Assumes nothing.
 use Rattle.promises.proofs.Coded.{coded}
-use Rattle.promises.proofs.Keeping.{add-keeps, judge-keeps, load-keeps, open-keeps, printing-keeps, read-keeps, read-store, refusal-keeps, withdraw-keeps}
+use Rattle.promises.proofs.Keeping.{add-keeps, all-bytes, all-keeps, judge-keeps, load-keeps, open-keeps, printing-keeps, read-keeps, read-store, refusal-keeps, withdraw-keeps}
 use Rattle.promises.proofs.Table.{reply-table}
 use Rattle.promises.specs.Calls.{ours}
 use Rattle.promises.specs.Demand1.{Demand1, Refusals}
@@ -12,6 +12,8 @@ refusals = record {
   loading = load-keeps;
   judging = judge-keeps;
   adding = add-keeps;
+  addingAll = all-keeps;
+  adding-bytes = all-bytes;
   withdrawing = withdraw-keeps;
   reading = read-store;
   bytes = read-keeps;

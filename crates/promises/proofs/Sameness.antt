@@ -14,7 +14,7 @@ use Rattle.promises.proofs.Right.{form-right}
 use Rattle.promises.proofs.Withdrawing.{was-held}
 use Rattle.promises.specs.Calls.{Calls, ours}
 use Rattle.promises.specs.Demand3.{Demand3, Reordered, Same, further, swapped, unmoved}
-use Rattle.promises.specs.Made.{Made, SameMembers, added, inOrder, loaded, putIn, withdrawn}
+use Rattle.promises.specs.Made.{Made, SameMembers, added, inOrder, listed, loaded, putIn, withdrawn}
 use Rattle.replies.specs.declared.Reply.the-variants.{Already, Done}
 use Rattle.rules.proofs.Dropping.{dropped-cases, dropped-from, dropped-gone, dropped-keeps}
 use Rattle.rules.proofs.Order.{mem-same}
@@ -42,6 +42,7 @@ one-store C e = record {
   nogoods = ap (λ (x : Store). nogoodsHeld (x .lists)) e;
   depth = ap (λ (x : Store). x .lists .depth) e;
   adding = λ c l. ap (λ (x : Store). C .adding x c l) e;
+  addingAll = λ l out. ap (λ (x : Store). C .addingAll x l out) e;
   withdrawing = λ c l. ap (λ (x : Store). C .withdrawing x c l) e;
   reading = λ a. ap (λ (x : Store). C .reading x a) e;
   shape = ap (λ (x : Store). C .shape x) e;
@@ -133,6 +134,7 @@ demand-3 = record {
       let i : Justification = justificationOf (A + M) c l in
       let k : Justification = justificationOf (A + M) d m in
       one-store ours (same-store (added d m (added c l p a) b) (added c l (added d m p e) f) (λ j. (crossed i k H j, crossed k i H j)));
+  two-lists = λ l m out others after later p q e f h. one-store ours (same-store (listed l out after p e) (listed m others later q f) h);
   repeated = λ c l p d m. add-already c l (made-form p) d m;
   from-file = λ bytes f e r m h. one-store ours (same-store (loaded bytes f e refl refl r refl) m h);
   two-files = λ bytes others f g p q a m e.

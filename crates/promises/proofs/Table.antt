@@ -13,6 +13,7 @@ use Rattle.asking.specs.Asking.{answerNumber, contextReply, firstIn, memberAt, 
 use Rattle.asking.specs.declared.Answer.the-variants.{Refused}
 use Rattle.asking.specs.declared.Found.the-variants.{Is, Not}
 use Rattle.casefile.specs.Load.{loadOf}
+use Rattle.handed.specs.declared.Handed.{Handed}
 use Rattle.lines.specs.Lines.{Wrote, caseText, fitted, headingOf, kept, lineOf, lineText, refusalText, writtenNumber}
 use Rattle.lines.specs.declared.Written.the-variants.{Length}
 use Rattle.numbers.specs.Numbers.{numberAt}
@@ -24,7 +25,7 @@ use Rattle.promises.specs.Calls.{Ask, caseLine, context, line, listAll, 
 use Rattle.promises.specs.Once.{One}
 use Rattle.promises.specs.Room.{LabelFull}
 use Rattle.promises.specs.Rows.{given, noRow}
-use Rattle.promises.specs.Table.{AddRows, AskRows, DecodeRows, JudgeRows, LoadRows, OpenRows, PrintRows, RefusalRows, ReplyTable, ShapedRows, StageRows, WithdrawRows, enlarged, handed, lessened, reported}
+use Rattle.promises.specs.Table.{AddRows, AllRows, AskRows, DecodeRows, JudgeRows, LoadRows, OpenRows, PrintRows, RefusalRows, ReplyTable, ShapedRows, StageRows, WithdrawRows, enlarged, handed, lessened, reported}
 use Rattle.replies.proofs.Laws.{no-ten}
 use Rattle.replies.specs.Replies.{numberOf}
 use Rattle.replies.specs.declared.Reply.{Reply}
@@ -36,6 +37,7 @@ use Rattle.rules.proofs.Putting.{put-cases, put-new, put-old}
 use Rattle.rules.specs.Held.{dropped, heldOf, put, saidBy}
 use Rattle.rules.specs.Items.{faultOf, sameJustification}
 use Rattle.rules.specs.declared.Held.{Held}
+use Rattle.season.specs.Season.{addAllOf, addedAll}
 use Rattle.stages.specs.declared.Lists.{Lists}
 use Rattle.store.proofs.Shapes.{fits-elim, shape-elim}
 use Rattle.store.specs.Calls.{addOf, answer, isDone, joinedBy, judgedOf, noStore, openOf, partedFrom, startStore, storeOf, withdrawOf}
@@ -247,6 +249,14 @@ module _ (h : Held) where
       names-choice _ (λ (o : Outcome). o .reply) (not (heldFits h)) (answer Shape noStore) (storeOf noStore (h .assumptions) (h .claims) (saidBy h)) (unnamed _ Shape refl (λ z. omega arith))
       (λ p. judged-named (not-false (heldFits h) p))
 
+-- ---- add a list
+
+all-told : (s : Store) (l : List Handed) (out : List ℕ) → AllRows s l out (replied (addAllOf s l out))
+unfolding addAllOf
+all-told s l out =
+    by-choice _ replied (not (rightShape s)) (answer Shape s) (choose (ltb (length out) (length l)) (answer Short s) (answer Done (addedAll s l))) (not-test (rightShape s)) refl
+    (λ p. by-choice noRow replied (ltb (length out) (length l)) (answer Short s) (answer Done (addedAll s l)) (less-test (length out) (length l)) refl (λ z. refl))
+
 -- ---- the calls that read
 
 fitted-told : (t out : List ℕ) → given (length out < length t) 15 noRow (wrote (fitted t out))
@@ -300,6 +310,7 @@ pub reply-table : ReplyTable ours
 reply-table = record {
   opening = λ A M. exactly (OpenRows A M) (replied (openOf A M)) (given-one _ _ _ no-row-one) (open-told A M);
   adding = λ s c l. exactly (AddRows s c l) (replied (addOf s c l)) (add-one s c l) (add-told s c l);
+  addingAll = λ s l out. exactly (AllRows s l out) (replied (addAllOf s l out)) (given-one _ _ _ (given-one _ _ _ no-row-one)) (all-told s l out);
   withdrawing = λ s c l. exactly (WithdrawRows s c l) (replied (withdrawOf s c l)) (withdraw-one s c l) (withdraw-told s c l);
   reading = λ s a. exactly (AskRows s a) (numberSaid a (readOf s a .said)) (given-one _ _ _ (shaped-one s a)) (read-told s a);
   loading = λ bytes. exactly (LoadRows bytes) (reportOf (loadOf bytes)) (load-one bytes) (load-told bytes);

@@ -3,11 +3,12 @@ use mathlib.Core.Bool.{Bool}
 use mathlib.Core.List.{List, [], _++_}
 use Prim.Native.Nat.{ℕ}
 use lib.ListN.{drop, length}
-use Rattle.asking.specs.Asking.{answerNumber, contextBytes, contextReply, memberNumber, memberOf, questionOf}
+use Rattle.asking.specs.Asking.{Left, answerNumber, contextBytes, contextReply, left, memberNumber, memberOf, questionOf}
 use Rattle.asking.specs.declared.Answer.{Answer}
 use Rattle.asking.specs.declared.Found.{Found}
 use Rattle.casefile.specs.Load.{loadOf}
 use Rattle.casefile.specs.declared.Loaded.{Loaded}
+use Rattle.handed.specs.declared.Handed.{Handed}
 use Rattle.lines.specs.Lines.{Wrote, fitted, headingOf, lineOf, refusalText, writtenNumber}
 use Rattle.lines.specs.declared.Written.{Written}
 use Rattle.lines.specs.declared.Written.the-variants.{Length}
@@ -16,6 +17,7 @@ use Rattle.numbers.specs.declared.Number.{Number}
 use Rattle.replies.specs.Replies.{numberOf}
 use Rattle.replies.specs.declared.Reply.{Reply}
 use Rattle.rules.specs.declared.Held.{Held}
+use Rattle.season.specs.Season.{addAllOf, bytesAfter}
 use Rattle.store.specs.Calls.{addOf, judgedOf, openOf, withdrawOf}
 use Rattle.store.specs.Shape.{rightShape}
 use Rattle.store.specs.declared.Outcome.{Outcome}
@@ -90,6 +92,8 @@ pub record Calls : Type 0 where
   -- the store of what is held, judged anew
   pub judging : Held → Outcome
   pub adding : Store → ℕ → List ℕ → Outcome
+  -- a list of justifications, with lent bytes for the reply number of each
+  pub addingAll : Store → List Handed → List ℕ → Left
   pub withdrawing : Store → ℕ → List ℕ → Outcome
   pub reading : Store → (a : Ask) → Read a
   -- whether a store has the right shape
@@ -117,6 +121,7 @@ ours = record {
   loading = loadOf;
   judging = judgedOf;
   adding = addOf;
+  addingAll = λ s l out. left (addAllOf s l out) (bytesAfter s l out);
   withdrawing = withdrawOf;
   reading = readOf;
   shape = rightShape;

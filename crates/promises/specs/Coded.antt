@@ -40,7 +40,9 @@ use Rattle.numbers.proofs.read as read-at
 use Rattle.numbers.proofs.read.Reads as read-reads
 use Rattle.numbers.proofs.read.Symbol as read-code
 use Rattle.promises.specs.Calls.{Calls, Read, caseLine, context, line, listAll, member, question}
-use Rattle.promises.specs.Keeps.{Tied}
+use Rattle.promises.specs.Keeps.{Claim, Tied, Walked}
+use Rattle.season.proofs.add_all as add-all-at
+use Rattle.season.proofs.add_all.Symbol as add-all-code
 use Rattle.store.proofs.Store.add as add-at
 use Rattle.store.proofs.Store.add.Reads as add-reads
 use Rattle.store.proofs.Store.add.Symbol as add-code
@@ -81,6 +83,12 @@ listedBy x = record { answer = x .said; store = x .store }
 abbrev pub wrote : Written → List ℕ → Wrote
 wrote r b = record { answer = r; bytes = b }
 
+-- what `add_all` ensures
+abbrev pub allAdded : Calls → Claim add-all-at.ended
+allAdded C κs a r e =
+    (r ≡ C .addingAll (a .0) (now (a .1 .0)) (now (a .1 .1 .0)) .outcome)
+    × (now (e .1 .1 .0) ≡ C .addingAll (a .0) (now (a .1 .0)) (now (a .1 .1 .0)) .bytes)
+
 -- ---- the functions: a the arguments, r the result, e the parameters at exit
 
 pub record Coded (C : Calls) : Type 2 where
@@ -90,6 +98,7 @@ pub record Coded (C : Calls) : Type 2 where
       (λ κs a r e. r ≡ C .loading (now (a .0)))
   pub adding : Tied add-at.ended add-code.routine add-reads.Asked add-reads.Learnt
       (λ κs a r e. r ≡ C .adding (a .0) (a .1 .0) (now (a .1 .1 .0)))
+  pub addingAll : Walked add-all-at.ended add-all-code.routine (λ M. add-all-at.clauses) (allAdded C)
   pub withdrawing : Tied withdraw-at.ended withdraw-code.routine withdraw-reads.Asked withdraw-reads.Learnt
       (λ κs a r e. r ≡ C .withdrawing (a .0) (a .1 .0) (now (a .1 .1 .0)))
   pub question : Tied question-at.ended question-code.routine question-reads.Asked question-reads.Learnt

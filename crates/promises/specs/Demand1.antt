@@ -2,6 +2,7 @@
 use mathlib.Core.List.{List}
 use mathlib.Core.Path.{_≡_}
 use Prim.Native.Nat.{ℕ}
+use Rattle.handed.specs.declared.Handed.{Handed}
 use Rattle.lines.specs.Lines.{writtenNumber}
 use Rattle.promises.specs.Calls.{Ask, Calls, lentTo, numberSaid}
 use Rattle.promises.specs.Coded.{Coded}
@@ -21,7 +22,10 @@ pub record Refusals (C : Calls) : Type 0 where
   pub judging : (h : Held) → (C .judging h .reply ≡ Done → ⊥) → C .judging h .store ≡ C .opening 0 0 .store
   -- a refused adding hands back the store it was given
   pub adding : (s : Store) (c : ℕ) (l : List ℕ) → (C .adding s c l .reply ≡ Done → ⊥) → C .adding s c l .store ≡ s
-  -- so does a refused withdrawing
+  -- so does a refused list, and no byte of its replies is written
+  pub addingAll : (s : Store) (l : List Handed) (out : List ℕ) → (C .addingAll s l out .outcome .reply ≡ Done → ⊥) → C .addingAll s l out .outcome .store ≡ s
+  pub adding-bytes : (s : Store) (l : List Handed) (out : List ℕ) → (C .addingAll s l out .outcome .reply ≡ Done → ⊥) → C .addingAll s l out .bytes ≡ out
+  -- a refused withdrawing hands it back too
   pub withdrawing : (s : Store) (c : ℕ) (l : List ℕ) → (C .withdrawing s c l .reply ≡ Done → ⊥) → C .withdrawing s c l .store ≡ s
   -- a call that reads always does
   pub reading : (s : Store) (a : Ask) → C .reading s a .store ≡ s

@@ -2,9 +2,11 @@
 use mathlib.Core.List.{List, List·Memᴰ as Mem, _++_, _∷_}
 use mathlib.Core.Path.{_≡_}
 use Prim.Native.Nat.{_+_, _≤_, ℕ}
+use Rattle.asking.specs.Asking.{left}
 use Rattle.casefile.specs.Case.{Case, caseOf, whole}
+use Rattle.handed.specs.declared.Handed.{Handed}
 use Rattle.promises.specs.Calls.{Ask, Calls}
-use Rattle.promises.specs.Made.{Input, Made, SameMembers, putIn}
+use Rattle.promises.specs.Made.{Input, Made, SameMembers, gained, putIn}
 use Rattle.replies.specs.declared.Reply.the-variants.{Already, Done}
 use Rattle.rules.specs.Held.{saidBy}
 use Rattle.rules.specs.Items.{faultOf, justificationOf}
@@ -21,6 +23,7 @@ pub record Same (C : Calls) (s t : Store) : Type 0 where
   pub nogoods : nogoodsHeld (s .lists) ≡ nogoodsHeld (t .lists)
   pub depth : s .lists .depth ≡ t .lists .depth
   pub adding : (c : ℕ) (l : List ℕ) → C .adding s c l ≡ C .adding t c l
+  pub addingAll : (l : List Handed) (out : List ℕ) → C .addingAll s l out ≡ C .addingAll t l out
   pub withdrawing : (c : ℕ) (l : List ℕ) → C .withdrawing s c l ≡ C .withdrawing t c l
   pub reading : (a : Ask) → C .reading s a ≡ C .reading t a
   pub shape : C .shape s ≡ C .shape t
@@ -43,6 +46,10 @@ pub record Demand3 (C : Calls) : Type 0 where
   -- .. two in particular
   pub two-orders : {A M : ℕ} {H : Input} {s s₁ s₂ t₁ t₂ : Store} (c d : ℕ) (l m : List ℕ) → Made C A M H s
       → C .adding s c l ≡ answer Done s₁ → C .adding s₁ d m ≡ answer Done s₂ → C .adding s d m ≡ answer Done t₁ → C .adding t₁ c l ≡ answer Done t₂ → Same C s₂ t₂
+  -- .. in one call: two lists, of which the items answered 0 put the same in
+  pub two-lists : {A M : ℕ} {H K : Input} {s s₁ t t₁ : Store} (l m : List Handed) (out others after later : List ℕ) → Made C A M H s → Made C A M K t
+      → C .addingAll s l out ≡ left (answer Done s₁) after → C .addingAll t m others ≡ left (answer Done t₁) later
+      → SameMembers (gained (A + M) l after H) (gained (A + M) m later K) → Same C s₁ t₁
   -- repeated: what was put in, its supports handed over in any order and repeated, is held already
   pub repeated : {A M : ℕ} {H : Input} {s : Store} (c : ℕ) (l : List ℕ) → Made C A M H s → faultOf (A + M) c l ≡ Done
       → Mem (justificationOf (A + M) c l) H → C .adding s c l ≡ answer Already s

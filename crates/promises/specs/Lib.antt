@@ -6,6 +6,7 @@ pub mod Made
 pub mod Rows
 pub mod Room
 pub mod Table
+pub mod Season
 pub mod Shortest
 pub mod Standing
 pub mod Demand1

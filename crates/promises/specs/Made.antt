@@ -4,7 +4,11 @@ use mathlib.Core.List.{List, List·Memᴰ as Mem, [], _∷_, map}
 use mathlib.Core.Logic.{_↔_}
 use mathlib.Core.Path.{_≡_}
 use Prim.Native.Nat.{_+_, ℕ}
+use lib.Dec.{eqb}
+use Rattle.asking.specs.Asking.{left}
 use Rattle.casefile.specs.Case.{Case, caseOf, whole}
+use Rattle.handed.specs.Supplied.{suppliedBy}
+use Rattle.handed.specs.declared.Handed.{Handed}
 use Rattle.promises.specs.Calls.{Ask, Calls}
 use Rattle.replies.specs.declared.Reply.{Reply}
 use Rattle.replies.specs.declared.Reply.the-variants.{Done}
@@ -33,6 +37,12 @@ taking j H = dropped j H
 abbrev pub putIn : Case → Input
 putIn f = map (λ i. justificationOf (f .header .assumptions + f .header .claims) (i .consequent) (i .supports)) (f .items)
 
+-- what the items of a list put in whose reply byte is 0, N being A + M
+unfoldable pub gained : ℕ → List Handed → List ℕ → Input → Input
+gained N [] bytes H = H
+gained N (h ∷ l) [] H = H
+gained N (h ∷ l) (b ∷ bytes) H = gained N l bytes (choose (eqb b 0) (putting (justificationOf N (h .consequent) (suppliedBy h)) H) H)
+
 -- s came about by calls of C, with A assumptions and M claims; H is what the calls answered 0 put in and did not take out
 pub data Made (C : Calls) (A M : ℕ) : Input → Store → Type 0 where
   -- by opening
@@ -45,6 +55,10 @@ pub data Made (C : Calls) (A M : ℕ) : Input → Store → Type 0 where
   added : {H : Input} {s t : Store} (c : ℕ) (l : List ℕ) → Made C A M H s → C .adding s c l ≡ answer Done t → Made C A M (putting (justificationOf (A + M) c l) H) t
   -- a refused adding handed t back
   refused : {H : Input} {s t : Store} (c : ℕ) (l : List ℕ) (r : Reply) → Made C A M H s → C .adding s c l ≡ answer r t → (r ≡ Done → ⊥) → Made C A M H t
+  -- by adding a list, answered 0: what the items answered 0 put in
+  listed : {H : Input} {s t : Store} (l : List Handed) (out after : List ℕ) → Made C A M H s → C .addingAll s l out ≡ left (answer Done t) after → Made C A M (gained (A + M) l after H) t
+  -- a refused list handed t back
+  unlisted : {H : Input} {s t : Store} (l : List Handed) (out after : List ℕ) (r : Reply) → Made C A M H s → C .addingAll s l out ≡ left (answer r t) after → (r ≡ Done → ⊥) → Made C A M H t
   -- by withdrawing, answered 0: what was put in, without it
   withdrawn : {H : Input} {s t : Store} (c : ℕ) (l : List ℕ) → Made C A M H s → C .withdrawing s c l ≡ answer Done t → Made C A M (taking (justificationOf (A + M) c l) H) t
   -- a refused withdrawing handed t back

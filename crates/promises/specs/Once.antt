@@ -71,6 +71,9 @@ use Rattle.script.proofs.same as same-at
 use Rattle.script.proofs.same.Reads as same-reads
 use Rattle.script.proofs.set_of as set-of-at
 use Rattle.script.proofs.set_of.Reads as set-of-reads
+use Rattle.season.proofs.add_all as add-all-at
+use Rattle.season.proofs.add_some as add-some-at
+use Rattle.season.proofs.add_some.Reads as add-some-reads
 use Rattle.sets.proofs.before as before-at
 use Rattle.sets.proofs.before.Reads as before-reads
 use Rattle.sets.proofs.has as has-at
@@ -95,6 +98,8 @@ use Rattle.stages.proofs.start as start-at
 use Rattle.stages.proofs.start.Reads as start-reads
 use Rattle.store.proofs.Store.add as add-at
 use Rattle.store.proofs.Store.add.Reads as add-reads
+use Rattle.store.proofs.Store.entering as entering-at
+use Rattle.store.proofs.Store.entering.Reads as entering-reads
 use Rattle.store.proofs.Store.open as open-at
 use Rattle.store.proofs.Store.open.Reads as open-reads
 use Rattle.store.proofs.Store.shape as shape-at
@@ -113,6 +118,8 @@ use Rattle.text.proofs.line as row-at
 use Rattle.text.proofs.line.Reads as row-reads
 use Rattle.text.proofs.refused as refused-at
 use Rattle.text.proofs.refused.Reads as refused-reads
+use Rattle.promises.specs.Calls.{ours}
+use Rattle.promises.specs.Coded.{allAdded}
 use Rattle.promises.specs.Keeps.{Claim}
 
 -- what is said of a result holds of one at most
@@ -126,6 +133,9 @@ Once T P = (κs : Lfts (T .signature .lifetimes)) (a : Args (T .signature) κs) 
 pub record OnceEach : Type 0 where
   pub open-one : Once open-at.ended open-reads.Learnt
   pub add-one : Once add-at.ended add-reads.Learnt
+  pub entering-one : Once entering-at.ended entering-reads.Learnt
+  pub add-all-one : Once add-all-at.ended (allAdded ours)
+  pub add-some-one : Once add-some-at.ended add-some-reads.Learnt
   pub withdraw-one : Once withdraw-at.ended withdraw-reads.Learnt
   pub judged-one : Once judged-at.ended judged-reads.Learnt
   pub shape-one : Once shape-at.ended shape-reads.Learnt

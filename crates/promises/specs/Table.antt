@@ -7,6 +7,7 @@ use mathlib.Core.Path.{_≡_}
 use Prim.Native.Nat.{_*_, _+_, _-_, _<_, _^_, _≤_, suc, zero, ℕ}
 use lib.ListN.{drop, length}
 use Rattle.casefile.specs.Case.{Case, Reading, caseOf, refused, whole}
+use Rattle.handed.specs.declared.Handed.{Handed}
 use Rattle.lines.specs.Lines.{caseText, lineText, refusalText, writtenNumber}
 use Rattle.numbers.specs.declared.Number.{Number}
 use Rattle.numbers.specs.declared.Number.the-variants.{Bad, Value}
@@ -67,6 +68,12 @@ AddRows s c l =
     (given (Mem (handed s c l) (saidBy (s .held))) 1
     (given (256 ≤ s .held .count) 7
     (StageRows (s .held .assumptions) (top (s .held)) (enlarged s c l))))
+
+-- ---- add a list
+
+-- fewer bytes than items is 15; the reply of each item is that of adding it (`OneByOne`)
+abbrev pub AllRows : Store → List Handed → List ℕ → ℕ → Type 0
+AllRows s l out = given (rightShape s ≡ false) 2 (given (length out < length l) 15 noRow)
 
 -- ---- withdraw
 
@@ -183,6 +190,7 @@ LoadNames (refused x r) n = ⊥
 pub record ReplyTable (C : Calls) : Type 0 where
   pub opening : (A M a : ℕ) → (numberOf (C .opening A M .reply) ≡ a) ↔ OpenRows A M a
   pub adding : (s : Store) (c : ℕ) (l : List ℕ) (a : ℕ) → (numberOf (C .adding s c l .reply) ≡ a) ↔ AddRows s c l a
+  pub addingAll : (s : Store) (l : List Handed) (out : List ℕ) (a : ℕ) → (numberOf (C .addingAll s l out .outcome .reply) ≡ a) ↔ AllRows s l out a
   pub withdrawing : (s : Store) (c : ℕ) (l : List ℕ) (a : ℕ) → (numberOf (C .withdrawing s c l .reply) ≡ a) ↔ WithdrawRows s c l a
   pub reading : (s : Store) (q : Ask) (a : ℕ) → (numberSaid q (C .reading s q .said) ≡ a) ↔ AskRows s q a
   pub loading : (bytes : List ℕ) (a : Reported) → ((numberOf (C .loading bytes .reply), C .loading bytes .«record») ≡ a) ↔ LoadRows bytes a

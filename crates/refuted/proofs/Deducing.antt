@@ -14,13 +14,15 @@ use Rattle.promises.proofs.Keeping.{read-store}
 use Rattle.promises.proofs.Refusals.{refusals}
 use Rattle.promises.proofs.Right.{made-no-own, made-right, own-shape}
 use Rattle.promises.proofs.Sameness.{demand-3, one-store}
+use Rattle.promises.proofs.Season.{one-by-one}
 use Rattle.promises.proofs.Table.{reply-table, standing-zero}
 use Rattle.promises.proofs.Truth.{demand-2}
 use Rattle.promises.specs.Calls.{Ask, lentTo, listAll, numberSaid, ours, question, readOf}
 use Rattle.promises.specs.Demand1.{Refusals}
 use Rattle.promises.specs.Demand2.{Demand2, QuestionSays, Tells}
 use Rattle.promises.specs.Demand3.{Demand3}
-use Rattle.promises.specs.Made.{Made, Stores, added, asked, judged, kept, loaded, opened, refused, withdrawn}
+use Rattle.promises.specs.Made.{Made, Stores, added, asked, judged, kept, listed, loaded, opened, refused, unlisted, withdrawn}
+use Rattle.promises.specs.Season.{OneByOne}
 use Rattle.promises.specs.Table.{AskRows, ReplyTable}
 use Rattle.refuted.proofs.Exchange.{by-question}
 use Rattle.refuted.specs.Wrong.{deducing, workedOut}
@@ -58,6 +60,8 @@ module _ {A M : ℕ} where
   made-ours (judged h a m e) = judged h a m e
   made-ours (added c l m e) = added c l (made-ours m) e
   made-ours (refused c l r m e n) = refused c l r (made-ours m) e n
+  made-ours (listed l out after m e) = listed l out after (made-ours m) e
+  made-ours (unlisted l out after r m e n) = unlisted l out after r (made-ours m) e n
   made-ours (withdrawn c l m e) = withdrawn c l (made-ours m) e
   made-ours (kept c l r m e n) = kept c l r (made-ours m) e n
   made-ours (asked {s = s} a m e) = asked a (made-ours m) (read-store s a ∙ sym (its-store s a) ∙ e)
@@ -108,6 +112,7 @@ its-table : ReplyTable deducing
 its-table = record {
   opening = reply-table .opening;
   adding = reply-table .adding;
+  addingAll = reply-table .addingAll;
   withdrawing = reply-table .withdrawing;
   reading = read-rows;
   loading = reply-table .loading;
@@ -134,6 +139,8 @@ refusals-too = record {
   loading = refusals .loading;
   judging = refusals .judging;
   adding = refusals .adding;
+  addingAll = refusals .addingAll;
+  adding-bytes = refusals .adding-bytes;
   withdrawing = refusals .withdrawing;
   reading = its-store;
   bytes = λ s. by-question asks readOf s (λ a x. (numberSaid a (x .said) ≡ 0 → ⊥) → x .bytes ≡ lentTo a) (refusals .bytes s) (λ n E k. refl);
@@ -196,6 +203,7 @@ demand-3-too = record {
   held = λ p q m. one-store deducing (demand-3 .held (made-ours p) (made-ours q) m .store);
   any-order = λ p q o. one-store deducing (demand-3 .any-order (made-ours p) (made-ours q) o .store);
   two-orders = λ c d l m p a b e f. one-store deducing (demand-3 .two-orders c d l m (made-ours p) a b e f .store);
+  two-lists = λ l m out others after later p q e f h. one-store deducing (demand-3 .two-lists l m out others after later (made-ours p) (made-ours q) e f h .store);
   repeated = λ c l p d m. demand-3 .repeated c l (made-ours p) d m;
   from-file = λ bytes f e r m h. one-store deducing (demand-3 .from-file bytes f e r (made-ours m) h .store);
   two-files = λ bytes others f g p q a m e. let o = demand-3 .two-files bytes others f g p q a m e in (o .0, λ r. one-store deducing (o .1 r .store));
@@ -207,3 +215,6 @@ demand-3-too = record {
 
 pub stores-too : Stores deducing
 stores-too = record { holds = λ m. made-holds (made-ours m); no-own = λ m. made-no-own (made-ours m); own-wrong = own-shape; right = λ m. made-right (made-ours m) }
+
+pub one-by-one-too : OneByOne deducing
+one-by-one-too = record { one-by-one = one-by-one .one-by-one; few = one-by-one .few; many = one-by-one .many }

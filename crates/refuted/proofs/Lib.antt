@@ -10,5 +10,6 @@ pub mod Arrival
 pub mod Deducing
 pub mod Naming
 pub mod Third
+pub mod Season
 pub mod Wrong
 pub mod Product

@@ -20,7 +20,7 @@ use Rattle.promises.specs.Demand2.{Demand2, ListsSmallest, carriedBy, textOf, w
 use Rattle.promises.specs.Made.{Made, inOrder, loaded, putIn}
 use Rattle.refuted.proofs.Files.{file-are, file-done, file-form}
 use Rattle.refuted.specs.Exchange.{withLine}
-use Rattle.refuted.specs.Wrong.{always, atDepth, linedBy, stopping}
+use Rattle.refuted.specs.Wrong.{always, atDepth, linedBy, shallow}
 use Rattle.rules.specs.Held.{put, saidBy}
 use Rattle.rules.specs.Items.{faultOf, sameJustification, setOf}
 use Rattle.store.specs.Reading.{labelHeld}
@@ -141,12 +141,12 @@ stops : follows beyondHeld 1 (together 1) 3 ≡ false
 unfolding together follows among digit someOf gives allOf
 stops = refl
 
-pub stops-at-the-depth : Demand2 stopping → ⊥
+pub stops-at-the-depth : Demand2 shallow → ⊥
 stops-at-the-depth d =
     let s : Store = ours .loading beyondBytes .store in
     let g = file-form beyondBytes beyond (spelled .0) (omega arith) in
     let are = file-are beyondBytes beyond (spelled .0) (omega arith) 1 _ (ap (judge limits 1 3) (held .0) ∙ judged .0) in
-    let m : Made stopping 1 2 (putIn beyond) s = loaded beyondBytes beyond (spelled .0) refl refl (file-done beyondBytes beyond (spelled .0) (omega arith)) refl in
+    let m : Made shallow 1 2 (putIn beyond) s = loaded beyondBytes beyond (spelled .0) refl refl (file-done beyondBytes beyond (spelled .0) (omega arith)) refl in
     let e : atDepth s 3 ≡ false =
     ap₂ (λ (J : List Justification) (a : ℕ). follows J (s .lists .depth) (together a) 3) (form-said g ∙ held .0) (form-a g) ∙ ap (λ (k : ℕ). follows beyondHeld k (together 1) 3) (are .depth) ∙ stops in
     let w = right-line atDepth d m 2 (omega arith) (both (λ E. carries (putIn beyond) E 3) (uncarried .0) (uncarried .1)) (word "3 contradicted\n") (musts .0) (omega (arith, sizes .0)) in

@@ -15,8 +15,9 @@ use Rattle.asking.specs.declared.Answer.{Answer}
 use Rattle.asking.specs.declared.Answer.the-variants.{Inconsistent, Refused, Supported, Unsupported}
 use Rattle.refuted.proofs.Arrival.{keeps-arrival}
 use Rattle.refuted.proofs.Cases.{p-cases}
-use Rattle.refuted.proofs.Deducing.{demand-2-too, demand-3-too, lists-again, refusals-too, stores-too}
+use Rattle.refuted.proofs.Deducing.{demand-2-too, demand-3-too, lists-again, one-by-one-too, refusals-too, stores-too}
 use Rattle.refuted.proofs.Naming.{names-the-asked, names-the-last}
+use Rattle.refuted.proofs.Season.{judges-at-once, stops-at-a-refusal}
 use Rattle.casefile.proofs.Cases.{listed as spells, listedCase}
 use Rattle.promises.proofs.Adding.{reached}
 use Rattle.promises.proofs.Answers.{byte-says, in-set, standing-says}
@@ -500,9 +501,11 @@ refuted = record {
   names-the-asked = names-the-asked;
   names-the-last = names-the-last;
   holds-its-own = holds-its-own;
+  stops-at-a-refusal = stops-at-a-refusal;
+  judges-at-once = judges-at-once;
   withdraws-no-list = withdraws-no-list;
   clears-a-consequent = clears-a-consequent;
   frees-no-place = frees-no-place;
   reads-no-list = reads-no-list;
-  reads-no-list-untold = (refusals-too, demand-2-too, demand-3-too, stores-too);
+  reads-no-list-untold = (refusals-too, demand-2-too, demand-3-too, stores-too, one-by-one-too);
 }

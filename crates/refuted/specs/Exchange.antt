@@ -1,15 +1,20 @@
 -- A program with one of its calls exchanged for another. Assumes nothing.
-use mathlib.Core.List.{List, []}
+use mathlib.Core.Bool.{not}
+use mathlib.Core.List.{List, [], _++_}
 use Prim.Native.Nat.{ℕ}
 use lib.Dec.{ltb}
-use lib.ListN.{length}
+use lib.ListN.{drop, length}
+use Rattle.asking.specs.Asking.{Left, left}
 use Rattle.asking.specs.declared.Answer.{Answer}
 use Rattle.casefile.specs.declared.Loaded.{Loaded}
+use Rattle.handed.specs.declared.Handed.{Handed}
 use Rattle.lines.specs.Lines.{Wrote}
 use Rattle.promises.specs.Calls.{Ask, Calls, Read, caseLine, context, line, listAll, member, question, reads}
+use Rattle.promises.specs.Season.{Adds, afterEach, numbersEach}
 use Rattle.replies.specs.declared.Reply.{Reply}
-use Rattle.replies.specs.declared.Reply.the-variants.{Long}
-use Rattle.store.specs.Calls.{isDone}
+use Rattle.replies.specs.declared.Reply.the-variants.{Done, Long, Shape, Short}
+use Rattle.store.specs.Calls.{answer, isDone}
+use Rattle.store.specs.Shape.{rightShape}
 use Rattle.store.specs.declared.Outcome.{Outcome}
 use Rattle.store.specs.declared.Store.{Store}
 use Rattle.theory.specs.Lists.{choose}
@@ -21,13 +26,21 @@ printingBy loading reading refusal bytes out =
     (choose (isDone (loading bytes .reply)) (record { answer = reading (loading bytes .store) (listAll out) .said; bytes = reading (loading bytes .store) (listAll out) .bytes })
     (refusal (loading bytes .reply) (loading bytes .«record») out))
 
--- C with these five calls for its own, and what it prints by them
-abbrev pub exchanged : Calls → (ℕ → ℕ → Outcome) → (List ℕ → Loaded) → (Store → ℕ → List ℕ → Outcome) → (Store → ℕ → List ℕ → Outcome) → (Store → (a : Ask) → Read a) → Calls
-exchanged C opening loading adding withdrawing reading = record {
+-- a list added one by one, by its own adding
+abbrev pub addingAllBy : Adds → Store → List Handed → List ℕ → Left
+addingAllBy add s l out =
+    choose (not (rightShape s)) (left (answer Shape s) out)
+    (choose (ltb (length out) (length l)) (left (answer Short s) out)
+    (left (answer Done (afterEach add s l)) (numbersEach add s l ++ drop (length l) out)))
+
+-- C with these six calls for its own, and what it prints by them
+abbrev pub exchanged : Calls → (ℕ → ℕ → Outcome) → (List ℕ → Loaded) → Adds → (Store → List Handed → List ℕ → Left) → (Store → ℕ → List ℕ → Outcome) → (Store → (a : Ask) → Read a) → Calls
+exchanged C opening loading adding addingAll withdrawing reading = record {
   opening = opening;
   loading = loading;
   judging = C .judging;
   adding = adding;
+  addingAll = addingAll;
   withdrawing = withdrawing;
   reading = reading;
   shape = C .shape;
@@ -37,19 +50,23 @@ exchanged C opening loading adding withdrawing reading = record {
 }
 
 abbrev pub withOpening : (ℕ → ℕ → Outcome) → Calls → Calls
-withOpening f C = exchanged C f (C .loading) (C .adding) (C .withdrawing) (C .reading)
+withOpening f C = exchanged C f (C .loading) (C .adding) (C .addingAll) (C .withdrawing) (C .reading)
 
 abbrev pub withLoading : (List ℕ → Loaded) → Calls → Calls
-withLoading f C = exchanged C (C .opening) f (C .adding) (C .withdrawing) (C .reading)
+withLoading f C = exchanged C (C .opening) f (C .adding) (C .addingAll) (C .withdrawing) (C .reading)
 
-abbrev pub withAdding : (Store → ℕ → List ℕ → Outcome) → Calls → Calls
-withAdding f C = exchanged C (C .opening) (C .loading) f (C .withdrawing) (C .reading)
+-- it adds lists by the adding that it has now
+abbrev pub withAdding : Adds → Calls → Calls
+withAdding f C = exchanged C (C .opening) (C .loading) f (addingAllBy f) (C .withdrawing) (C .reading)
+
+abbrev pub withAddingAll : (Store → List Handed → List ℕ → Left) → Calls → Calls
+withAddingAll f C = exchanged C (C .opening) (C .loading) (C .adding) f (C .withdrawing) (C .reading)
 
 abbrev pub withWithdrawing : (Store → ℕ → List ℕ → Outcome) → Calls → Calls
-withWithdrawing f C = exchanged C (C .opening) (C .loading) (C .adding) f (C .reading)
+withWithdrawing f C = exchanged C (C .opening) (C .loading) (C .adding) (C .addingAll) f (C .reading)
 
 abbrev pub withReading : (Store → (a : Ask) → Read a) → Calls → Calls
-withReading f C = exchanged C (C .opening) (C .loading) (C .adding) (C .withdrawing) f
+withReading f C = exchanged C (C .opening) (C .loading) (C .adding) (C .addingAll) (C .withdrawing) f
 
 -- a question answered by f, what else is read by r
 abbrev pub answering : (Store → ℕ → ℕ → Answer) → (Store → (a : Ask) → Read a) → Store → (a : Ask) → Read a

@@ -1,18 +1,20 @@
 -- Wrong programs, each as a value of the calls and refuted by a demand, by what a made store holds, or by what is said of forged stores: the five empty ones of document 01, then those that go wrong in one call. Nothing else cites this file. Assumes nothing.
-use mathlib.Core.Bool.{Bool, not, true}
+use mathlib.Core.Bool.{Bool, _&&_, not, true}
 use mathlib.Core.List.{List, [], _++_, _∷_, map, reverse}
 use mathlib.Core.Option.{none}
 use mathlib.Core.Path.{_≡_}
 use Prim.Native.Nat.{_+_, _≤_, suc, ℕ}
 use lib.Dec.{eqb, ltb}
-use lib.ListN.{length}
-use Rattle.asking.specs.Asking.{answerNumber, firstIn, questionOf, reasoned, standing}
+use lib.ListN.{drop, length}
+use Rattle.asking.specs.Asking.{Left, answerNumber, firstIn, left, questionOf, reasoned, standing}
 use Rattle.asking.specs.declared.Answer.{Answer}
 use Rattle.asking.specs.declared.Answer.the-variants.{Inconsistent, Refused, Supported, Unsupported}
 use Rattle.asking.specs.declared.Found.the-variants.{Not}
 use Rattle.casefile.specs.Case.{Case, Reading, caseOf, joined, refused, whole}
 use Rattle.casefile.specs.Load.{loadedOf, recorded}
 use Rattle.casefile.specs.declared.Loaded.{Loaded}
+use Rattle.handed.specs.Supplied.{suppliedBy}
+use Rattle.handed.specs.declared.Handed.{Handed}
 use Rattle.items.specs.Items.{Item}
 use Rattle.lines.specs.Lines.{Wrote, fitted, kept, lineWith}
 use Rattle.lines.specs.declared.Written.the-variants.{Refused as Unwritten}
@@ -21,13 +23,16 @@ use Rattle.promises.specs.Demand1.{Refusals}
 use Rattle.promises.specs.Demand2.{Demand2, IsDepth}
 use Rattle.promises.specs.Demand3.{Demand3}
 use Rattle.promises.specs.Made.{Input, Made, Stores, inOrder}
+use Rattle.promises.specs.Season.{OneByOne}
 use Rattle.promises.specs.Standing.{AsTheyStand}
 use Rattle.promises.specs.Table.{ReplyTable}
-use Rattle.refuted.specs.Exchange.{exchanged, withAdding, withLine, withLoading, withOpening, withQuestion, withWithdrawing}
+use Rattle.refuted.specs.Exchange.{exchanged, withAdding, withAddingAll, withLine, withLoading, withOpening, withQuestion, withWithdrawing}
+use Rattle.replies.specs.Replies.{numberOf}
 use Rattle.replies.specs.declared.Reply.the-variants.{Counts, Done, Ends, Nogoods, Number, Shape}
 use Rattle.rules.specs.Held.{heldOf, put, saidBy}
-use Rattle.rules.specs.Items.{justificationOf}
+use Rattle.rules.specs.Items.{faultOf, justificationOf, sameJustification}
 use Rattle.rules.specs.declared.Held.{Held}
+use Rattle.season.specs.Season.{giveOf}
 use Rattle.stages.specs.Lists.{listsOf}
 use Rattle.stages.specs.declared.Lists.{Lists}
 use Rattle.store.specs.Calls.{answer, isDone, noStore, storeOf}
@@ -36,8 +41,8 @@ use Rattle.store.specs.Shape.{rightShape, top}
 use Rattle.store.specs.declared.Outcome.{Outcome}
 use Rattle.store.specs.declared.Store.{Store}
 use Rattle.theory.specs.Judge.{Stage, consequents}
-use Rattle.theory.specs.Lists.{choose, numbersTo, someOf, those}
-use Rattle.theory.specs.Sets.{listing, together}
+use Rattle.theory.specs.Lists.{allOf, choose, numbersTo, someOf, those}
+use Rattle.theory.specs.Sets.{listing, together as everyOne}
 use Rattle.theory.specs.Stages.{Justification, follows, minimal}
 
 -- ---- empty programs
@@ -52,7 +57,7 @@ refusingRead s (caseLine out) = reads (caseLine out) (Unwritten Shape) s out
 refusingRead s (listAll out) = reads (listAll out) (Unwritten Shape) s out
 
 abbrev pub refusing : Calls
-refusing = exchanged ours (λ A M. answer Counts noStore) (λ bytes. record { reply = Ends; «record» = 0; store = noStore }) (λ s c l. answer Shape s) (λ s c l. answer Shape s) refusingRead
+refusing = exchanged ours (λ A M. answer Counts noStore) (λ bytes. record { reply = Ends; «record» = 0; store = noStore }) (λ s c l. answer Shape s) (λ s l out. left (answer Shape s) out) (λ s c l. answer Shape s) refusingRead
 
 -- calls every set unsupported
 abbrev pub denying : Calls
@@ -135,6 +140,36 @@ forgetful = withQuestion (λ s n E. forgetting (s .lists) n E (questionOf s n E)
 abbrev pub alwaysFull : Calls
 alwaysFull = withAdding (λ s c l. answer Nogoods s) ours
 
+-- adds the items of a list as far as the first refusal; the bytes after it stay
+unfoldable pub upToRefused : Store → List Handed → List Handed
+upToRefused s [] = []
+upToRefused s (h ∷ l) = h ∷ choose (ltb 1 (numberOf (giveOf s h .reply))) [] (upToRefused (giveOf s h .store) l)
+
+abbrev pub stopping : Calls
+stopping = withAddingAll (λ s l out. choose (isDone (ours .addingAll s l out .outcome .reply)) (ours .addingAll s (upToRefused s l) out) (ours .addingAll s l out)) ours
+
+-- judges a list at once: where its items are without fault and the stages of them all with what is held stay within the limits, all are put in
+abbrev pub handedBy : Store → Handed → Justification
+handedBy s h = justificationOf (top (s .held)) (h .consequent) (suppliedBy h)
+
+abbrev pub together : Store → List Handed → Outcome
+together s l = storeOf s (s .held .assumptions) (s .held .claims) (inOrder (map (handedBy s) l ++ saidBy (s .held)))
+
+abbrev pub faultless : Store → Handed → Bool
+faultless s h = isDone (faultOf (top (s .held)) (h .consequent) (suppliedBy h))
+
+-- .. and answered 1 where they are held or came before, else 0
+unfoldable pub newOnes : List Justification → List Justification → List ℕ
+newOnes J [] = []
+newOnes J (j ∷ l) = choose (someOf (sameJustification j) J) 1 0 ∷ newOnes (j ∷ J) l
+
+abbrev pub putTogether : Store → List Handed → List ℕ → Left
+putTogether s l out = left (answer Done (together s l .store)) (newOnes (saidBy (s .held)) (map (handedBy s) l) ++ drop (length l) out)
+
+abbrev pub atOnce : Calls
+atOnce = withAddingAll (λ s l out.
+    choose (isDone (ours .addingAll s l out .outcome .reply) && (allOf (faultless s) l && isDone (together s l .reply))) (putTogether s l out) (ours .addingAll s l out)) ours
+
 -- withdraws the rule and keeps the lists
 abbrev pub emptying : Calls
 emptying = withWithdrawing (λ s c l. listsKept s (ours .withdrawing s c l)) ours
@@ -196,10 +231,10 @@ linedBy f s n out =
 
 -- follows the justifications no further than the store's depth
 abbrev pub atDepth : Store → ℕ → Bool
-atDepth s n = follows (saidBy (s .held)) (s .lists .depth) (together (s .held .assumptions)) n
+atDepth s n = follows (saidBy (s .held)) (s .lists .depth) (everyOne (s .held .assumptions)) n
 
-abbrev pub stopping : Calls
-stopping = withLine (linedBy atDepth) ours
+abbrev pub shallow : Calls
+shallow = withLine (linedBy atDepth) ours
 
 -- calls every empty label contradicted
 abbrev pub always : Calls
@@ -237,14 +272,16 @@ pub record Refuted : Type 0 where
   pub judges-prefixes : Demand2 prefixed → ⊥
   pub forgets-nogoods : Demand2 forgetful → ⊥
   pub calls-all-full : Demand2 alwaysFull → ⊥
-  pub stops-at-the-depth : Demand2 stopping → ⊥
+  pub stops-at-the-depth : Demand2 shallow → ⊥
   pub calls-all-contradicted : Demand2 always → ⊥
   pub names-the-asked : Demand2 echoing → ⊥
   pub names-the-last : Demand2 lasting → ⊥
   pub holds-its-own : Stores welcoming → ⊥
+  pub stops-at-a-refusal : OneByOne stopping → ⊥
+  pub judges-at-once : OneByOne atOnce → ⊥
   pub withdraws-no-list : Demand2 emptying → ⊥
   pub clears-a-consequent : Stores clearing → ⊥
   pub frees-no-place : Stores notFreed → ⊥
   pub reads-no-list : AsTheyStand deducing → ⊥
   -- .. of which no other demand can tell
-  pub reads-no-list-untold : Refusals deducing × Demand2 deducing × Demand3 deducing × Stores deducing
+  pub reads-no-list-untold : Refusals deducing × Demand2 deducing × Demand3 deducing × Stores deducing × OneByOne deducing

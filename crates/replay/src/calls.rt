@@ -11,17 +11,17 @@ use store::Store;
 ghost use Prim.Native.Nat.{_≤_};
 
 // Room for the fields of one line: of 65,536 bytes every second is a space at least.
-const MOST: usize = 32769;
+pub const MOST: usize = 32769;
 
 // What a line that is no call prints.
-fn bad(number: u32) {
+pub fn bad(number: u32) {
     say(b"bad line ");
     decimal(number);
     say(b"\n");
 }
 
 // A refusal, and the number that it names.
-fn refused(reply: Reply) {
+pub fn refused(reply: Reply) {
     say(b"refused ");
     decimal(replies::number(reply) as u32);
     if let Reply::Label(n) = reply {
@@ -84,7 +84,7 @@ pub fn load(rest: &[u8], number: u32, store: Store) -> Store {
 }
 
 // The fields of a justification, the consequent first: how many there are, or 0 where the line is bad.
-fn justification(rest: &[u8], number: u32, values: &mut [u32]) -> usize
+pub fn justification(rest: &[u8], number: u32, values: &mut [u32]) -> usize
     ensures { λ r. ⌜ r ≤ 32769 ⌝ }
 {
     let read = script::numbers(rest, 0, values);

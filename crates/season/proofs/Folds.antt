@@ -146,7 +146,7 @@ module _ (s : Store) (l : List Handed) (zs : List ℕ) where
   unfolding addAllOf bytesAfter
   all-short t p = (rw (t, lt-ltb (length zs) (length l) p), rw (t, lt-ltb (length zs) (length l) p))
 
-  all-done : rightShape s ≡ true → length l ≤ length zs → (answer Done (addedAll s l) ≡ addAllOf s l zs) × (repliesOf s l ++ drop (length l) zs ≡ bytesAfter s l zs)
+  pub all-done : rightShape s ≡ true → length l ≤ length zs → (answer Done (addedAll s l) ≡ addAllOf s l zs) × (repliesOf s l ++ drop (length l) zs ≡ bytesAfter s l zs)
   unfolding addAllOf bytesAfter
   all-done t p = (rw (t, le-ltb (length zs) (length l) p), rw (t, le-ltb (length zs) (length l) p))
 

@@ -7,13 +7,16 @@ use Rattle.replay.proofs.replayed.Statement.{statement}
 use Rattle.replay.proofs.replayed.Tie as tie
 
 abbrev Inv-loop : tie.InvT-loop
-Inv-loop bytes store₀ at₀ number₀ store at number = (at ≤ length bytes + 1) × (number ≤ at + 1)
+Inv-loop bytes desk₀ at₀ number₀ desk at number = (at ≤ length bytes + 1) × (number ≤ at + 1)
 
 abbrev μ-loop : tie.MeasureT-loop
-μ-loop bytes store₀ at₀ number₀ store at number = length bytes + 1 - at
+μ-loop bytes desk₀ at₀ number₀ desk at number = length bytes + 1 - at
 
 open-requires : tie.Need-open-requires Inv-loop μ-loop
 open-requires c κs = search needs
+
+empty-requires : tie.Need-empty-requires Inv-loop μ-loop
+empty-requires c κs = search needs
 
 loop-holds : tie.Need-loop-holds Inv-loop μ-loop
 loop-holds c = (omega arith, omega arith)
@@ -22,30 +25,30 @@ line-end-requires : tie.Need-line-end-requires Inv-loop μ-loop
 line-end-requires c κs = search needs
 
 sub-command : tie.Need-sub-command Inv-loop μ-loop
-sub-command c = let l = c .before .before .loop in let b = c .before .before .before .before .before .before .args .bytes .now in omega (arith, c .line-end .ensures, line-within b (l .at), line-on b (l .at) (omega arith), l .inv .0)
+sub-command c = let l = c .before .before .loop in let b = c .before .before .before .before .before .before .before .args .bytes .now in omega (arith, c .line-end .ensures, line-within b (l .at), line-on b (l .at) (omega arith), l .inv .0)
 
 part-command-start : tie.Need-part-command-start Inv-loop μ-loop
-part-command-start c = let l = c .before .before .loop in let b = c .before .before .before .before .before .before .args .bytes .now in omega (arith, c .line-end .ensures, line-within b (l .at), line-on b (l .at) (omega arith), l .inv .0)
+part-command-start c = let l = c .before .before .loop in let b = c .before .before .before .before .before .before .before .args .bytes .now in omega (arith, c .line-end .ensures, line-within b (l .at), line-on b (l .at) (omega arith), l .inv .0)
 
 part-command-end : tie.Need-part-command-end Inv-loop μ-loop
-part-command-end c = let l = c .before .before .loop in let b = c .before .before .before .before .before .before .args .bytes .now in omega (arith, c .line-end .ensures, line-within b (l .at), line-on b (l .at) (omega arith), l .inv .0)
+part-command-end c = let l = c .before .before .loop in let b = c .before .before .before .before .before .before .before .args .bytes .now in omega (arith, c .line-end .ensures, line-within b (l .at), line-on b (l .at) (omega arith), l .inv .0)
 
 command-requires : tie.Need-command-requires Inv-loop μ-loop
 command-requires c κs = search needs
 
 add-at : tie.Need-add-at Inv-loop μ-loop
-add-at c = let l = c .before .before .before .before .loop in let b = c .before .before .before .before .before .before .before .before .args .bytes .now in omega (arith, c .before .before .line-end .ensures, line-within b (l .at), c .before .before .before .before .before .before .before .before .pre)
+add-at c = let l = c .before .before .before .before .loop in let b = c .before .before .before .before .before .before .before .before .before .args .bytes .now in omega (arith, c .before .before .line-end .ensures, line-within b (l .at), c .before .before .before .before .before .before .before .before .before .pre)
 
 add-number : tie.Need-add-number Inv-loop μ-loop
-add-number c = let l = c .before .before .before .before .loop in let b = c .before .before .before .before .before .before .before .before .args .bytes .now in omega (arith, c .before .before .before .loop-test .taken, c .before .before .before .before .before .before .before .before .pre, l .inv .1)
+add-number c = let l = c .before .before .before .before .loop in let b = c .before .before .before .before .before .before .before .before .before .args .bytes .now in omega (arith, c .before .before .before .loop-test .taken, c .before .before .before .before .before .before .before .before .before .pre, l .inv .1)
 
 loop-less : tie.Need-loop-less Inv-loop μ-loop
-loop-less c = let l = c .before .before .before .before .loop in let b = c .before .before .before .before .before .before .before .before .args .bytes .now in omega (arith, c .before .before .line-end .ensures, line-within b (l .at), line-on b (l .at) (omega (arith, c .before .before .before .loop-test .taken)), c .before .before .before .loop-test .taken)
+loop-less c = let l = c .before .before .before .before .loop in let b = c .before .before .before .before .before .before .before .before .before .args .bytes .now in omega (arith, c .before .before .line-end .ensures, line-within b (l .at), line-on b (l .at) (omega (arith, c .before .before .before .loop-test .taken)), c .before .before .before .loop-test .taken)
 
 loop-again : tie.Need-loop-again Inv-loop μ-loop
 loop-again c =
     let l = c .before .before .before .before .loop in
-    let b = c .before .before .before .before .before .before .before .before .args .bytes .now in
+    let b = c .before .before .before .before .before .before .before .before .before .args .bytes .now in
     let e = c .before .before .line-end .ensures in
     let n = line-on b (l .at) (omega (arith, c .before .before .before .loop-test .taken)) in
     (omega (arith, e, line-within b (l .at)), omega (arith, e, n, l .inv .1))
@@ -60,6 +63,7 @@ replayed-spec =
     Inv-loop
     μ-loop
     open-requires
+    empty-requires
     loop-holds
     line-end-requires
     sub-command

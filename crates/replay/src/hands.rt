@@ -1,0 +1,96 @@
+// The list in hand: items noted one by one, forgotten, or added at once.
+use handed::Handed;
+use printing::decimal;
+use printing::say;
+use store::Store;
+
+// The items noted, the first `count` of them.
+pub struct Hand {
+    pub count: usize,
+    pub items: [Handed; 256],
+}
+
+// A list of no items.
+pub fn empty() -> Hand {
+    let none = Handed {
+        consequent: 0,
+        count: 0,
+        supports: [0u32; 4],
+    };
+    Hand {
+        count: 0,
+        items: [none; 256],
+    }
+}
+
+// rule C S..: one item more; a list of 256 has no room.
+pub fn rule(rest: &[u8], number: u32, mut hand: Hand) -> Hand {
+    let mut values = [0u32; super::calls::MOST];
+    let n = super::calls::justification(rest, number, &mut values);
+    if n < 1 {
+        return hand;
+    }
+    let at = hand.count;
+    if 256 <= at {
+        super::calls::bad(number);
+        return hand;
+    }
+    hand.items[at] = Handed {
+        consequent: values[0],
+        count: n - 1,
+        supports: [values[1], values[2], values[3], values[4]],
+    };
+    hand.count = at + 1;
+    hand
+}
+
+// Whether a line has no fields more; else it is bad.
+fn alone(rest: &[u8], number: u32) -> bool {
+    let span = script::field(rest, 0);
+    if span.from < span.to {
+        super::calls::bad(number);
+        return false;
+    }
+    true
+}
+
+// forget
+pub fn forget(rest: &[u8], number: u32, hand: Hand) -> Hand {
+    if alone(rest, number) {
+        return empty();
+    }
+    hand
+}
+
+// The first n bytes as numbers, a space before each.
+fn numbers(bytes: [u8; 256], n: usize) {
+    for i in 0..n {
+        if i < 256 {
+            say(b" ");
+            decimal(bytes[i] as u32);
+        }
+    }
+}
+
+// season
+pub fn season(rest: &[u8], number: u32, store: Store, hand: Hand) -> Store {
+    if alone(rest, number) {
+        let n = hand.count;
+        if 256 < n {
+            return store;
+        }
+        let items = hand.items;
+        let mut bytes = [0u8; 256];
+        let out = season::add_some(store, items, n, &mut bytes[..n]);
+        let reply = out.reply;
+        if replies::number(reply) != 0 {
+            super::calls::refused(reply);
+            return store;
+        }
+        say(b"done");
+        numbers(bytes, n);
+        say(b"\n");
+        return out.store;
+    }
+    store
+}
