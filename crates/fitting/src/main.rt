@@ -1,6 +1,6 @@
 // The line of 4 of the listed case, which has 22 bytes, into lent bytes that are one too few, just enough and more; and the line of a number above A+M.
 use libc::STDOUT_FILENO;
-use lines::Written;
+use lent::Written;
 use store::Store;
 
 fn say(text: &[u8]) {

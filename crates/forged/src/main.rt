@@ -5,7 +5,7 @@ mod spoil;
 use asking::Answer;
 use asking::Found;
 use libc::STDOUT_FILENO;
-use lines::Written;
+use lent::Written;
 use rules::Entry;
 use rules::Held;
 use stages::Lists;

@@ -1,4 +1,6 @@
 // The lines of the listing, into lent bytes.
+use lent::Listed;
+use lent::Written;
 use replies::Reply;
 use sets::Set;
 use store::Store;
@@ -8,34 +10,10 @@ ghost use Prim.Native.Nat.{_≤_};
 ghost use Rattle.store.specs.Shape.{rightShape};
 ghost use Rattle.text.specs.Texts.{row};
 ghost use Rattle.text.specs.Writing.{Put, Room};
-ghost use Rattle.lines.specs.Lines.{CaseLined, Leaves, Lined, RefusalLined, fitted, lineText, wordOf};
+ghost use Rattle.lines.specs.Lines.{CaseLined, Lined, RefusalLined, lineText, wordOf};
 
 // No line of a store of right shape is longer, and no line of a refusal.
 pub const LONGEST: usize = 2857;
-
-// The length of a line, or why there is none.
-pub enum Written {
-    Length(usize),
-    Refused(Reply),
-}
-
-// The answer, and the store that came in.
-pub struct Listed {
-    pub answer: Written,
-    pub store: Store,
-}
-
-// The text into the lent bytes, where they are long enough.
-fn fit(text: &[u8], out: &mut [u8]) -> Written
-    ensures { λ r. ⌜ Leaves (fitted (now (text .entry)) (now (out .entry))) r (now (out .exit)) ⌝ }
-{
-    let length = text.len();
-    if out.len() < length {
-        return Written::Refused(Reply::Short);
-    }
-    text::copy(text, 0, out);
-    Written::Length(length)
-}
 
 // The text of the line of n with its list.
 fn worded(n: u32, list: &[Set], out: &mut [u8]) -> usize
@@ -88,7 +66,7 @@ pub fn line(store: Store, n: u32, out: &mut [u8]) -> Listed
     }
     let mut text = [0u8; LONGEST];
     let end = lined(store, n, &mut text);
-    let answer = fit(&text[..end], out);
+    let answer = lent::fit(&text[..end], out);
     Listed { answer, store }
 }
 
@@ -112,7 +90,7 @@ pub fn case_line(store: Store, out: &mut [u8]) -> Listed
         lists.depth as u32,
         &mut text,
     );
-    let answer = fit(&text[..end], out);
+    let answer = lent::fit(&text[..end], out);
     Listed { answer, store }
 }
 
@@ -123,5 +101,5 @@ pub fn refusal(reply: Reply, record: u32, out: &mut [u8]) -> Written
     let number = replies::number(reply) as u32;
     let mut text = [0u8; 22];
     let end = text::refused(number, record, &mut text);
-    fit(&text[..end], out)
+    lent::fit(&text[..end], out)
 }

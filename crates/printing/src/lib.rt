@@ -2,7 +2,7 @@
 use libc::STDERR_FILENO;
 use libc::STDIN_FILENO;
 use libc::STDOUT_FILENO;
-use lines::Written;
+use lent::Written;
 use replies::Reply;
 
 // What a failure says of itself, where the output may be what failed.

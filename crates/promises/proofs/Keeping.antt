@@ -9,7 +9,8 @@ use borrow.Author.Tests.{eqb-true}
 use Rattle.asking.specs.Asking.{contextBytes, contextOf, contextReply}
 use Rattle.casefile.specs.Case.{Case, Reading, caseOf, heldBy, refused as unread, whole}
 use Rattle.casefile.specs.Load.{loadOf, loadedOf}
-use Rattle.lines.specs.Lines.{Wrote, caseText, fitted, headingOf, kept, lineOf, lineText, refusalText, writtenNumber}
+use Rattle.lent.specs.Lent.{Wrote, fitted, kept, writtenNumber}
+use Rattle.lines.specs.Lines.{caseText, headingOf, lineOf, lineText, refusalText}
 use Rattle.promises.specs.Calls.{Ask, caseLine, context, lentTo, line, listAll, member, numberSaid, question, readOf}
 use Rattle.replies.specs.Replies.{numberOf}
 use Rattle.replies.specs.declared.Reply.{Reply}

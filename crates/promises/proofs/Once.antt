@@ -3,7 +3,7 @@ use mathlib.Core.List.{List}
 use mathlib.Core.Path.{_∙_, _≡_, ap, refl, sym}
 use Prim.Native.Nat.{ℕ}
 use Rattle.asking.specs.Asking.{Left}
-use Rattle.lines.specs.Lines.{Wrote}
+use Rattle.lent.specs.Lent.{Wrote}
 use Rattle.promises.specs.Once.{OnceEach}
 
 both : {X Y : Type 0} {x x′ : X} {y y′ : Y} → _≡_ {A = X × Y} (x, y) (x′, y′) → (x ≡ x′) × (y ≡ y′)

@@ -10,7 +10,8 @@ use borrow.Author.Tests.{le-ltb}
 use Rattle.asking.specs.Asking.{contextBytes, contextOf, contextReply, memberAt, memberOf, questionOf, standing}
 use Rattle.asking.specs.declared.Answer.{Answer}
 use Rattle.asking.specs.declared.Found.{Found}
-use Rattle.lines.specs.Lines.{Wrote, caseText, fitted, headingOf, lineOf, lineText, refusalText}
+use Rattle.lent.specs.Lent.{Wrote, fitted}
+use Rattle.lines.specs.Lines.{caseText, headingOf, lineOf, lineText, refusalText}
 use Rattle.promises.proofs.Form.{add-tried, parted-done, tried-done, withdraw-parted}
 use Rattle.promises.proofs.InOrder.{in-order-is, in-order-put}
 use Rattle.promises.proofs.Rows.{less-test, or-test, outside-test, passed, test-off}

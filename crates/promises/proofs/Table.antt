@@ -13,8 +13,9 @@ use Rattle.asking.specs.Asking.{answerNumber, contextReply, firstIn, memberAt, 
 use Rattle.asking.specs.declared.Answer.the-variants.{Refused}
 use Rattle.asking.specs.declared.Found.the-variants.{Is, Not}
 use Rattle.casefile.specs.Load.{loadOf}
-use Rattle.lines.specs.Lines.{Wrote, caseText, fitted, headingOf, kept, lineOf, lineText, refusalText, writtenNumber}
-use Rattle.lines.specs.declared.Written.the-variants.{Length}
+use Rattle.lent.specs.Lent.{Wrote, fitted, kept, writtenNumber}
+use Rattle.lines.specs.Lines.{caseText, headingOf, lineOf, lineText, refusalText}
+use Rattle.lent.specs.declared.Written.the-variants.{Length}
 use Rattle.numbers.specs.Numbers.{numberAt}
 use Rattle.promises.proofs.Filing.{decode-one, decode-told, load-names, load-one, load-told, reportOf}
 use Rattle.promises.proofs.Full.{VerdictSays, judge-says}

@@ -8,9 +8,10 @@ use Rattle.asking.specs.declared.Answer.{Answer}
 use Rattle.asking.specs.declared.Found.{Found}
 use Rattle.casefile.specs.Load.{loadOf}
 use Rattle.casefile.specs.declared.Loaded.{Loaded}
-use Rattle.lines.specs.Lines.{Wrote, fitted, headingOf, lineOf, refusalText, writtenNumber}
-use Rattle.lines.specs.declared.Written.{Written}
-use Rattle.lines.specs.declared.Written.the-variants.{Length}
+use Rattle.lent.specs.Lent.{Wrote, fitted, writtenNumber}
+use Rattle.lines.specs.Lines.{headingOf, lineOf, refusalText}
+use Rattle.lent.specs.declared.Written.{Written}
+use Rattle.lent.specs.declared.Written.the-variants.{Length}
 use Rattle.numbers.specs.Numbers.{numberAt}
 use Rattle.numbers.specs.declared.Number.{Number}
 use Rattle.replies.specs.Replies.{numberOf}

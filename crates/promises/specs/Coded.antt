@@ -33,9 +33,9 @@ use Rattle.listing.proofs.printed.Symbol as printed-code
 use Rattle.lines.proofs.refusal as refusal-at
 use Rattle.lines.proofs.refusal.Reads as refusal-reads
 use Rattle.lines.proofs.refusal.Symbol as refusal-code
-use Rattle.lines.specs.Lines.{Wrote}
-use Rattle.lines.specs.declared.Listed.{Listed}
-use Rattle.lines.specs.declared.Written.{Written}
+use Rattle.lent.specs.Lent.{Wrote}
+use Rattle.lent.specs.declared.Listed.{Listed}
+use Rattle.lent.specs.declared.Written.{Written}
 use Rattle.numbers.proofs.read as read-at
 use Rattle.numbers.proofs.read.Reads as read-reads
 use Rattle.numbers.proofs.read.Symbol as read-code

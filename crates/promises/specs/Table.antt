@@ -7,7 +7,8 @@ use mathlib.Core.Path.{_≡_}
 use Prim.Native.Nat.{_*_, _+_, _-_, _<_, _^_, _≤_, suc, zero, ℕ}
 use lib.ListN.{drop, length}
 use Rattle.casefile.specs.Case.{Case, Reading, caseOf, refused, whole}
-use Rattle.lines.specs.Lines.{caseText, lineText, refusalText, writtenNumber}
+use Rattle.lent.specs.Lent.{writtenNumber}
+use Rattle.lines.specs.Lines.{caseText, lineText, refusalText}
 use Rattle.numbers.specs.declared.Number.{Number}
 use Rattle.numbers.specs.declared.Number.the-variants.{Bad, Value}
 use Rattle.promises.specs.Calls.{Ask, Calls, caseLine, context, line, listAll, member, numberSaid, question}

@@ -10,7 +10,8 @@ use Rattle.asking.specs.Asking.{answerSet, firstIn, questionOf, reasoned}
 use Rattle.asking.specs.declared.Answer.the-variants.{Inconsistent, Supported, Unsupported}
 use Rattle.casefile.specs.Case.{Case, caseOf, recordsFrom, whole}
 use Rattle.items.specs.Items.{Item, headerFrom, numbersFrom, recordFrom, unless}
-use Rattle.lines.specs.Lines.{fitted, refusalText, wordOf, writtenLength}
+use Rattle.lent.specs.Lent.{fitted, writtenLength}
+use Rattle.lines.specs.Lines.{refusalText, wordOf}
 use Rattle.numbers.specs.Numbers.{numberFrom, secondFrom}
 use Rattle.promises.proofs.Form.{Form, form-said}
 use Rattle.promises.proofs.Standing.{as-they-stand}

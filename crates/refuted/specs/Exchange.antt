@@ -5,7 +5,7 @@ use lib.Dec.{ltb}
 use lib.ListN.{length}
 use Rattle.asking.specs.declared.Answer.{Answer}
 use Rattle.casefile.specs.declared.Loaded.{Loaded}
-use Rattle.lines.specs.Lines.{Wrote}
+use Rattle.lent.specs.Lent.{Wrote}
 use Rattle.promises.specs.Calls.{Ask, Calls, Read, caseLine, context, line, listAll, member, question, reads}
 use Rattle.replies.specs.declared.Reply.{Reply}
 use Rattle.replies.specs.declared.Reply.the-variants.{Long}

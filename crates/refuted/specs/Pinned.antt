@@ -7,7 +7,7 @@ use Prim.Native.String.{String}
 use lib.ListN.{drop, length}
 use Rattle.asking.specs.Asking.{answerSet}
 use Rattle.asking.specs.declared.Answer.the-variants.{Inconsistent, Supported, Unsupported}
-use Rattle.lines.specs.Lines.{writtenLength}
+use Rattle.lent.specs.Lent.{writtenLength}
 use Rattle.promises.specs.Calls.{Calls, caseLine, context, line, over, question, reads, written}
 use Rattle.refuted.specs.Cases.{ListsAre, Prints, listedBytes}
 use Rattle.replies.specs.Replies.{numberOf}

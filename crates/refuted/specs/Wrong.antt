@@ -14,7 +14,7 @@ use Rattle.casefile.specs.Case.{Case, Reading, caseOf, joined, refused, whole}
 use Rattle.casefile.specs.Load.{loadedOf, recorded}
 use Rattle.casefile.specs.declared.Loaded.{Loaded}
 use Rattle.items.specs.Items.{Item}
-use Rattle.lines.specs.declared.Written.the-variants.{Refused as Unwritten}
+use Rattle.lent.specs.declared.Written.the-variants.{Refused as Unwritten}
 use Rattle.promises.specs.Calls.{Ask, Calls, Read, caseLine, context, line, listAll, member, ours, question, reads}
 use Rattle.promises.specs.Demand1.{Refusals}
 use Rattle.promises.specs.Demand2.{Demand2, IsDepth}

@@ -1,7 +1,7 @@
 // One call each: its fields read, the call made, its reply printed.
 use asking::Answer;
 use asking::Found;
-use lines::Written;
+use lent::Written;
 use printing::decimal;
 use printing::say;
 use replies::Reply;
