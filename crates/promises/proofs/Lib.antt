@@ -27,4 +27,5 @@ pub mod Models
 pub mod Meaning
 pub mod Truth
 pub mod Printing
+pub mod Files
 pub mod Promises

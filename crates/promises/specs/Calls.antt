@@ -22,6 +22,7 @@ use Rattle.store.specs.Shape.{rightShape}
 use Rattle.store.specs.declared.Outcome.{Outcome}
 use Rattle.store.specs.declared.Store.{Store}
 use Rattle.listing.specs.Listing.{listedOf, listingOf}
+use Rattle.writing.specs.Writing.{writeOf}
 
 -- ---- the calls that read
 
@@ -38,6 +39,8 @@ pub data Ask : Type 0 where
   caseLine : List ℕ → Ask
   -- the whole listing, into lent bytes
   listAll : List ℕ → Ask
+  -- the case file, into lent bytes
+  file : List ℕ → Ask
 
 -- what is said to each
 abbrev pub Said : Ask → Type 0
@@ -47,6 +50,7 @@ Said (member n place) = Found
 Said (line n out) = Written
 Said (caseLine out) = Written
 Said (listAll out) = Written
+Said (file out) = Written
 
 -- the document's number of it
 abbrev pub numberSaid : (a : Ask) → Said a → ℕ
@@ -56,6 +60,7 @@ numberSaid (member n place) x = memberNumber x
 numberSaid (line n out) x = writtenNumber x
 numberSaid (caseLine out) x = writtenNumber x
 numberSaid (listAll out) x = writtenNumber x
+numberSaid (file out) x = writtenNumber x
 
 -- the bytes lent to the call; none where it takes none
 abbrev pub lentTo : Ask → List ℕ
@@ -65,6 +70,7 @@ lentTo (member n place) = []
 lentTo (line n out) = out
 lentTo (caseLine out) = out
 lentTo (listAll out) = out
+lentTo (file out) = out
 
 -- what a call that reads leaves: what it says, the store, and the lent bytes
 pub record Read (a : Ask) : Type 0 where
@@ -110,6 +116,7 @@ readOf s (member n place) = reads (member n place) (memberOf s n place) s []
 readOf s (line n out) = reads (line n out) (lineOf s n out .answer) s (lineOf s n out .bytes)
 readOf s (caseLine out) = reads (caseLine out) (headingOf s out .answer) s (headingOf s out .bytes)
 readOf s (listAll out) = reads (listAll out) (listedOf s out .answer) s (listedOf s out .bytes)
+readOf s (file out) = reads (file out) (writeOf s out .answer) s (writeOf s out .bytes)
 
 -- ours: what the contracts of the product's calls say of every answer (`Coded`)
 abbrev pub ours : Calls

@@ -13,4 +13,5 @@ pub mod Demand2
 pub mod Demand3
 pub mod Shaped
 pub mod Meaning
+pub mod Files
 pub mod Promises
