@@ -10,4 +10,5 @@ pub mod Arrival
 pub mod Deducing
 pub mod Naming
 pub mod Wrong
+pub mod Writing
 pub mod Product

@@ -6,7 +6,7 @@ use lib.ListN.{length}
 use Rattle.asking.specs.declared.Answer.{Answer}
 use Rattle.casefile.specs.declared.Loaded.{Loaded}
 use Rattle.lent.specs.Lent.{Wrote}
-use Rattle.promises.specs.Calls.{Ask, Calls, Read, caseLine, context, line, listAll, member, question, reads}
+use Rattle.promises.specs.Calls.{Ask, Calls, Read, caseLine, context, file, line, listAll, member, question, reads}
 use Rattle.replies.specs.declared.Reply.{Reply}
 use Rattle.replies.specs.declared.Reply.the-variants.{Long}
 use Rattle.store.specs.Calls.{isDone}
@@ -59,6 +59,20 @@ answering f r s (member n place) = r s (member n place)
 answering f r s (line n out) = r s (line n out)
 answering f r s (caseLine out) = r s (caseLine out)
 answering f r s (listAll out) = r s (listAll out)
+answering f r s (file out) = r s (file out)
 
 abbrev pub withQuestion : (Store → ℕ → ℕ → Answer) → Calls → Calls
 withQuestion f C = withReading (answering f (C .reading)) C
+
+-- a file written by f, what else is read by r
+abbrev pub filing : (Store → List ℕ → Wrote) → (Store → (a : Ask) → Read a) → Store → (a : Ask) → Read a
+filing f r s (question n E) = r s (question n E)
+filing f r s (context E out) = r s (context E out)
+filing f r s (member n place) = r s (member n place)
+filing f r s (line n out) = r s (line n out)
+filing f r s (caseLine out) = r s (caseLine out)
+filing f r s (listAll out) = r s (listAll out)
+filing f r s (file out) = reads (file out) (f s out .answer) s (f s out .bytes)
+
+abbrev pub withFile : (Store → List ℕ → Wrote) → Calls → Calls
+withFile f C = withReading (filing f (C .reading)) C
