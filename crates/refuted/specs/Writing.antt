@@ -16,13 +16,13 @@ use Rattle.store.specs.declared.Store.{Store}
 use Rattle.theory.specs.Lists.{choose, each, numbersTo}
 use Rattle.writing.specs.Writing.{bytesOf, fileOf, recordFor}
 
--- writes nothing, and answers the length 0
-abbrev pub silent : Calls
-silent = withFile (λ s out. record { answer = Length 0; bytes = out }) ours
-
 -- the text of a store of right shape, where it fits
 abbrev pub texting : (Store → List ℕ) → Store → List ℕ → Wrote
 texting t s out = choose (not (rightShape s)) (kept Shape out) (fitted (t s) out)
+
+-- writes nothing, and answers the length 0
+abbrev pub silent : Calls
+silent = withFile (λ s out. record { answer = Length 0; bytes = out }) ours
 
 -- writes the labels too, after the records
 abbrev pub labelsOf : Store → List ℕ
