@@ -1,7 +1,7 @@
 -- The files that we write keep their promises. Assumes nothing.
 use mathlib.Core.Bool.{Bool, false, not, true}
 use mathlib.Core.List.{List, _++_, _∷_}
-use mathlib.Core.Logic.{_⊎_, inl}
+use mathlib.Core.Logic.{inl}
 use mathlib.Core.Path.{_∙_, _≡_, ap, ap₂, refl, subst, sym}
 use Prim.Native.Nat.{_≤_, ℕ}
 use native.Mathlib.Omega.{arith}
@@ -19,20 +19,21 @@ use Rattle.promises.proofs.Form.{Form, form-a, form-count, form-m, form
 use Rattle.promises.proofs.InOrder.{in-order-is}
 use Rattle.promises.proofs.Printing.{printed-same}
 use Rattle.promises.proofs.Right.{made-right}
-use Rattle.promises.specs.Calls.{Read, file, ours, over, readOf, reads, written}
+use Rattle.promises.specs.Calls.{Read, file, ours, over, reads, written}
 use Rattle.promises.specs.Files.{Files, Writes, fileFor}
-use Rattle.promises.specs.Made.{HoldsExactly, Input, Made, inOrder, loaded, putIn}
+use Rattle.promises.specs.Made.{HoldsExactly, Input, Made, loaded}
 use Rattle.replies.specs.declared.Reply.the-variants.{Done, Shape, Short}
 use Rattle.rules.proofs.Entries.{said-many}
 use Rattle.rules.specs.Held.{heldOf, saidBy}
 use Rattle.rules.specs.declared.Held.{Held}
 use Rattle.store.proofs.Shapes.{fits-elim}
-use Rattle.store.specs.Calls.{answer, noStore, storeOf}
+use Rattle.store.specs.Calls.{answer, judgedOf, noStore, storeOf}
 use Rattle.store.specs.Shape.{heldFits, rightShape}
+use Rattle.store.specs.declared.Outcome.{Outcome}
 use Rattle.store.specs.declared.Store.{Store}
 use Rattle.theory.specs.Lists.{choose, each}
 use Rattle.theory.specs.Stages.{Justification}
-use Rattle.writing.proofs.Files.{file-back, file-length, tells-apart}
+use Rattle.writing.proofs.Files.{file-back, file-length, file-loads, file-one, tells-apart}
 use Rattle.writing.proofs.Turns.{shape-fits}
 use Rattle.writing.specs.Writing.{bytesOf, fileOf, numbersFor, recordFor, writeOf}
 
@@ -68,6 +69,19 @@ module _ (s : Store) (t out : List ℕ) where
 
   few : Writes ours s t out → length t ≤ 1796
   few e = let w = told e in omega (arith, ap length (w .1), file-length (s .held) (shape-fits s (w .0)))
+
+-- loading what was written judges what is held anew
+module _ (s : Store) (t out : List ℕ) where
+  judges : heldFits (s .held) ≡ true → judgedOf (s .held) ≡ storeOf noStore (s .held .assumptions) (s .held .claims) (saidBy (s .held))
+  unfolding judgedOf
+  judges f = rw f
+
+  judged-anew : Writes ours s t out → (loadOf t .reply ≡ judgedOf (s .held) .reply) × (loadOf t .store ≡ judgedOf (s .held) .store)
+  judged-anew e =
+      let w = told s t out e in
+      let f : heldFits (s .held) ≡ true = shape-fits s (w .0) in
+      let l = ap loadOf (w .1) ∙ file-loads (s .held) f in
+      (ap (λ (x : Loaded). x .reply) l ∙ sym (ap (λ (o : Outcome). o .reply) (judges f)), ap (λ (x : Loaded). x .store) l ∙ sym (ap (λ (o : Outcome). o .store) (judges f)))
 
 -- where it fits it is written
 writes : (s : Store) (out : List ℕ) → rightShape s ≡ true → length (fileOf (s .held)) ≤ length out → Writes ours s (fileOf (s .held)) out
@@ -139,11 +153,16 @@ files = record {
   says = says;
   round = round;
   held-alone = λ s u out p q e. let w = wrote-same s u out p q e in (ap (λ (x : Wrote). x .answer) w, ap (λ (x : Wrote). x .bytes) w);
+  judged-anew = judged-anew;
   tells-apart = λ s u p q a m t v out out′ e e′.
       let x : t ≡ fileOf (s .held) = told s t out e .1 in
       let y : v ≡ fileOf (u .held) = told u v out′ e′ .1 in
       let w = tells-apart (s .held) (u .held) (shape-fits s p) (shape-fits u q) a m in
       (λ z. w .0 (sym x ∙ z ∙ y), λ z. x ∙ w .1 z ∙ sym y);
+  tells-all = λ s u t out out′ e e′.
+      let x = told s t out e in
+      let y = told u t out′ e′ in
+      file-one (s .held) (u .held) (shape-fits s (x .0)) (shape-fits u (y .0)) (sym (x .1) ∙ y .1);
   few = few;
   enough = λ s out p h. (fileOf (s .held), writes s out p (omega (arith, file-length (s .held) (shape-fits s p))));
   lists-alike = λ bytes t out place h d e. lists-alike bytes d t out place h e;

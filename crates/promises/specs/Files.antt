@@ -31,9 +31,13 @@ pub record Files (C : Calls) : Type 0 where
   -- of a store of right shape, forged or not, only what is held is written
   pub held-alone : (s u : Store) (out : List ℕ) → rightShape s ≡ true → rightShape u ≡ true → s .held ≡ u .held
       → (C .reading s (file out) .said ≡ C .reading u (file out) .said) × (C .reading s (file out) .bytes ≡ C .reading u (file out) .bytes)
+  -- .. and loading it gives what judging that anew gives: the reply and the store
+  pub judged-anew : (s : Store) (t out : List ℕ) → Writes C s t out → (C .loading t .reply ≡ C .judging (s .held) .reply) × (C .loading t .store ≡ C .judging (s .held) .store)
   -- two stores opened alike write the same bytes exactly when they hold the same justifications
   pub tells-apart : (s u : Store) → rightShape s ≡ true → rightShape u ≡ true → s .held .assumptions ≡ u .held .assumptions → s .held .claims ≡ u .held .claims
       → (t v out out′ : List ℕ) → Writes C s t out → Writes C u v out′ → (t ≡ v) ↔ SameMembers (saidBy (s .held)) (saidBy (u .held))
+  -- .. and the bytes tell all that is held, A and M too
+  pub tells-all : (s u : Store) (t out out′ : List ℕ) → Writes C s t out → Writes C u t out′ → s .held ≡ u .held
   -- what is written never exceeds 1,796 bytes, so it can be loaded ..
   pub few : (s : Store) (t out : List ℕ) → Writes C s t out → length t ≤ 1796
   -- .. and as many are enough

@@ -20,7 +20,6 @@ use Rattle.promises.specs.Made.{Made, added, inOrder, opened}
 use Rattle.refuted.proofs.Cases.{made-are}
 use Rattle.refuted.proofs.Small.{opens-at}
 use Rattle.refuted.proofs.Wrong.{bare, bare-done, double, double-done, first, forged, forged-right, listed, listed-done, made-bare, made-double, made-listed, premise}
-use Rattle.refuted.specs.Cases.{ListsAre}
 use Rattle.refuted.specs.Writing.{WritingRefuted, backFile, labelling, labelsOf, silent, unordered}
 use Rattle.replies.specs.Replies.{numberOf}
 use Rattle.replies.specs.declared.Reply.the-variants.{Done, Shape}
