@@ -19,7 +19,7 @@ use Rattle.bare.specs.declared.What.the-variants.{Context, Number as Of,
 use Rattle.following.proofs.Staging.{Placed}
 use Rattle.following.specs.First.{sinceOf}
 use Rattle.handed.specs.declared.Handed.{Handed}
-use Rattle.lines.specs.Lines.{fitted}
+use Rattle.lent.specs.Lent.{fitted}
 use Rattle.plain.proofs.Laws.{bytes-plain, read-plain}
 use Rattle.plain.specs.Plainly.{byteOf, plainBy, readFrom}
 use Rattle.plain.specs.declared.Plain.{Plain}

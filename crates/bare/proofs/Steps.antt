@@ -20,9 +20,9 @@ use Rattle.following.proofs.Passing.{getD-any}
 use Rattle.following.specs.Marks.{givenBy, markBy, sown}
 use Rattle.handed.specs.Supplied.{suppliedBy}
 use Rattle.handed.specs.declared.Handed.{Handed}
-use Rattle.lines.specs.Lines.{fitted}
-use Rattle.lines.specs.declared.Written.{Written}
-use Rattle.lines.specs.declared.Written.the-variants.{Refused as Unwritten}
+use Rattle.lent.specs.Lent.{fitted}
+use Rattle.lent.specs.declared.Written.{Written}
+use Rattle.lent.specs.declared.Written.the-variants.{Refused as Unwritten}
 use Rattle.plain.specs.Plainly.{byteOf, readFrom}
 use Rattle.plain.specs.declared.Plain.{Plain}
 use Rattle.plain.specs.declared.Plain.the-variants.{Refused}

@@ -12,8 +12,8 @@ use Rattle.bare.specs.declared.What.{What}
 use Rattle.bare.specs.declared.What.the-variants.{Context, Number as Of, Stages}
 use Rattle.handed.specs.Supplied.{suppliedBy}
 use Rattle.handed.specs.declared.Handed.{Handed}
-use Rattle.lines.specs.Lines.{Wrote, fitted, writtenNumber}
-use Rattle.lines.specs.declared.Written.the-variants.{Refused as Unwritten}
+use Rattle.lent.specs.Lent.{Wrote, fitted, writtenNumber}
+use Rattle.lent.specs.declared.Written.the-variants.{Refused as Unwritten}
 use Rattle.plain.specs.Plainly.{byteOf, plainBy, plainNumber}
 use Rattle.plain.specs.declared.Plain.{Plain}
 use Rattle.plain.specs.declared.Plain.the-variants.{Refused}

@@ -12,7 +12,7 @@ use Rattle.bare.specs.declared.What.{What}
 use Rattle.bare.specs.declared.What.the-variants.{Context, Number as Of, Stages}
 use Rattle.following.specs.Marks.{givenBy, markBy, sown}
 use Rattle.handed.specs.declared.Handed.{Handed}
-use Rattle.lines.specs.Lines.{fitted}
+use Rattle.lent.specs.Lent.{fitted}
 use Rattle.plain.specs.Plainly.{byteOf, readFrom}
 use Rattle.plain.specs.declared.Plain.{Plain}
 use Rattle.plain.specs.declared.Plain.the-variants.{Refused}

@@ -1,6 +1,6 @@
 // The plain path from a bare list of justifications: the items judged in order, then followed stage by stage.
 use handed::Handed;
-use lines::Written;
+use lent::Written;
 use plain::Plain;
 use replies::Reply;
 use sets::Set;

@@ -1,12 +1,12 @@
 // Stores of the wrong shape, one for each clause, on every call: each must answer 2, hand the same store back and leave the lent bytes alone.
-// Then stores of right shape whose lists are untrue: questions read the lists, adding and withdrawing work from the justifications;
+// Then stores of right shape whose lists are untrue: questions read the lists; adding, withdrawing and the file work from the justifications;
 // whether a label is empty is read from the list, whether its number is then contradicted from the justifications.
 mod spoil;
 
 use asking::Answer;
 use asking::Found;
+use lent::Written;
 use libc::STDOUT_FILENO;
-use lines::Written;
 use rules::Entry;
 use rules::Held;
 use stages::Lists;
@@ -255,6 +255,17 @@ fn line(s: Store) {
     untouched(bytes);
 }
 
+fn write(s: Store) {
+    let mut bytes = [7u8; 200];
+    let out = writing::write(s, &mut bytes);
+    let answer = out.answer;
+    let after = out.store;
+    say(b", write ");
+    told_line(answer);
+    kept(s, after);
+    untouched(bytes);
+}
+
 fn calls(s: Store) {
     add(s);
     withdraw(s);
@@ -262,6 +273,7 @@ fn calls(s: Store) {
     context(s);
     member(s);
     line(s);
+    write(s);
     say(b"\n");
 }
 
@@ -291,6 +303,22 @@ fn asked(s: Store, e: u32) {
     told_answer(answer);
 }
 
+// What is written of a store, bytes after it as they were.
+fn filed(s: Store) -> [u8; 200] {
+    let mut bytes = [7u8; 200];
+    writing::write(s, &mut bytes);
+    bytes
+}
+
+fn same_bytes(a: [u8; 200], b: [u8; 200]) -> bool {
+    for i in 0..200 {
+        if a[i] != b[i] {
+            return false;
+        }
+    }
+    true
+}
+
 // The untrue lists against the true ones.
 fn compared(base: Store) {
     let other = untrue(base);
@@ -302,6 +330,11 @@ fn compared(base: Store) {
     kept(added(base, 5, &[3]), added(other, 5, &[3]));
     say(b"; with 4 from 1 withdrawn:");
     kept(withdrawn(base, 4, &[1]), withdrawn(other, 4, &[1]));
+    if same_bytes(filed(base), filed(other)) {
+        say(b"; the same file");
+    } else {
+        say(b"; ANOTHER FILE");
+    }
     say(b"\n");
 }
 

@@ -1,30 +1,18 @@
 -- What a call leaves, test by test. Assumes nothing.
 use mathlib.Core.Bool.{false, true}
-use mathlib.Core.List.{List, _++_}
+use mathlib.Core.List.{List}
 use mathlib.Core.Path.{_∙_, _≡_, ap}
 use Prim.Native.Nat.{_<_, _≤_, ℕ}
-use lib.ListN.{drop, length}
 use borrow.Author.Tests.{le-ltb, lt-ltb}
-use Rattle.lines.specs.Lines.{CaseLined, Hands, Leaves, Lined, RefusalLined, Wrote, caseText, fitted, headingOf, lineOf, lineText, refusalText}
-use Rattle.lines.specs.declared.Written.{Written}
-use Rattle.lines.specs.declared.Written.the-variants.{Length, Refused}
+use Rattle.lent.proofs.Fits.{hands}
+use Rattle.lent.specs.Lent.{Leaves, fitted}
+use Rattle.lines.specs.Lines.{CaseLined, Lined, RefusalLined, caseText, headingOf, lineOf, lineText, refusalText}
+use Rattle.lent.specs.declared.Written.{Written}
+use Rattle.lent.specs.declared.Written.the-variants.{Refused}
 use Rattle.replies.specs.declared.Reply.{Reply}
-use Rattle.replies.specs.declared.Reply.the-variants.{Number, Shape, Short}
+use Rattle.replies.specs.declared.Reply.the-variants.{Number, Shape}
 use Rattle.store.specs.Shape.{rightShape, top}
 use Rattle.store.specs.declared.Store.{Store}
-
-module _ (t out : List ℕ) where
-  pub fitted-short : length out < length t → Leaves (fitted t out) (Refused Short) out
-  unfolding fitted
-  fitted-short h = rw (lt-ltb (length out) (length t) h)
-
-  pub fitted-long : length t ≤ length out → {after : List ℕ} → after ≡ t ++ drop (length t) out → Leaves (fitted t out) (Length (length t)) after
-  unfolding fitted
-  fitted-long h e = rw (le-ltb (length out) (length t) h, e)
-
--- one equation of what is left, and the store handed back
-hands : (s : Store) {w : Wrote} {r : Written} {after : List ℕ} → Leaves w r after → Hands s w (record { answer = r; store = s }) after
-hands s e = (ap (λ (v : Wrote). record { answer = v .answer; store = s }) e, ap (λ (v : Wrote). v .bytes) e)
 
 module _ (s : Store) (out : List ℕ) where
   module _ (n : ℕ) where

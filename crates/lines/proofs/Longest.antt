@@ -8,8 +8,9 @@ use lib.Dec.{lit<}
 use lib.ListN.{drop, getD, length, length-take}
 use borrow.Author.Tests.{le-ltb}
 use Rattle.lines.proofs.Bounds.{bounded}
-use Rattle.lines.specs.Lines.{caseText, fitted, headingOf, lineOf, lineText, lineWith, longest, refusalText, wordOf}
-use Rattle.lines.specs.declared.Written.the-variants.{Length}
+use Rattle.lent.specs.Lent.{fitted}
+use Rattle.lent.specs.declared.Written.the-variants.{Length}
+use Rattle.lines.specs.Lines.{caseText, headingOf, lineOf, lineText, lineWith, longest, refusalText, wordOf}
 use Rattle.replies.proofs.Laws.{two-digits}
 use Rattle.replies.specs.Replies.{numberOf}
 use Rattle.replies.specs.declared.Reply.{Reply}

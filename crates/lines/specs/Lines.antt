@@ -1,17 +1,14 @@
 -- The lines of the listing, as document 01 has them, and the calls that write them into lent bytes. Assumes nothing.
 use mathlib.Core.Bool.{Bool, not}
-use mathlib.Core.List.{List, [], _++_, _∷_}
-use mathlib.Core.Option.{Option, none, some}
-use mathlib.Core.Path.{_≡_}
+use mathlib.Core.List.{List, [], _∷_}
 use Prim.Native.Nat.{_*_, _+_, suc, zero, ℕ}
 use lib.Dec.{ltb}
-use lib.ListN.{drop, length}
-use Rattle.lines.specs.declared.Listed.{Listed}
-use Rattle.lines.specs.declared.Written.{Written}
-use Rattle.lines.specs.declared.Written.the-variants.{Length, Refused}
+use Rattle.lent.specs.Lent.{Hands, Leaves, Wrote, fitted, kept}
+use Rattle.lent.specs.declared.Listed.{Listed}
+use Rattle.lent.specs.declared.Written.{Written}
 use Rattle.replies.specs.Replies.{numberOf}
 use Rattle.replies.specs.declared.Reply.{Reply}
-use Rattle.replies.specs.declared.Reply.the-variants.{Number, Shape, Short}
+use Rattle.replies.specs.declared.Reply.the-variants.{Number, Shape}
 use Rattle.stages.specs.declared.Lists.{Lists}
 use Rattle.store.specs.Reading.{heldFromAll, listHeld}
 use Rattle.store.specs.Shape.{rightShape, top}
@@ -49,21 +46,6 @@ longest = 8 + 32 * 89 + 1
 
 -- ---- the calls
 
--- what a call that writes leaves: its answer and the lent bytes
-pub record Wrote : Type 0 where
-  pub answer : Written
-  pub bytes : List ℕ
-
--- a refusal reports no length and keeps every byte
-abbrev pub kept : Reply → List ℕ → Wrote
-kept r out = record { answer = Refused r; bytes = out }
-
--- 15 where the lent bytes are shorter than the text; else the text and its length, bytes after it kept
-unfoldable pub fitted : List ℕ → List ℕ → Wrote
-fitted t out =
-    choose (ltb (length out) (length t)) (kept Short out)
-    (record { answer = Length (length t); bytes = t ++ drop (length t) out })
-
 -- the text line of n: refusals 2, 4, 15 in this order
 unfoldable pub lineOf : Store → ℕ → List ℕ → Wrote
 lineOf s n out =
@@ -77,14 +59,6 @@ headingOf s out =
     choose (not (rightShape s)) (kept Shape out)
     (fitted (caseText s) out)
 
--- the answer r and the lent bytes after the call are those of w
-abbrev pub Leaves : Wrote → Written → List ℕ → Type 0
-Leaves w r after = record { answer = r; bytes = after } ≡ w
-
--- .. and the store in the answer is the one that came in
-abbrev pub Hands : Store → Wrote → Listed → List ℕ → Type 0
-Hands s w r after = (r ≡ record { answer = w .answer; store = s }) × (after ≡ w .bytes)
-
 -- what the call of the line of n promises
 abbrev pub Lined : Store → ℕ → List ℕ → Listed → List ℕ → Type 0
 Lined s n out r after = Hands s (lineOf s n out) r after
@@ -96,13 +70,3 @@ CaseLined s out r after = Hands s (headingOf s out) r after
 -- what the call of a refusal's line promises: 15 alone can be refused
 abbrev pub RefusalLined : Reply → ℕ → List ℕ → Written → List ℕ → Type 0
 RefusalLined reply k out r after = Leaves (fitted (refusalText reply k) out) r after
-
--- the document's number of each answer
-abbrev pub writtenNumber : Written → ℕ
-writtenNumber (Length n) = 0
-writtenNumber (Refused r) = numberOf r
-
--- the length that it reports; a refusal reports none
-abbrev pub writtenLength : Written → Option ℕ
-writtenLength (Length n) = some n
-writtenLength (Refused r) = none

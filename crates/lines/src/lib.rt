@@ -1,4 +1,6 @@
 // The lines of the listing, into lent bytes.
+use lent::Listed;
+use lent::Written;
 use replies::Reply;
 use sets::Set;
 use store::Store;
@@ -9,34 +11,10 @@ ghost use Rattle.store.specs.Reading.{contradictedIn};
 ghost use Rattle.store.specs.Shape.{rightShape};
 ghost use Rattle.text.specs.Texts.{row};
 ghost use Rattle.text.specs.Writing.{Put, Room};
-ghost use Rattle.lines.specs.Lines.{CaseLined, Leaves, Lined, RefusalLined, fitted, lineWith, wordOf};
+ghost use Rattle.lines.specs.Lines.{CaseLined, Lined, RefusalLined, lineWith, wordOf};
 
 // No line of a store of right shape is longer, and no line of a refusal.
 pub const LONGEST: usize = 2857;
-
-// The length of a line, or why there is none.
-pub enum Written {
-    Length(usize),
-    Refused(Reply),
-}
-
-// The answer, and the store that came in.
-pub struct Listed {
-    pub answer: Written,
-    pub store: Store,
-}
-
-// The text into the lent bytes, where they are long enough.
-fn fit(text: &[u8], out: &mut [u8]) -> Written
-    ensures { λ r. ⌜ Leaves (fitted (now (text .entry)) (now (out .entry))) r (now (out .exit)) ⌝ }
-{
-    let length = text.len();
-    if out.len() < length {
-        return Written::Refused(Reply::Short);
-    }
-    text::copy(text, 0, out);
-    Written::Length(length)
-}
 
 // The text of the line of n with its list; follows tells whether n follows from all assumptions together.
 fn worded(n: u32, list: &[Set], follows: bool, out: &mut [u8]) -> usize
@@ -110,7 +88,7 @@ pub fn line(store: Store, n: u32, out: &mut [u8]) -> Listed
     let mut text = [0u8; LONGEST];
     let follows = contradicted(store, n);
     let end = lined(store, n, follows, &mut text);
-    let answer = fit(&text[..end], out);
+    let answer = lent::fit(&text[..end], out);
     Listed { answer, store }
 }
 
@@ -134,7 +112,7 @@ pub fn case_line(store: Store, out: &mut [u8]) -> Listed
         lists.depth as u32,
         &mut text,
     );
-    let answer = fit(&text[..end], out);
+    let answer = lent::fit(&text[..end], out);
     Listed { answer, store }
 }
 
@@ -145,5 +123,5 @@ pub fn refusal(reply: Reply, record: u32, out: &mut [u8]) -> Written
     let number = replies::number(reply) as u32;
     let mut text = [0u8; 22];
     let end = text::refused(number, record, &mut text);
-    fit(&text[..end], out)
+    lent::fit(&text[..end], out)
 }

@@ -15,8 +15,8 @@ use Rattle.casefile.specs.Load.{loadOf, loadedOf}
 use Rattle.items.proofs.Taken.{Each, Limited, header-limited}
 use Rattle.items.specs.Items.{Header, Item, headerFrom, recordFrom}
 use Rattle.lines.proofs.Longest.{refused-length}
-use Rattle.lines.specs.Lines.{fitted}
-use Rattle.lines.specs.declared.Written.the-variants.{Length}
+use Rattle.lent.specs.Lent.{fitted}
+use Rattle.lent.specs.declared.Written.the-variants.{Length}
 use Rattle.listing.proofs.Laws.{text-done, text-long, text-refused}
 use Rattle.listing.proofs.Longest.{listing-length}
 use Rattle.listing.proofs.Loaded.{loaded-right}

@@ -9,10 +9,11 @@ use lib.ListN.{length}
 use borrow.Author.Tests.{eq-eqb, le-ltb, leb-false, leb-true, lt-ltb, ne-eqb}
 use Rattle.casefile.specs.Load.{loadOf}
 use Rattle.casefile.specs.declared.Loaded.{Loaded}
-use Rattle.lines.proofs.Fits.{fitted-long, fitted-short}
-use Rattle.lines.specs.Lines.{Hands, Leaves, Wrote, fitted, refusalText}
-use Rattle.lines.specs.declared.Written.{Written}
-use Rattle.lines.specs.declared.Written.the-variants.{Length, Refused}
+use Rattle.lent.proofs.Fits.{fitted-long, fitted-short}
+use Rattle.lent.specs.Lent.{Hands, Leaves, Wrote, fitted}
+use Rattle.lines.specs.Lines.{refusalText}
+use Rattle.lent.specs.declared.Written.{Written}
+use Rattle.lent.specs.declared.Written.the-variants.{Length, Refused}
 use Rattle.listing.proofs.Loaded.{loaded-right}
 use Rattle.listing.specs.Listing.{ListsAll, Prints, listedOf, listingOf, listingText, loadedText}
 use Rattle.replies.specs.Replies.{numberOf}

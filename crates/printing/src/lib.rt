@@ -1,8 +1,8 @@
 // Text on standard output; what failed on standard error.
+use lent::Written;
 use libc::STDERR_FILENO;
 use libc::STDIN_FILENO;
 use libc::STDOUT_FILENO;
-use lines::Written;
 use replies::Reply;
 
 // What a failure says of itself, where the output may be what failed.

@@ -19,6 +19,7 @@ use Rattle.store.proofs.Store.open.Met as open-at
 use Rattle.store.proofs.Store.shape.Met as shape-at
 use Rattle.store.proofs.Store.withdraw.Met as withdraw-at
 use Rattle.store.proofs.judged.Met as judged-at
+use Rattle.writing.proofs.write.Met as write-at
 
 same : {X : Type 0} → X ↔ X
 same = (λ x. x, λ x. x)
@@ -36,6 +37,7 @@ coded = record {
   line = record { keeps = λ M. line-at.met; free = λ κs a. tt; exact = λ κs a r e. same };
   caseLine = record { keeps = λ M. case-line-at.met; free = λ κs a. tt; exact = λ κs a r e. same };
   listing = record { keeps = λ M. listing-at.met; free = λ κs a. tt; exact = λ κs a r e. same };
+  writing = record { keeps = λ M. write-at.met; free = λ κs a. tt; exact = λ κs a r e. same };
   printing = record { keeps = λ M. printed-at.met; free = λ κs a. tt; exact = λ κs a r e. same };
   judging = record { keeps = λ M. judged-at.met; free = λ κs a. tt; exact = λ κs a r e. same };
   shape = record { keeps = λ M. shape-at.met; free = λ κs a. tt; exact = λ κs a r e. same };

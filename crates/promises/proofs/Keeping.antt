@@ -10,8 +10,9 @@ use Rattle.asking.specs.Asking.{contextBytes, contextOf, contextReply}
 use Rattle.casefile.specs.Case.{Case, Reading, caseOf, heldBy, refused as unread, whole}
 use Rattle.casefile.specs.Load.{loadOf, loadedOf}
 use Rattle.handed.specs.declared.Handed.{Handed}
-use Rattle.lines.specs.Lines.{Wrote, caseText, fitted, headingOf, kept, lineOf, lineText, refusalText, writtenNumber}
-use Rattle.promises.specs.Calls.{Ask, caseLine, context, lentTo, line, listAll, member, numberSaid, question, readOf}
+use Rattle.lent.specs.Lent.{Wrote, fitted, kept, writtenNumber}
+use Rattle.lines.specs.Lines.{caseText, headingOf, lineOf, lineText, refusalText}
+use Rattle.promises.specs.Calls.{Ask, caseLine, context, file, lentTo, line, listAll, member, numberSaid, question, readOf}
 use Rattle.replies.specs.Replies.{numberOf}
 use Rattle.replies.specs.declared.Reply.{Reply}
 use Rattle.replies.specs.declared.Reply.the-variants.{Already, Counts, Done, Full, Number, Shape, Short, Unheld}
@@ -27,6 +28,7 @@ use Rattle.theory.specs.Judge.{Verdict, judge, labelOver, limits, nogoodsOver, 
 use Rattle.theory.specs.Lists.{choose, someOf}
 use Rattle.theory.specs.Stages.{Justification}
 use Rattle.listing.specs.Listing.{listedOf, listingOf, listingText}
+use Rattle.writing.specs.Writing.{fileOf, writeOf}
 
 module _ (s : Store) where
   -- x hands s back unless it is answered 0
@@ -121,6 +123,10 @@ module _ (s : Store) where
   unfolding listedOf
   listing-keeps out = kept-choose out (not (rightShape s)) Shape _ (kept-fitted (listingText s) out)
 
+  writing-keeps : (out : List ℕ) → KeptBytes out (writeOf s out)
+  unfolding writeOf
+  writing-keeps out = kept-choose out (not (rightShape s)) Shape _ (kept-fitted (fileOf (s .held)) out)
+
   pub read-store : (a : Ask) → readOf s a .store ≡ s
   read-store (question n E) = refl
   read-store (context E out) = refl
@@ -128,6 +134,7 @@ module _ (s : Store) where
   read-store (line n out) = refl
   read-store (caseLine out) = refl
   read-store (listAll out) = refl
+  read-store (file out) = refl
 
   pub read-keeps : (a : Ask) → (numberSaid a (readOf s a .said) ≡ 0 → ⊥) → readOf s a .bytes ≡ lentTo a
   read-keeps (question n E) k = refl
@@ -136,6 +143,7 @@ module _ (s : Store) where
   read-keeps (line n out) k = line-keeps n out k
   read-keeps (caseLine out) k = heading-keeps out k
   read-keeps (listAll out) k = listing-keeps out k
+  read-keeps (file out) k = writing-keeps out k
 
 -- ---- no store is returned
 

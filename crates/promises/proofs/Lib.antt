@@ -29,4 +29,5 @@ pub mod Meaning
 pub mod Words
 pub mod Truth
 pub mod Printing
+pub mod Files
 pub mod Promises

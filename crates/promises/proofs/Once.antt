@@ -3,7 +3,7 @@ use mathlib.Core.List.{List}
 use mathlib.Core.Path.{_∙_, _≡_, ap, refl, sym}
 use Prim.Native.Nat.{ℕ}
 use Rattle.asking.specs.Asking.{Left}
-use Rattle.lines.specs.Lines.{Wrote}
+use Rattle.lent.specs.Lent.{Wrote}
 use Rattle.promises.specs.Once.{OnceEach}
 
 both : {X Y : Type 0} {x x′ : X} {y y′ : Y} → _≡_ {A = X × Y} (x, y) (x′, y′) → (x ≡ x′) × (y ≡ y′)
@@ -27,6 +27,8 @@ once-each = record {
   refusal-one = λ κs a r r′ w w′ p q. (ap (λ (x : Wrote). x .answer) (p ∙ sym q), ap (λ (l : List ℕ). (tt, (tt, (l, tt)))) (ap (λ (x : Wrote). x .bytes) (p ∙ sym q)));
   listing-one = λ κs a r r′ w w′ p q. (p .0 ∙ sym (q .0), ap (λ (l : List ℕ). (tt, (l, tt))) (p .1 ∙ sym (q .1)));
   printed-one = λ κs a r r′ w w′ p q. (ap (λ (x : Wrote). x .answer) (p ∙ sym q), ap (λ (l : List ℕ). (tt, (l, tt))) (ap (λ (x : Wrote). x .bytes) (p ∙ sym q)));
+  write-one = λ κs a r r′ w w′ p q. (p .0 ∙ sym (q .0), ap (λ (l : List ℕ). (tt, (l, tt))) (p .1 ∙ sym (q .1)));
+  fit-one = λ κs a r r′ w w′ p q. (ap (λ (x : Wrote). x .answer) (p ∙ sym q), ap (λ (l : List ℕ). (tt, (l, tt))) (ap (λ (x : Wrote). x .bytes) (p ∙ sym q)));
   lined-one = λ κs a r r′ w w′ p q. (p .next ∙ sym (q .next), ap (λ (l : List ℕ). (tt, (tt, (tt, (l, tt))))) (p .bytes ∙ sym (q .bytes)));
   load-one = λ κs a r r′ w w′ p q. (p ∙ sym q, refl);
   number-one = λ κs a r r′ w w′ p q. (p ∙ sym q, refl);

@@ -9,7 +9,8 @@ use lib.ListN.{length}
 use borrow.Author.Tests.{eqb-true, le-ltb, lt-ltb}
 use Rattle.casefile.specs.Load.{loadOf}
 use Rattle.casefile.specs.declared.Loaded.{Loaded}
-use Rattle.lines.specs.Lines.{Wrote, fitted, refusalText}
+use Rattle.lent.specs.Lent.{Wrote, fitted}
+use Rattle.lines.specs.Lines.{refusalText}
 use Rattle.listing.proofs.Loaded.{loaded-right}
 use Rattle.listing.specs.Listing.{listedOf, listingOf, listingText, loadedText}
 use Rattle.replies.proofs.Laws.{zero-done}

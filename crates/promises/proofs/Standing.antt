@@ -10,11 +10,12 @@ use borrow.Author.Tests.{le-ltb}
 use Rattle.asking.specs.Asking.{contextBytes, contextOf, contextReply, memberAt, memberOf, questionOf, standing}
 use Rattle.asking.specs.declared.Answer.{Answer}
 use Rattle.asking.specs.declared.Found.{Found}
-use Rattle.lines.specs.Lines.{Wrote, caseText, fitted, headingOf, lineOf, lineText, refusalText}
+use Rattle.lent.specs.Lent.{Wrote, fitted}
+use Rattle.lines.specs.Lines.{caseText, headingOf, lineOf, lineText, refusalText}
 use Rattle.promises.proofs.Form.{add-tried, parted-done, tried-done, withdraw-parted}
 use Rattle.promises.proofs.InOrder.{in-order-is, in-order-put}
 use Rattle.promises.proofs.Rows.{less-test, or-test, outside-test, passed, test-off}
-use Rattle.promises.specs.Calls.{Ask, caseLine, context, line, listAll, member, ours, over, question, readOf, reads, written}
+use Rattle.promises.specs.Calls.{Ask, caseLine, context, file, line, listAll, member, ours, over, question, readOf, reads, written}
 use Rattle.promises.specs.Made.{inOrder}
 use Rattle.promises.specs.Standing.{AsTheyStand, Stands, asRead}
 use Rattle.promises.specs.Table.{ShapedRows, enlarged, handed, lessened}
@@ -31,6 +32,7 @@ use Rattle.theory.specs.Lists.{choose}
 use Rattle.theory.specs.Sets.{inRange}
 use Rattle.theory.specs.Stages.{Justification}
 use Rattle.listing.specs.Listing.{listedOf, listingText}
+use Rattle.writing.specs.Writing.{fileOf, writeOf}
 
 abbrev wrote : List ℕ → List ℕ → Wrote
 wrote t out = record { answer = written t; bytes = over t out }
@@ -76,6 +78,10 @@ module _ (s : Store) (right : rightShape s ≡ true) where
   unfolding listedOf
   listing-stands out h = rw right (fits (listingText s) out h)
 
+  writing-stands : (out : List ℕ) → ltb (length out) (length (fileOf (s .held))) ≡ false → writeOf s out ≡ wrote (fileOf (s .held)) out
+  unfolding writeOf
+  writing-stands out h = rw right (fits (fileOf (s .held)) out h)
+
   read-stands : (a : Ask) → ShapedRows s a 0 → readOf s a ≡ asRead s a
   unfolding contextOf
   read-stands (question n E) w =
@@ -101,6 +107,10 @@ module _ (s : Store) (right : rightShape s ≡ true) where
       let p = passed _ _ _ w (λ z. omega arith) in
       let t : List ℕ = listingText s in
       ap (λ (x : Wrote). reads (listAll out) (x .answer) s (x .bytes)) (listing-stands out (test-off (ltb (length out) (length t)) (less-test (length out) (length t)) (p .0)))
+  read-stands (file out) w =
+      let p = passed _ _ _ w (λ z. omega arith) in
+      let t : List ℕ = fileOf (s .held) in
+      ap (λ (x : Wrote). reads (file out) (x .answer) s (x .bytes)) (writing-stands out (test-off (ltb (length out) (length t)) (less-test (length out) (length t)) (p .0)))
 
   -- ---- the justifications alone
 

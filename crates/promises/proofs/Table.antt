@@ -14,14 +14,15 @@ use Rattle.asking.specs.declared.Answer.the-variants.{Refused}
 use Rattle.asking.specs.declared.Found.the-variants.{Is, Not}
 use Rattle.casefile.specs.Load.{loadOf}
 use Rattle.handed.specs.declared.Handed.{Handed}
-use Rattle.lines.specs.Lines.{Wrote, caseText, fitted, headingOf, kept, lineOf, lineText, refusalText, writtenNumber}
-use Rattle.lines.specs.declared.Written.the-variants.{Length}
+use Rattle.lent.specs.Lent.{Wrote, fitted, kept, writtenNumber}
+use Rattle.lent.specs.declared.Written.the-variants.{Length}
+use Rattle.lines.specs.Lines.{caseText, headingOf, lineOf, lineText, refusalText}
 use Rattle.numbers.specs.Numbers.{numberAt}
 use Rattle.promises.proofs.Filing.{decode-one, decode-told, load-names, load-one, load-told, reportOf}
 use Rattle.promises.proofs.Full.{VerdictSays, judge-says}
 use Rattle.promises.proofs.Rows.{Names, Tests, by-choice, exactly, fault-told, given-one, less-test, most-test, names-choice, no-row-one, not-test, or-test, outside-test, stages-name, stages-one, stages-told, unnamed}
 use Rattle.promises.proofs.Telling.{covered}
-use Rattle.promises.specs.Calls.{Ask, caseLine, context, line, listAll, member, numberSaid, ours, question, readOf}
+use Rattle.promises.specs.Calls.{Ask, caseLine, context, file, line, listAll, member, numberSaid, ours, question, readOf}
 use Rattle.promises.specs.Once.{One}
 use Rattle.promises.specs.Room.{LabelFull}
 use Rattle.promises.specs.Rows.{given, noRow}
@@ -52,6 +53,7 @@ use Rattle.theory.specs.Lists.{choose, someOf}
 use Rattle.theory.specs.Sets.{inRange}
 use Rattle.theory.specs.Stages.{Justification}
 use Rattle.listing.specs.Listing.{listedOf, listingOf, listingText}
+use Rattle.writing.specs.Writing.{fileOf, writeOf}
 use Rattle.promises.proofs.Decoding.{decode-onward}
 
 abbrev replied : Outcome → ℕ
@@ -275,7 +277,7 @@ standing-zero l n E = go (firstIn (nogoodsHeld l) E) (firstIn (labelHeld l n) E)
 
 module _ (s : Store) where
   read-told : (a : Ask) → AskRows s a (numberSaid a (readOf s a .said))
-  unfolding questionOf contextReply memberOf memberAt lineOf headingOf listedOf
+  unfolding questionOf contextReply memberOf memberAt lineOf headingOf listedOf writeOf
   read-told (question n E) =
       let out : Bool = ltb (top (s .held)) n || not (inRange (s .held .assumptions) E) in
       by-choice _ answerNumber (not (rightShape s)) (Refused Shape) (choose out (Refused Number) (standing (s .lists) n E)) (not-test (rightShape s)) refl
@@ -295,6 +297,7 @@ module _ (s : Store) where
       (λ p. by-choice _ wrote (ltb (top (s .held)) n) (kept Number out) w (less-test (top (s .held)) n) refl (λ q. fitted-told (lineText s n) out))
   read-told (caseLine out) = by-choice _ wrote (not (rightShape s)) (kept Shape out) (fitted (caseText s) out) (not-test (rightShape s)) refl (λ p. fitted-told (caseText s) out)
   read-told (listAll out) = by-choice _ wrote (not (rightShape s)) (kept Shape out) (fitted (listingText s) out) (not-test (rightShape s)) refl (λ p. fitted-told (listingText s) out)
+  read-told (file out) = by-choice _ wrote (not (rightShape s)) (kept Shape out) (fitted (fileOf (s .held)) out) (not-test (rightShape s)) refl (λ p. fitted-told (fileOf (s .held)) out)
 
   shaped-one : (a : Ask) → One (ShapedRows s a)
   shaped-one (question n E) = given-one _ _ _ no-row-one
@@ -303,6 +306,7 @@ module _ (s : Store) where
   shaped-one (line n out) = given-one _ _ _ (given-one _ _ _ no-row-one)
   shaped-one (caseLine out) = given-one _ _ _ no-row-one
   shaped-one (listAll out) = given-one _ _ _ no-row-one
+  shaped-one (file out) = given-one _ _ _ no-row-one
 
 -- ---- all of it
 

@@ -9,9 +9,10 @@ use Rattle.asking.specs.declared.Found.{Found}
 use Rattle.casefile.specs.Load.{loadOf}
 use Rattle.casefile.specs.declared.Loaded.{Loaded}
 use Rattle.handed.specs.declared.Handed.{Handed}
-use Rattle.lines.specs.Lines.{Wrote, fitted, headingOf, lineOf, refusalText, writtenNumber}
-use Rattle.lines.specs.declared.Written.{Written}
-use Rattle.lines.specs.declared.Written.the-variants.{Length}
+use Rattle.lent.specs.Lent.{Wrote, fitted, writtenNumber}
+use Rattle.lent.specs.declared.Written.{Written}
+use Rattle.lent.specs.declared.Written.the-variants.{Length}
+use Rattle.lines.specs.Lines.{headingOf, lineOf, refusalText}
 use Rattle.numbers.specs.Numbers.{numberAt}
 use Rattle.numbers.specs.declared.Number.{Number}
 use Rattle.replies.specs.Replies.{numberOf}
@@ -23,6 +24,7 @@ use Rattle.store.specs.Shape.{rightShape}
 use Rattle.store.specs.declared.Outcome.{Outcome}
 use Rattle.store.specs.declared.Store.{Store}
 use Rattle.listing.specs.Listing.{listedOf, listingOf}
+use Rattle.writing.specs.Writing.{writeOf}
 
 -- ---- the calls that read
 
@@ -39,6 +41,8 @@ pub data Ask : Type 0 where
   caseLine : List ℕ → Ask
   -- the whole listing, into lent bytes
   listAll : List ℕ → Ask
+  -- the case file, into lent bytes
+  file : List ℕ → Ask
 
 -- what is said to each
 abbrev pub Said : Ask → Type 0
@@ -48,6 +52,7 @@ Said (member n place) = Found
 Said (line n out) = Written
 Said (caseLine out) = Written
 Said (listAll out) = Written
+Said (file out) = Written
 
 -- the document's number of it
 abbrev pub numberSaid : (a : Ask) → Said a → ℕ
@@ -57,6 +62,7 @@ numberSaid (member n place) x = memberNumber x
 numberSaid (line n out) x = writtenNumber x
 numberSaid (caseLine out) x = writtenNumber x
 numberSaid (listAll out) x = writtenNumber x
+numberSaid (file out) x = writtenNumber x
 
 -- the bytes lent to the call; none where it takes none
 abbrev pub lentTo : Ask → List ℕ
@@ -66,6 +72,7 @@ lentTo (member n place) = []
 lentTo (line n out) = out
 lentTo (caseLine out) = out
 lentTo (listAll out) = out
+lentTo (file out) = out
 
 -- what a call that reads leaves: what it says, the store, and the lent bytes
 pub record Read (a : Ask) : Type 0 where
@@ -113,6 +120,7 @@ readOf s (member n place) = reads (member n place) (memberOf s n place) s []
 readOf s (line n out) = reads (line n out) (lineOf s n out .answer) s (lineOf s n out .bytes)
 readOf s (caseLine out) = reads (caseLine out) (headingOf s out .answer) s (headingOf s out .bytes)
 readOf s (listAll out) = reads (listAll out) (listedOf s out .answer) s (listedOf s out .bytes)
+readOf s (file out) = reads (file out) (writeOf s out .answer) s (writeOf s out .bytes)
 
 -- ours: what the contracts of the product's calls say of every answer (`Coded`)
 abbrev pub ours : Calls

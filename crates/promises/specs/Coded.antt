@@ -33,13 +33,13 @@ use Rattle.listing.proofs.printed.Symbol as printed-code
 use Rattle.lines.proofs.refusal as refusal-at
 use Rattle.lines.proofs.refusal.Reads as refusal-reads
 use Rattle.lines.proofs.refusal.Symbol as refusal-code
-use Rattle.lines.specs.Lines.{Wrote}
-use Rattle.lines.specs.declared.Listed.{Listed}
-use Rattle.lines.specs.declared.Written.{Written}
+use Rattle.lent.specs.Lent.{Wrote}
+use Rattle.lent.specs.declared.Listed.{Listed}
+use Rattle.lent.specs.declared.Written.{Written}
 use Rattle.numbers.proofs.read as read-at
 use Rattle.numbers.proofs.read.Reads as read-reads
 use Rattle.numbers.proofs.read.Symbol as read-code
-use Rattle.promises.specs.Calls.{Calls, Read, caseLine, context, line, listAll, member, question}
+use Rattle.promises.specs.Calls.{Calls, Read, caseLine, context, file, line, listAll, member, question}
 use Rattle.promises.specs.Keeps.{Claim, Tied, Walked}
 use Rattle.season.proofs.add_all as add-all-at
 use Rattle.season.proofs.add_all.Symbol as add-all-code
@@ -59,6 +59,9 @@ use Rattle.store.proofs.judged as judged-at
 use Rattle.store.proofs.judged.Reads as judged-reads
 use Rattle.store.proofs.judged.Symbol as judged-code
 use Rattle.store.specs.Calls.{answer}
+use Rattle.writing.proofs.write as write-at
+use Rattle.writing.proofs.write.Reads as write-reads
+use Rattle.writing.proofs.write.Symbol as write-code
 
 -- ---- the structs in which the code hands over what a call leaves
 
@@ -79,6 +82,9 @@ headed x = record { answer = x .said; store = x .store }
 
 abbrev pub listedBy : {out : List ℕ} → Read (listAll out) → Listed
 listedBy x = record { answer = x .said; store = x .store }
+
+abbrev pub filed : {out : List ℕ} → Read (file out) → Listed
+filed x = record { answer = x .said; store = x .store }
 
 abbrev pub wrote : Written → List ℕ → Wrote
 wrote r b = record { answer = r; bytes = b }
@@ -113,6 +119,8 @@ pub record Coded (C : Calls) : Type 2 where
       (λ κs a r e. (r ≡ headed (C .reading (a .0) (caseLine (now (a .1 .0))))) × (now (e .1 .0) ≡ C .reading (a .0) (caseLine (now (a .1 .0))) .bytes))
   pub listing : Tied listing-at.ended listing-code.routine listing-reads.Asked listing-reads.Learnt
       (λ κs a r e. (r ≡ listedBy (C .reading (a .0) (listAll (now (a .1 .0))))) × (now (e .1 .0) ≡ C .reading (a .0) (listAll (now (a .1 .0))) .bytes))
+  pub writing : Tied write-at.ended write-code.routine write-reads.Asked write-reads.Learnt
+      (λ κs a r e. (r ≡ filed (C .reading (a .0) (file (now (a .1 .0))))) × (now (e .1 .0) ≡ C .reading (a .0) (file (now (a .1 .0))) .bytes))
   pub printing : Tied printed-at.ended printed-code.routine printed-reads.Asked printed-reads.Learnt
       (λ κs a r e. wrote r (now (e .1 .0)) ≡ C .printing (now (a .0)) (now (a .1 .0)))
   pub judging : Tied judged-at.ended judged-code.routine judged-reads.Asked judged-reads.Learnt

@@ -3,7 +3,7 @@ use mathlib.Core.List.{List}
 use mathlib.Core.Path.{_≡_}
 use Prim.Native.Nat.{ℕ}
 use Rattle.handed.specs.declared.Handed.{Handed}
-use Rattle.lines.specs.Lines.{writtenNumber}
+use Rattle.lent.specs.Lent.{writtenNumber}
 use Rattle.promises.specs.Calls.{Ask, Calls, lentTo, numberSaid}
 use Rattle.promises.specs.Coded.{Coded}
 use Rattle.promises.specs.Table.{ReplyTable}

@@ -118,6 +118,10 @@ use Rattle.text.proofs.line as row-at
 use Rattle.text.proofs.line.Reads as row-reads
 use Rattle.text.proofs.refused as refused-at
 use Rattle.text.proofs.refused.Reads as refused-reads
+use Rattle.lent.proofs.fit as fit-at
+use Rattle.lent.proofs.fit.Reads as fit-reads
+use Rattle.writing.proofs.write as write-at
+use Rattle.writing.proofs.write.Reads as write-reads
 use Rattle.promises.specs.Calls.{ours}
 use Rattle.promises.specs.Coded.{allAdded}
 use Rattle.promises.specs.Keeps.{Claim}
@@ -147,6 +151,8 @@ pub record OnceEach : Type 0 where
   pub refusal-one : Once refusal-at.ended refusal-reads.Learnt
   pub listing-one : Once listing-at.ended listing-reads.Learnt
   pub printed-one : Once printed-at.ended printed-reads.Learnt
+  pub write-one : Once write-at.ended write-reads.Learnt
+  pub fit-one : Once fit-at.ended fit-reads.Learnt
   pub lined-one : Once lined-at.ended lined-reads.Learnt
   pub load-one : Once load-at.ended load-reads.Learnt
   pub number-one : Once number-at.ended number-reads.Learnt

@@ -3,6 +3,7 @@ use Rattle.promises.specs.Calls.{Calls}
 use Rattle.promises.specs.Demand1.{Demand1}
 use Rattle.promises.specs.Demand2.{Demand2}
 use Rattle.promises.specs.Demand3.{Demand3}
+use Rattle.promises.specs.Files.{Files}
 use Rattle.promises.specs.Made.{Stores}
 use Rattle.promises.specs.Meaning.{Meaning}
 use Rattle.promises.specs.Season.{OneByOne}
@@ -20,3 +21,4 @@ pub record Promises (C : Calls) : Type 2 where
   pub words : Words
   pub shortest : NothingShorter C
   pub season : OneByOne C
+  pub files : Files C

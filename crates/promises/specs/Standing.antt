@@ -6,7 +6,7 @@ use Prim.Native.Nat.{_+_, _≤_, ℕ}
 use lib.ListN.{drop, length}
 use Rattle.asking.specs.Asking.{byteOf, memberAt, standing}
 use Rattle.lines.specs.Lines.{caseText, lineText, refusalText}
-use Rattle.promises.specs.Calls.{Ask, Calls, Read, caseLine, context, line, listAll, member, over, question, reads, written}
+use Rattle.promises.specs.Calls.{Ask, Calls, Read, caseLine, context, file, line, listAll, member, over, question, reads, written}
 use Rattle.promises.specs.Made.{inOrder}
 use Rattle.promises.specs.Table.{ShapedRows, enlarged, lessened}
 use Rattle.replies.specs.declared.Reply.{Reply}
@@ -17,8 +17,9 @@ use Rattle.store.specs.Shape.{rightShape, top}
 use Rattle.store.specs.declared.Store.{Store}
 use Rattle.theory.specs.Places.{table}
 use Rattle.listing.specs.Listing.{listingText}
+use Rattle.writing.specs.Writing.{fileOf}
 
--- what is read of the lists; of an empty label the third word, and byte 3, of the justifications
+-- what is read of the lists; of an empty label the third word, and byte 3, of the justifications, and so the file
 abbrev pub asRead : Store → (a : Ask) → Read a
 asRead s (question n E) = reads (question n E) (standing (s .lists) n E) s []
 asRead s (context E out) = reads (context E out) Done s (table (top (s .held) + 1) (λ n. byteOf (contradictedIn s n) (standing (s .lists) n E)) ++ drop (top (s .held) + 1) out)
@@ -26,9 +27,10 @@ asRead s (member n place) = reads (member n place) (memberAt (s .lists) n place)
 asRead s (line n out) = reads (line n out) (written (lineText s n)) s (over (lineText s n) out)
 asRead s (caseLine out) = reads (caseLine out) (written (caseText s)) s (over (caseText s) out)
 asRead s (listAll out) = reads (listAll out) (written (listingText s)) s (over (listingText s) out)
+asRead s (file out) = reads (file out) (written (fileOf (s .held))) s (over (fileOf (s .held)) out)
 
 pub record Stands (C : Calls) (s : Store) : Type 0 where
-  -- what the reply table does not refuse reads the lists as they stand
+  -- what the reply table does not refuse reads the lists as they stand, the file what is held
   pub reading : (a : Ask) → ShapedRows s a 0 → C .reading s a ≡ asRead s a
   -- adding works from the justifications alone: answered 0, the store of those held with this one, judged anew; the lists of s do not come into it
   pub adding : (c : ℕ) (l : List ℕ) (t : Store) → C .adding s c l ≡ answer Done t → storeOf noStore (s .held .assumptions) (s .held .claims) (inOrder (enlarged s c l)) ≡ answer Done t

@@ -8,10 +8,11 @@ use Prim.Native.Nat.{_*_, _+_, _-_, _<_, _^_, _≤_, suc, zero, ℕ}
 use lib.ListN.{drop, length}
 use Rattle.casefile.specs.Case.{Case, Reading, caseOf, refused, whole}
 use Rattle.handed.specs.declared.Handed.{Handed}
-use Rattle.lines.specs.Lines.{caseText, lineText, refusalText, writtenNumber}
+use Rattle.lent.specs.Lent.{writtenNumber}
+use Rattle.lines.specs.Lines.{caseText, lineText, refusalText}
 use Rattle.numbers.specs.declared.Number.{Number}
 use Rattle.numbers.specs.declared.Number.the-variants.{Bad, Value}
-use Rattle.promises.specs.Calls.{Ask, Calls, caseLine, context, line, listAll, member, numberSaid, question}
+use Rattle.promises.specs.Calls.{Ask, Calls, caseLine, context, file, line, listAll, member, numberSaid, question}
 use Rattle.promises.specs.Made.{putIn}
 use Rattle.promises.specs.Room.{Above, LabelFull, NogoodsFull}
 use Rattle.promises.specs.Rows.{given, noRow}
@@ -25,6 +26,7 @@ use Rattle.store.specs.Shape.{heldFits, rightShape, top}
 use Rattle.store.specs.declared.Store.{Store}
 use Rattle.theory.specs.Stages.{Justification}
 use Rattle.listing.specs.Listing.{listingOf, listingText}
+use Rattle.writing.specs.Writing.{fileOf}
 
 -- ---- open
 
@@ -106,6 +108,7 @@ ShapedRows s (member n place) = given (top (s .held) < n) 4 (given (length (list
 ShapedRows s (line n out) = given (top (s .held) < n) 4 (given (length out < length (lineText s n)) 15 noRow)
 ShapedRows s (caseLine out) = given (length out < length (caseText s)) 15 noRow
 ShapedRows s (listAll out) = given (length out < length (listingText s)) 15 noRow
+ShapedRows s (file out) = given (length out < length (fileOf (s .held))) 15 noRow
 
 abbrev pub AskRows : Store → Ask → ℕ → Type 0
 AskRows s a = given (rightShape s ≡ false) 2 (ShapedRows s a)

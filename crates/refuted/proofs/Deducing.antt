@@ -34,7 +34,7 @@ use Rattle.store.specs.declared.Store.{Store}
 use Rattle.theory.specs.Lists.{choose}
 use Rattle.theory.specs.Stages.{Justification}
 use lib.ListN.{length}
-use Rattle.lines.specs.Lines.{Wrote, writtenNumber}
+use Rattle.lent.specs.Lent.{Wrote, writtenNumber}
 use Rattle.casefile.specs.Load.{loadOf}
 use Rattle.replies.proofs.Laws.{zero-done}
 use Rattle.replies.specs.Replies.{numberOf}

@@ -12,4 +12,5 @@ pub mod Naming
 pub mod Third
 pub mod Season
 pub mod Wrong
+pub mod Writing
 pub mod Product

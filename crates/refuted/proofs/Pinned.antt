@@ -12,18 +12,21 @@ use Rattle.asking.specs.Asking.{answerSet, firstIn, questionOf, reasoned}
 use Rattle.asking.specs.declared.Answer.the-variants.{Inconsistent, Supported, Unsupported}
 use Rattle.casefile.specs.Case.{Case, caseOf, recordsFrom, whole}
 use Rattle.items.specs.Items.{Item, headerFrom, numbersFrom, recordFrom, unless}
-use Rattle.lines.specs.Lines.{fitted, refusalText, wordOf, writtenLength}
+use Rattle.lent.specs.Lent.{fitted, writtenLength}
+use Rattle.lines.specs.Lines.{refusalText, wordOf}
 use Rattle.numbers.specs.Numbers.{numberFrom, secondFrom}
+use Rattle.promises.proofs.Files.{files}
 use Rattle.promises.proofs.Form.{Form, form-said}
 use Rattle.promises.proofs.Standing.{as-they-stand}
 use Rattle.promises.proofs.Truth.{demand-2}
-use Rattle.promises.specs.Calls.{Read, caseLine, context, line, ours, over, reads, written}
+use Rattle.promises.specs.Calls.{Read, caseLine, context, file, line, ours, over, reads, written}
 use Rattle.promises.specs.Demand2.{byteBy, carriedBy, contradictedBy, firstText}
+use Rattle.promises.specs.Files.{fileFor}
 use Rattle.promises.specs.Made.{Made, inOrder, putIn}
 use Rattle.refuted.proofs.Cases.{answers, prints}
 use Rattle.refuted.proofs.Files.{file-are, file-done, file-form, file-made}
 use Rattle.refuted.specs.Cases.{ListsAre}
-use Rattle.refuted.specs.Pinned.{Pinned, PrintsFile, Refuses, keysBytes, sowing, sowingBytes}
+use Rattle.refuted.specs.Pinned.{Pinned, PrintsFile, Refuses, keysBytes, sowing, sowingBytes, sowingFile}
 use Rattle.replies.specs.declared.Reply.{Reply}
 use Rattle.replies.specs.declared.Reply.the-variants.{After, Done, Label, Long}
 use Rattle.rules.specs.Held.{put}
@@ -41,6 +44,7 @@ use Rattle.theory.specs.Sets.{among, bySize, contains, digit, listing, together
 use Rattle.theory.specs.Stages.{Justification, ahead, follows, gives, lesser}
 use Rattle.listing.proofs.Cases.{beside-printed, beyond-printed, empty-printed, listed-printed, long-printed, twice-printed}
 use Rattle.listing.specs.Listing.{listingOf}
+use Rattle.writing.specs.Writing.{bytesOf, recordFor}
 use borrow.Author.Tests.{le-ltb}
 
 abbrev item : ℕ → List ℕ → Item
@@ -127,6 +131,10 @@ first-line : (out : List ℕ) → 13 ≤ length out → ours .reading s (caseLin
 first-line out h =
     demand-2 .tells made .caseLine out (omega (arith, ap length case-text, first-text .1)) ∙ ap (λ (t : List ℕ). reads (caseLine out) (written t) s (over t out)) case-text
 
+sown-file : fileFor 3 4 (putIn sown) ≡ sowingFile
+unfolding each bytesOf recordFor
+sown-file = ap (λ (J : List Justification). each bytesOf (3 ∷ 4 ∷ length J ∷ each recordFor J)) (held .0)
+
 named : (reasoned (firstIn (3 ∷ 6 ∷ []) 5) (firstIn (5 ∷ []) 5) ≡ Supported 5) × (reasoned (firstIn (3 ∷ 6 ∷ []) 5) (firstIn [] 5) ≡ Unsupported) × (reasoned (firstIn (3 ∷ 6 ∷ []) 6) (firstIn [] 6) ≡ Inconsistent 6)
 unfolding firstIn within
 named = (refl, refl, refl)
@@ -189,6 +197,7 @@ pinned =
       sowing-named = (ap answerSet (asked .0), ap answerSet (asked .1), ap answerSet (asked .2));
       sowing-context = λ out h. demand-2 .tells made .context 5 out (omega arith) (omega arith) ∙ ap (λ (t : List ℕ). reads (context 5 out) Done s (t ++ drop 8 out)) (table-of .0);
       sowing-against = λ out h. demand-2 .tells made .context 6 out (omega arith) (omega arith) ∙ ap (λ (t : List ℕ). reads (context 6 out) Done s (t ++ drop 8 out)) (table-of .1);
+      sowing-file = λ out h. files .says made out (omega (arith, ap length sown-file)) ∙ ap (λ (t : List ℕ). reads (file out) (written t) s (over t out)) sown-file;
       eighteen = printed-as _ _ listed-printed;
       twice = printed-as _ _ twice-printed;
       beyond = printed-as _ _ beyond-printed;

@@ -9,9 +9,10 @@ use lib.ListN.{getD, length, replicate}
 use borrow.Author.Tests.{le-ltb}
 use Rattle.casefile.specs.Case.{Case, caseOf, recordsFrom, whole}
 use Rattle.items.specs.Items.{Item, headerFrom, numbersFrom, recordFrom, unless}
-use Rattle.lines.specs.Lines.{fitted, lineWith, wordOf}
-use Rattle.lines.specs.declared.Written.{Written}
-use Rattle.lines.specs.declared.Written.the-variants.{Length, Refused}
+use Rattle.lent.specs.Lent.{fitted}
+use Rattle.lines.specs.Lines.{lineWith, wordOf}
+use Rattle.lent.specs.declared.Written.{Written}
+use Rattle.lent.specs.declared.Written.the-variants.{Length, Refused}
 use Rattle.numbers.specs.Numbers.{numberFrom, secondFrom}
 use Rattle.promises.proofs.Form.{Form, form-a, form-m, form-said}
 use Rattle.promises.proofs.Right.{form-right}

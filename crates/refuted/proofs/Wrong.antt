@@ -125,7 +125,7 @@ denies d =
     not-both Unsupported (told d m 1 1 (omega arith) (omega arith) ∙ carried [] 1 1 one-carries) refl
 
 -- ---- claim 2 from assumption 1, claim 3 from claim 2; M claims
-abbrev first : ℕ → Justification
+abbrev pub first : ℕ → Justification
 first M = justificationOf (1 + M) 2 (1 ∷ [])
 
 abbrev second : ℕ → Justification
@@ -297,23 +297,23 @@ calls-all-full = adds-none alwaysFull (λ s c l e. let z : _≡_ {A = ℕ} 9 0 =
 
 -- ---- reads no list: the justifications of one made store with the lists of another. Nothing is held, yet the label of 2 has {1}
 
-abbrev bare : Store
+abbrev pub bare : Store
 bare = openOf 1 1 .store
 
-abbrev listed : Store
+abbrev pub listed : Store
 listed = addOf bare 2 (1 ∷ []) .store
 
-abbrev forged : Store
+abbrev pub forged : Store
 forged = record { held = bare .held; lists = listed .lists }
 
 first-sound : faultOf 2 2 (1 ∷ []) ≡ Done
 unfolding faultOf someOf
 first-sound = refl
 
-made-bare : Made ours 1 1 [] bare
+pub made-bare : Made ours 1 1 [] bare
 made-bare = made-open 1 1 (omega arith) (omega arith)
 
-made-listed : Made ours 1 1 (first 1 ∷ []) listed
+pub made-listed : Made ours 1 1 (first 1 ∷ []) listed
 made-listed = one-made 1 1 2 (1 ∷ []) (omega arith) (omega arith) first-sound
 
 same-counts : (listed .held .assumptions ≡ bare .held .assumptions) × (top (listed .held) ≡ top (bare .held))
@@ -322,7 +322,7 @@ same-counts =
     let g = made-form made-listed in
     (form-a g ∙ sym (form-a f), omega (arith, form-a f, form-m f, form-a g, form-m g))
 
-forged-right : rightShape forged ≡ true
+pub forged-right : rightShape forged ≡ true
 unfolding rightShape
 forged-right =
     and-intro (and-left (heldFits (bare .held)) _ (made-right made-bare))
@@ -363,10 +363,10 @@ first-smallest = record {
       (eq-or-lt-of-le (within-le F 1 w));
 }
 
-listed-done : addOf bare 2 (1 ∷ []) ≡ answer Done listed
+pub listed-done : addOf bare 2 (1 ∷ []) ≡ answer Done listed
 listed-done = done-with (addOf bare 2 (1 ∷ [])) (one-done 1 1 2 (1 ∷ []) (omega arith) (omega arith) first-sound)
 
-bare-done : openOf 1 1 ≡ answer Done bare
+pub bare-done : openOf 1 1 ≡ answer Done bare
 bare-done = done-with (openOf 1 1) (ap (λ (o : Outcome). o .reply) (opens-at 1 1 (omega arith) (omega arith)))
 
 withdrawn-done : withdrawOf listed 2 (1 ∷ []) .reply ≡ Done
@@ -399,7 +399,7 @@ frees-no-place d =
 
 -- ---- withdraws every rule of the consequent: 2 from 1 goes with 2 from nothing
 
-abbrev premise : Justification
+abbrev pub premise : Justification
 premise = justificationOf 2 2 []
 
 sizes : (length (premise .supports) ≡ 0) × (length (first 1 .supports) ≡ 1)
@@ -414,13 +414,13 @@ premise-reaches = record {
   room = omega (arith, first-left);
 }
 
-abbrev double : Store
+abbrev pub double : Store
 double = addOf listed 2 [] .store
 
-double-done : addOf listed 2 [] ≡ answer Done double
+pub double-done : addOf listed 2 [] ≡ answer Done double
 double-done = done-with (addOf listed 2 []) (add-done made-listed 2 [] premise-reaches (omega arith))
 
-made-double : Made ours 1 1 (premise ∷ first 1 ∷ []) double
+pub made-double : Made ours 1 1 (premise ∷ first 1 ∷ []) double
 made-double = made-add made-listed 2 [] premise-reaches (omega arith)
 
 abbrev single : List Justification

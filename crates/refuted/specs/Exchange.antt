@@ -8,8 +8,8 @@ use Rattle.asking.specs.Asking.{Left, left}
 use Rattle.asking.specs.declared.Answer.{Answer}
 use Rattle.casefile.specs.declared.Loaded.{Loaded}
 use Rattle.handed.specs.declared.Handed.{Handed}
-use Rattle.lines.specs.Lines.{Wrote}
-use Rattle.promises.specs.Calls.{Ask, Calls, Read, caseLine, context, line, listAll, member, question, reads}
+use Rattle.lent.specs.Lent.{Wrote}
+use Rattle.promises.specs.Calls.{Ask, Calls, Read, caseLine, context, file, line, listAll, member, question, reads}
 use Rattle.promises.specs.Season.{Adds, afterEach, numbersEach}
 use Rattle.replies.specs.declared.Reply.{Reply}
 use Rattle.replies.specs.declared.Reply.the-variants.{Done, Long, Shape, Short}
@@ -76,6 +76,7 @@ answering f r s (member n place) = r s (member n place)
 answering f r s (line n out) = r s (line n out)
 answering f r s (caseLine out) = r s (caseLine out)
 answering f r s (listAll out) = r s (listAll out)
+answering f r s (file out) = r s (file out)
 
 -- a line written by f, what else is read by r
 abbrev pub lining : (Store → ℕ → List ℕ → Wrote) → (Store → (a : Ask) → Read a) → Store → (a : Ask) → Read a
@@ -85,9 +86,23 @@ lining f r s (member n place) = r s (member n place)
 lining f r s (line n out) = reads (line n out) (f s n out .answer) s (f s n out .bytes)
 lining f r s (caseLine out) = r s (caseLine out)
 lining f r s (listAll out) = r s (listAll out)
+lining f r s (file out) = r s (file out)
 
 abbrev pub withLine : (Store → ℕ → List ℕ → Wrote) → Calls → Calls
 withLine f C = withReading (lining f (C .reading)) C
 
 abbrev pub withQuestion : (Store → ℕ → ℕ → Answer) → Calls → Calls
 withQuestion f C = withReading (answering f (C .reading)) C
+
+-- a file written by f, what else is read by r
+abbrev pub filing : (Store → List ℕ → Wrote) → (Store → (a : Ask) → Read a) → Store → (a : Ask) → Read a
+filing f r s (question n E) = r s (question n E)
+filing f r s (context E out) = r s (context E out)
+filing f r s (member n place) = r s (member n place)
+filing f r s (line n out) = r s (line n out)
+filing f r s (caseLine out) = r s (caseLine out)
+filing f r s (listAll out) = r s (listAll out)
+filing f r s (file out) = reads (file out) (f s out .answer) s (f s out .bytes)
+
+abbrev pub withFile : (Store → List ℕ → Wrote) → Calls → Calls
+withFile f C = withReading (filing f (C .reading)) C

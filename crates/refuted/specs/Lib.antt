@@ -3,4 +3,5 @@ pub mod Exchange
 pub mod Readings
 pub mod Pinned
 pub mod Wrong
+pub mod Writing
 pub mod Product

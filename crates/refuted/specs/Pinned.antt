@@ -7,8 +7,8 @@ use Prim.Native.String.{String}
 use lib.ListN.{drop, length}
 use Rattle.asking.specs.Asking.{answerSet}
 use Rattle.asking.specs.declared.Answer.the-variants.{Inconsistent, Supported, Unsupported}
-use Rattle.lines.specs.Lines.{writtenLength}
-use Rattle.promises.specs.Calls.{Calls, caseLine, context, line, over, question, reads, written}
+use Rattle.lent.specs.Lent.{writtenLength}
+use Rattle.promises.specs.Calls.{Calls, caseLine, context, file, line, over, question, reads, written}
 use Rattle.refuted.specs.Cases.{ListsAre, Prints, listedBytes}
 use Rattle.replies.specs.Replies.{numberOf}
 use Rattle.replies.specs.declared.Reply.{Reply}
@@ -23,6 +23,10 @@ use Rattle.theory.specs.Sets.{contains}
 -- the sowing: README tells it
 abbrev pub sowingBytes : List ℕ
 sowingBytes = 3 ∷ 4 ∷ 6 ∷ 0 ∷ 2 ∷ 2 ∷ 3 ∷ 4 ∷ 1 ∷ 1 ∷ 5 ∷ 1 ∷ 2 ∷ 6 ∷ 2 ∷ 3 ∷ 4 ∷ 7 ∷ 2 ∷ 3 ∷ 5 ∷ 0 ∷ 2 ∷ 1 ∷ 2 ∷ []
+
+-- .. its records in held order
+abbrev pub sowingFile : List ℕ
+sowingFile = 3 ∷ 4 ∷ 6 ∷ 0 ∷ 2 ∷ 1 ∷ 2 ∷ 0 ∷ 2 ∷ 2 ∷ 3 ∷ 4 ∷ 1 ∷ 1 ∷ 5 ∷ 1 ∷ 2 ∷ 6 ∷ 2 ∷ 3 ∷ 4 ∷ 7 ∷ 2 ∷ 3 ∷ 5 ∷ []
 
 abbrev pub sowing : Calls → Store
 sowing C = C .loading sowingBytes .store
@@ -66,6 +70,8 @@ pub record Pinned (C : Calls) : Type 0 where
   pub sowing-named : (answerSet (C .reading (sowing C) (question 6 5) .said) ≡ some 5) × (answerSet (C .reading (sowing C) (question 7 5) .said) ≡ none) × (answerSet (C .reading (sowing C) (question 7 6) .said) ≡ some 6)
   pub sowing-context : (out : List ℕ) → 8 ≤ length out → C .reading (sowing C) (context 5 out) ≡ reads (context 5 out) Done (sowing C) ((0 ∷ 1 ∷ 0 ∷ 1 ∷ 1 ∷ 0 ∷ 1 ∷ 3 ∷ []) ++ drop 8 out)
   pub sowing-against : (out : List ℕ) → 8 ≤ length out → C .reading (sowing C) (context 6 out) ≡ reads (context 6 out) Done (sowing C) ((2 ∷ 2 ∷ 2 ∷ 2 ∷ 2 ∷ 2 ∷ 2 ∷ 2 ∷ []) ++ drop 8 out)
+  -- the file that is written of it
+  pub sowing-file : (out : List ℕ) → 25 ≤ length out → C .reading (sowing C) (file out) ≡ reads (file out) (written sowingFile) (sowing C) (over sowingFile out)
   -- what is printed: the document's eighteen bytes; a record that stands twice, counted once; then no bytes, and more than 4,096
   pub eighteen : PrintsFile C listedBytes "case 3 2 4 2\n0 nogood {1,2}\n1 supported {1}\n2 supported {2}\n3 supported {3}\n4 supported {1} {2,3}\n5 supported {2,3}\n"
   pub twice : PrintsFile C (1 ∷ 1 ∷ 2 ∷ 2 ∷ 1 ∷ 1 ∷ 2 ∷ 1 ∷ 1 ∷ []) "case 1 1 1 1\n0 nogood\n1 supported {1}\n2 supported {1}\n"

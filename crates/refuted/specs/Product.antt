@@ -5,6 +5,7 @@ use Rattle.promises.specs.Promises.{Promises}
 use Rattle.refuted.specs.Cases.{PCases}
 use Rattle.refuted.specs.Pinned.{Pinned}
 use Rattle.refuted.specs.Readings.{Readings, ReadingsRefuted}
+use Rattle.refuted.specs.Writing.{WritingRefuted}
 use Rattle.refuted.specs.Wrong.{Refuted}
 
 pub record Product : Type 2 where
@@ -20,3 +21,4 @@ pub record Product : Type 2 where
   pub refuted : Refuted
   pub readings : Readings
   pub readings-refuted : ReadingsRefuted
+  pub writing-refuted : WritingRefuted

@@ -16,9 +16,10 @@ use Rattle.casefile.specs.declared.Loaded.{Loaded}
 use Rattle.handed.specs.Supplied.{suppliedBy}
 use Rattle.handed.specs.declared.Handed.{Handed}
 use Rattle.items.specs.Items.{Item}
-use Rattle.lines.specs.Lines.{Wrote, fitted, kept, lineWith}
-use Rattle.lines.specs.declared.Written.the-variants.{Refused as Unwritten}
-use Rattle.promises.specs.Calls.{Ask, Calls, Read, caseLine, context, line, listAll, member, ours, question, reads}
+use Rattle.lent.specs.Lent.{Wrote, fitted, kept}
+use Rattle.lent.specs.declared.Written.the-variants.{Refused as Unwritten}
+use Rattle.lines.specs.Lines.{lineWith}
+use Rattle.promises.specs.Calls.{Ask, Calls, Read, caseLine, context, file, line, listAll, member, ours, question, reads}
 use Rattle.promises.specs.Demand1.{Refusals}
 use Rattle.promises.specs.Demand2.{Demand2, IsDepth}
 use Rattle.promises.specs.Demand3.{Demand3}
@@ -55,6 +56,7 @@ refusingRead s (member n place) = reads (member n place) (Not Shape) s []
 refusingRead s (line n out) = reads (line n out) (Unwritten Shape) s out
 refusingRead s (caseLine out) = reads (caseLine out) (Unwritten Shape) s out
 refusingRead s (listAll out) = reads (listAll out) (Unwritten Shape) s out
+refusingRead s (file out) = reads (file out) (Unwritten Shape) s out
 
 abbrev pub refusing : Calls
 refusing = exchanged ours (λ A M. answer Counts noStore) (λ bytes. record { reply = Ends; «record» = 0; store = noStore }) (λ s c l. answer Shape s) (λ s l out. left (answer Shape s) out) (λ s c l. answer Shape s) refusingRead

@@ -1,7 +1,7 @@
 // One call each: its fields read, the call made, its reply printed.
 use asking::Answer;
 use asking::Found;
-use lines::Written;
+use lent::Written;
 use printing::decimal;
 use printing::say;
 use replies::Reply;
@@ -241,6 +241,47 @@ fn list(store: Store) {
     told(answer, &text);
 }
 
+// One of the sixteen hex digits.
+fn digit(n: u8) -> u8
+    requires { ⌜ n ≤ 15 ⌝ }
+{
+    if n < 10 {
+        return b'0' + n;
+    }
+    b'a' + (n - 10)
+}
+
+// A byte as two of them.
+fn pair(b: u8) {
+    say(&[digit(b / 16), digit(b % 16)]);
+}
+
+// The bytes as two hex digits each, a space between two.
+fn hex(bytes: &[u8]) {
+    for i in 0..bytes.len() {
+        if 0 < i {
+            say(b" ");
+        }
+        pair(bytes[i]);
+    }
+    say(b"\n");
+}
+
+// write
+fn write(store: Store) {
+    let mut bytes = [0u8; writing::LONGEST];
+    let out = writing::write(store, &mut bytes);
+    let answer = out.answer;
+    match answer {
+        Written::Length(length) => {
+            if length <= bytes.len() {
+                hex(&bytes[..length]);
+            }
+        }
+        Written::Refused(reply) => refused(reply),
+    }
+}
+
 // The calls that read.
 pub fn read(word: &[u8], rest: &[u8], number: u32, store: Store) {
     let mut fields = [0u32; MOST];
@@ -258,6 +299,12 @@ pub fn read(word: &[u8], rest: &[u8], number: u32, store: Store) {
     if script::same(word, b"list") {
         if n == 0 {
             return list(store);
+        }
+        return bad(number);
+    }
+    if script::same(word, b"write") {
+        if n == 0 {
+            return write(store);
         }
         return bad(number);
     }

@@ -13,10 +13,10 @@ use Rattle.following.proofs.Passing.{marked-no, marked-yes}
 use Rattle.following.proofs.Staging.{Placed}
 use Rattle.following.specs.First.{sinceOf}
 use Rattle.following.specs.Marks.{marked}
-use Rattle.lines.specs.Lines.{Wrote, fitted, kept}
-use Rattle.lines.specs.declared.Listed.{Listed}
-use Rattle.lines.specs.declared.Written.{Written}
-use Rattle.lines.specs.declared.Written.the-variants.{Length, Refused}
+use Rattle.lent.specs.Lent.{Wrote, fitted, kept}
+use Rattle.lent.specs.declared.Listed.{Listed}
+use Rattle.lent.specs.declared.Written.{Written}
+use Rattle.lent.specs.declared.Written.the-variants.{Length, Refused}
 use Rattle.plain.proofs.Laws.{placed}
 use Rattle.plain.proofs.Since.{since-by}
 use Rattle.replies.specs.declared.Reply.the-variants.{Number, Shape, Short}

@@ -5,8 +5,8 @@ use Prim.Native.Nat.{_*_, _+_, ℕ}
 use lib.Dec.{ltb}
 use Rattle.following.specs.First.{sinceOf}
 use Rattle.following.specs.Marks.{marked}
-use Rattle.lines.specs.Lines.{Hands, Wrote, fitted, kept}
-use Rattle.lines.specs.declared.Listed.{Listed}
+use Rattle.lent.specs.Lent.{Hands, Wrote, fitted, kept}
+use Rattle.lent.specs.declared.Listed.{Listed}
 use Rattle.replies.specs.declared.Reply.the-variants.{Number, Shape}
 use Rattle.rules.specs.Held.{saidBy}
 use Rattle.store.specs.Shape.{rightShape, top}

@@ -1,6 +1,6 @@
 // The lines of the stages into lent bytes: the stage, then every number that followed by then. The length is known before a byte is written.
-use lines::Listed;
-use lines::Written;
+use lent::Listed;
+use lent::Written;
 use replies::Reply;
 use sets::Set;
 use store::Store;
@@ -10,7 +10,7 @@ ghost use Prim.Native.Nat.{_≤_};
 ghost use lib.Dec.{ltb};
 ghost use lib.ListN.{length};
 ghost use Rattle.theory.specs.Lists.{choose};
-ghost use Rattle.lines.specs.Lines.{Leaves, fitted};
+ghost use Rattle.lent.specs.Lent.{Leaves, fitted};
 ghost use Rattle.text.specs.Texts.{digits};
 ghost use Rattle.text.specs.Writing.{Put, Room};
 ghost use Rattle.stagetext.specs.Stagetext.{StagesLined, bodyOf, latest, partOf, rowOf, rowsIn, rowsOf};

@@ -62,17 +62,35 @@ bad-requires-2 c κs = search needs
 returns-5 : tie.Need-returns-5
 returns-5 c = search needs
 
-bad-requires-3 : tie.Need-bad-requires-3
-bad-requires-3 c κs = search needs
-
-returns-6 : tie.Need-returns-6
-returns-6 c = search needs
-
 slice-aggregate-same-3 : tie.Need-slice-aggregate-same-3
 slice-aggregate-same-3 c = search needs
 
 same-requires-3 : tie.Need-same-requires-3
 same-requires-3 c κs = search needs
+
+write-requires : tie.Need-write-requires
+write-requires c κs = search needs
+
+returns-6 : tie.Need-returns-6
+returns-6 c = search needs
+
+bad-requires-3 : tie.Need-bad-requires-3
+bad-requires-3 c κs = search needs
+
+returns-7 : tie.Need-returns-7
+returns-7 c = search needs
+
+bad-requires-4 : tie.Need-bad-requires-4
+bad-requires-4 c κs = search needs
+
+returns-8 : tie.Need-returns-8
+returns-8 c = search needs
+
+slice-aggregate-same-4 : tie.Need-slice-aggregate-same-4
+slice-aggregate-same-4 c = search needs
+
+same-requires-4 : tie.Need-same-requires-4
+same-requires-4 c κs = search needs
 
 array-read-ask : tie.Need-array-read-ask
 array-read-ask c = search needs
@@ -86,8 +104,8 @@ part-ask-end c = search needs
 ask-requires : tie.Need-ask-requires
 ask-requires c κs = search needs
 
-returns-7 : tie.Need-returns-7
-returns-7 c = search needs
+returns-9 : tie.Need-returns-9
+returns-9 c = search needs
 
 array-read-named : tie.Need-array-read-named
 array-read-named c = search needs
@@ -98,8 +116,8 @@ array-read-named-2 c = search needs
 named-requires : tie.Need-named-requires
 named-requires c κs = search needs
 
-returns-8 : tie.Need-returns-8
-returns-8 c = search needs
+returns-10 : tie.Need-returns-10
+returns-10 c = search needs
 
 pub read-spec : {M : Type 1} → statement M
 read-spec =
@@ -124,16 +142,22 @@ read-spec =
     returns-4
     bad-requires-2
     returns-5
-    bad-requires-3
-    returns-6
     slice-aggregate-same-3
     same-requires-3
+    write-requires
+    returns-6
+    bad-requires-3
+    returns-7
+    bad-requires-4
+    returns-8
+    slice-aggregate-same-4
+    same-requires-4
     array-read-ask
     part-ask-start
     part-ask-end
     ask-requires
-    returns-7
+    returns-9
     array-read-named
     array-read-named-2
     named-requires
-    returns-8)
+    returns-10)

@@ -1,9 +1,9 @@
--- `lines::fit` meets its contract. Assumes nothing.
-use Rattle.lines.proofs.Fits.{fitted-long, fitted-short}
+-- `lent::fit` meets its contract. Assumes nothing.
+use Rattle.lent.proofs.Fits.{fitted-long, fitted-short}
 use Rattle.text.proofs.Writing.{front-kept}
 use borrow.Author.Needs.{needs}
-use Rattle.lines.proofs.fit.Statement.{statement}
-use Rattle.lines.proofs.fit.Tie as tie
+use Rattle.lent.proofs.fit.Statement.{statement}
+use Rattle.lent.proofs.fit.Tie as tie
 
 returns : tie.Need-returns
 returns c = let s = c .before .before .before in fitted-short (s .args .text .now) (s .args .out .now) (c .if1 .taken)
