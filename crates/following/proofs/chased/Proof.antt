@@ -17,7 +17,7 @@ abbrev Inv-loop : tie.InvT-loop
 Inv-loop hints from held count marks₀ n₀ k₀ marks n k = (n ≤ 128) × (length marks ≡ 129) × Hurried (saidBy held) marks₀ marks
 
 abbrev μ-loop : tie.MeasureT-loop
-μ-loop hints from held count marks₀ n₀ k₀ marks n k = 129 - k
+μ-loop hints from held count marks₀ n₀ k₀ marks n k = 128 - k
 
 loop-holds : tie.Need-loop-holds Inv-loop μ-loop
 loop-holds c = (c .before .pre .2, search needs, hurried-none _ _)
