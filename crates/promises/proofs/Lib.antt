@@ -29,4 +29,5 @@ pub mod Meaning
 pub mod Words
 pub mod Truth
 pub mod Printing
+pub mod Plain
 pub mod Promises

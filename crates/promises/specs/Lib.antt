@@ -15,4 +15,5 @@ pub mod Demand3
 pub mod Shaped
 pub mod Meaning
 pub mod Words
+pub mod Plain
 pub mod Promises

@@ -5,6 +5,7 @@ use Rattle.promises.specs.Demand2.{Demand2}
 use Rattle.promises.specs.Demand3.{Demand3}
 use Rattle.promises.specs.Made.{Stores}
 use Rattle.promises.specs.Meaning.{Meaning}
+use Rattle.promises.specs.Plain.{PlainPath}
 use Rattle.promises.specs.Season.{OneByOne}
 use Rattle.promises.specs.Shortest.{NothingShorter}
 use Rattle.promises.specs.Standing.{AsTheyStand}
@@ -20,3 +21,4 @@ pub record Promises (C : Calls) : Type 2 where
   pub words : Words
   pub shortest : NothingShorter C
   pub season : OneByOne C
+  pub plain : PlainPath C

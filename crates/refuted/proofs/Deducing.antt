@@ -123,6 +123,7 @@ its-table = record {
       let r = reply-table .printing bytes out a in
       let e : writtenNumber (deducing .printing bytes out .answer) ≡ writtenNumber (ours .printing bytes out .answer) = ap (λ (w : Wrote). writtenNumber (w .answer)) (prints-ours bytes out) in
       (λ q. r .0 (sym e ∙ q), λ w. e ∙ r .1 w);
+  bare = reply-table .bare;
   decoding = reply-table .decoding;
   onward = reply-table .onward;
   adding-names = reply-table .adding-names;
@@ -145,6 +146,7 @@ refusals-too = record {
   reading = its-store;
   bytes = λ s. by-question asks readOf s (λ a x. (numberSaid a (x .said) ≡ 0 → ⊥) → x .bytes ≡ lentTo a) (refusals .bytes s) (λ n E k. refl);
   refusal-bytes = refusals .refusal-bytes;
+  bare-bytes = refusals .bare-bytes;
   printing-bytes = λ bytes out k.
       ap (λ (w : Wrote). w .bytes) (prints-ours bytes out)
       ∙ refusals .printing-bytes bytes out (λ z. k (ap (λ (w : Wrote). writtenNumber (w .answer)) (prints-ours bytes out) ∙ z));

@@ -11,5 +11,6 @@ pub mod Deducing
 pub mod Naming
 pub mod Third
 pub mod Season
+pub mod Halting
 pub mod Wrong
 pub mod Product
