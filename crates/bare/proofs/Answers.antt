@@ -11,7 +11,7 @@ use Rattle.bare.proofs.Chased.{Ends, Stand, Stands, ended, faulty, over
 use Rattle.bare.proofs.Items.{bare-placed}
 use Rattle.bare.specs.Bare.{Answered, answered, askOf, barely, faultsOf, overCounts, refusedAs, tellOf, wroteAs}
 use Rattle.bare.specs.Chasing.{filledIn, finishOf, startOf, toldIn}
-use Rattle.bare.specs.declared.Asked.{Asked}
+use Rattle.bare.specs.declared.Query.{Query}
 use Rattle.bare.specs.declared.Chase.{Chase}
 use Rattle.bare.specs.declared.Told.the-variants.{Filled, Word}
 use Rattle.bare.specs.declared.What.{What}
@@ -47,7 +47,7 @@ module _ (N : ℕ) (low : N ≤ 128) (J : List Justification) (w : Placed J) (E 
       ap (λ (t : List ℕ). choose (ltb (length out) (N + 1)) (answered (Filled Short) out) (answered (Filled Done) (t ++ drop (N + 1) out))) (bytes-plain J w E m e (N + 1) (omega (arith, low)))
   told-plain Stages out = ap (λ (t : List ℕ). wroteAs (fitted t out)) (ap (rowsIn (N + 1)) e ∙ text-is J w E N low)
 
-module _ (q : Asked) (l : List Handed) (out : List ℕ) where
+module _ (q : Query) (l : List Handed) (out : List ℕ) where
   abbrev N : ℕ
   N = q .assumptions + q .claims
 

@@ -14,7 +14,7 @@ use borrow.Author.Tests.{ltb-false, ltb-true}
 use Rattle.bare.proofs.Items.{bare-placed, faults-at, faults-next, is-done, itemAt, pass-next}
 use Rattle.bare.specs.Bare.{barely, faultOfItem, faultsOf, justOf, overCounts}
 use Rattle.bare.specs.Chasing.{Going, againOf, begunOf, followOf, haltOf, newsOf, onwardOf, startOf, stepOf}
-use Rattle.bare.specs.declared.Asked.{Asked}
+use Rattle.bare.specs.declared.Query.{Query}
 use Rattle.bare.specs.declared.Chase.{Chase}
 use Rattle.following.proofs.First.{pass-plus, pass-still, since-last, sown-at}
 use Rattle.following.proofs.Staging.{Placed}
@@ -40,7 +40,7 @@ mark-kept t v m j e = go (ltb v (getD m (j .consequent) 255)) (allOf (marked t m
     go true false p f = set-getD m (j .consequent) 255
     go false a p f = set-getD m (j .consequent) 255
 
-module _ (q : Asked) (l : List Handed) where
+module _ (q : Query) (l : List Handed) where
   abbrev N : ℕ
   N = q .assumptions + q .claims
 

@@ -10,7 +10,7 @@ use lib.ListN.{drop, getD, length, replicate, set, take}
 use borrow.Author.Tests.{eq-eqb, le-leb, le-ltb, lt-ltb, ltb-false, ne-eqb}
 use Rattle.bare.specs.Bare.{Answered, answered, faultOfItem, justOf, overCounts, refusedAs, wroteAs}
 use Rattle.bare.specs.Chasing.{againOf, begunOf, filledIn, finishOf, followOf, haltOf, onwardOf, startOf, stepOf, toldIn, wordIn}
-use Rattle.bare.specs.declared.Asked.{Asked}
+use Rattle.bare.specs.declared.Query.{Query}
 use Rattle.bare.specs.declared.Chase.{Chase}
 use Rattle.bare.specs.declared.Told.{Told}
 use Rattle.bare.specs.declared.Told.the-variants.{Filled, Lines, Word}
@@ -47,7 +47,7 @@ power : (a : ℕ) → 0 < 2 ^ a
 power zero = omega arith
 power (suc a) = omega (arith, power a)
 
-module _ (q : Asked) where
+module _ (q : Query) where
   pub over-yes : 32 < q .assumptions → true ≡ overCounts q
   over-yes h = sym (ap (λ (b : Bool). b || ltb 96 (q .claims)) (lt-ltb 32 (q .assumptions) h))
 
@@ -208,7 +208,7 @@ module _ (m : List ℕ) (N : ℕ) where
       pub told-lines : (w : Written) (after : List ℕ) → x ≡ Stages → record { answer = w; bytes = after } ≡ fitted (rowsIn (N + 1) m) out → answered (Lines w) after ≡ toldIn m N x out
       told-lines w after e p = ap wroteAs p ∙ sym (ap (λ (y : What). toldIn m N y out) e)
 
-module _ (c : Chase) (q : Asked) (out : List ℕ) where
+module _ (c : Chase) (q : Query) (out : List ℕ) where
   pub finish-fault : (r : Told) → (numberOf (c .reply) ≡ 0 → ⊥) → r ≡ refusedAs (q .what) (c .reply) → answered r out ≡ finishOf c q out
   unfolding finishOf
   finish-fault r n e = ap (λ (x : Told). answered x out) e ∙ rw (ne-eqb (numberOf (c .reply)) 0 n)

@@ -5,7 +5,7 @@ use mathlib.Core.Path.{_≡_}
 use Prim.Native.Nat.{_+_, ℕ}
 use lib.Dec.{ltb}
 use lib.ListN.{drop, length}
-use Rattle.bare.specs.declared.Asked.{Asked}
+use Rattle.bare.specs.declared.Query.{Query}
 use Rattle.bare.specs.declared.Told.{Told}
 use Rattle.bare.specs.declared.Told.the-variants.{Filled, Lines, Word}
 use Rattle.bare.specs.declared.What.{What}
@@ -75,11 +75,11 @@ tellOf N J E Context out =
 tellOf N J E Stages out = wroteAs (fitted (stageText N J E) out)
 
 -- A above 32 or M above 96
-abbrev pub overCounts : Asked → Bool
+abbrev pub overCounts : Query → Bool
 overCounts q = ltb 32 (q .assumptions) || ltb 96 (q .claims)
 
 -- 3, then each item in order by 6, 4, 5, 17, then 4 for the number or set asked, then 15
-unfoldable pub askOf : Asked → List Handed → List ℕ → Answered
+unfoldable pub askOf : Query → List Handed → List ℕ → Answered
 askOf q l out =
     let N : ℕ = q .assumptions + q .claims in
     choose (overCounts q) (answered (refusedAs (q .what) Counts) out)
@@ -87,7 +87,7 @@ askOf q l out =
     (choose (not (inRange (q .assumptions) (q .set))) (answered (refusedAs (q .what) Number) out)
     (tellOf N (barely N l) (q .set) (q .what) out)))
 
-abbrev pub Answers : Asked → List Handed → List ℕ → Told → List ℕ → Type 0
+abbrev pub Answers : Query → List Handed → List ℕ → Told → List ℕ → Type 0
 Answers q l out r after = answered r after ≡ askOf q l out
 
 -- the document's number of an answer

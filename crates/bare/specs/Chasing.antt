@@ -5,7 +5,7 @@ use Prim.Native.Nat.{_+_, _<_, _≤_, ℕ}
 use lib.Dec.{ltb}
 use lib.ListN.{drop, getD, length, replicate}
 use Rattle.bare.specs.Bare.{Answered, answered, faultOfItem, justOf, overCounts, refusedAs, wroteAs}
-use Rattle.bare.specs.declared.Asked.{Asked}
+use Rattle.bare.specs.declared.Query.{Query}
 use Rattle.bare.specs.declared.Chase.{Chase}
 use Rattle.bare.specs.declared.Told.the-variants.{Filled, Word}
 use Rattle.bare.specs.declared.What.{What}
@@ -28,10 +28,10 @@ use Rattle.theory.specs.Stages.{Justification}
 -- ---- before the first item
 
 -- the set that is followed: where it is out of range, none
-abbrev pub startOf : Asked → ℕ
+abbrev pub startOf : Query → ℕ
 startOf q = choose (inRange (q .assumptions) (q .set)) (q .set) 0
 
-unfoldable pub begunOf : ℕ → Asked → Chase
+unfoldable pub begunOf : ℕ → Query → Chase
 begunOf items q =
     choose (overCounts q) (record { reply = Counts; assumptions = 0; top = 0; count = items; at = items; stage = 0; new = false; marks = replicate 129 255 })
     (record { reply = Done; assumptions = q .assumptions; top = q .assumptions + q .claims; count = items; at = 0; stage = 0; new = false; marks = sown (startOf q) })
@@ -82,7 +82,7 @@ toldIn m N (Of n) out = answered (Word (wordIn m N n)) out
 toldIn m N Context out = filledIn m N out
 toldIn m N Stages out = wroteAs (fitted (rowsIn (N + 1) m) out)
 
-unfoldable pub finishOf : Chase → Asked → List ℕ → Answered
+unfoldable pub finishOf : Chase → Query → List ℕ → Answered
 finishOf c q out =
     choose (not (isDone (c .reply))) (answered (refusedAs (q .what) (c .reply)) out)
     (choose (not (inRange (c .assumptions) (q .set))) (answered (refusedAs (q .what) Number) out)

@@ -25,7 +25,7 @@ pub enum What {
 }
 
 // How many assumptions and claims there are, what is asked, and of which set.
-pub struct Asked {
+pub struct Query {
     pub assumptions: u32,
     pub claims: u32,
     pub what: What,
@@ -63,7 +63,7 @@ fn start(e: Set, a: u8) -> Set
 }
 
 // Before the first of so many items: 3, or the marks of stage 0.
-fn begin(items: usize, ask: Asked) -> Chase
+fn begin(items: usize, ask: Query) -> Chase
     ensures { λ r. ⌜ r ≡ begunOf items ask ⌝ }
 {
     if over(ask) {
@@ -96,7 +96,7 @@ fn begin(items: usize, ask: Asked) -> Chase
 }
 
 // Whether there are more than 32 assumptions or more than 96 claims.
-fn over(ask: Asked) -> bool
+fn over(ask: Query) -> bool
     ensures { λ r. ⌜ r ≡ overCounts ask ⌝ }
 {
     if 32 < ask.assumptions {
@@ -274,7 +274,7 @@ fn tell(marks: [u8; 129], top: u8, what: What, out: &mut [u8]) -> Told
 }
 
 // The answer when the list has been followed: a fault, 4 for the set, or what the marks say.
-fn finish(chase: Chase, ask: Asked, out: &mut [u8]) -> Told
+fn finish(chase: Chase, ask: Query, out: &mut [u8]) -> Told
     requires { ⌜ (chase .assumptions ≤ 32) × (chase .top ≤ 128) ⌝ }
     ensures { λ r. ⌜ answered r (now (out .exit)) ≡ finishOf chase ask (now (out .entry)) ⌝ }
 {
@@ -291,20 +291,20 @@ fn finish(chase: Chase, ask: Asked, out: &mut [u8]) -> Told
 }
 
 // What is asked of a bare list, any number of items: the items judged in order, then followed stage by stage.
-pub fn ask(asked: Asked, list: &[Handed], out: &mut [u8]) -> Told
-    ensures { λ r. ⌜ Answers asked (now (list .entry)) (now (out .entry)) r (now (out .exit)) ⌝ }
+pub fn ask(query: Query, list: &[Handed], out: &mut [u8]) -> Told
+    ensures { λ r. ⌜ Answers query (now (list .entry)) (now (out .entry)) r (now (out .exit)) ⌝ }
 {
-    let mut chase = begin(list.len(), asked);
+    let mut chase = begin(list.len(), query);
     while chase.at < list.len() {
         chase = step(chase, list[chase.at]);
     }
-    finish(chase, asked, out)
+    finish(chase, query, out)
 }
 
 // Of the first n of a list by value: a caller of this one takes no slice of items.
-pub fn ask_some(asked: Asked, list: [Handed; 256], n: usize, out: &mut [u8]) -> Told
+pub fn ask_some(query: Query, list: [Handed; 256], n: usize, out: &mut [u8]) -> Told
     requires { ⌜ n ≤ 256 ⌝ }
-    ensures { λ r. ⌜ Answers asked (take n list) (now (out .entry)) r (now (out .exit)) ⌝ }
+    ensures { λ r. ⌜ Answers query (take n list) (now (out .entry)) r (now (out .exit)) ⌝ }
 {
-    ask(asked, &list[..n], out)
+    ask(query, &list[..n], out)
 }

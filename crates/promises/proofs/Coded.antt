@@ -4,6 +4,7 @@ use mathlib.Core.Path.{refl}
 use Rattle.asking.proofs.context.Met as context-at
 use Rattle.asking.proofs.member.Met as member-at
 use Rattle.asking.proofs.question.Met as question-at
+use Rattle.bare.proofs.ask.Met as bare-at
 use Rattle.casefile.proofs.load.Met as load-at
 use Rattle.lines.proofs.case_line.Met as case-line-at
 use Rattle.lines.proofs.line.Met as line-at
@@ -11,9 +12,12 @@ use Rattle.listing.proofs.listing.Met as listing-at
 use Rattle.listing.proofs.printed.Met as printed-at
 use Rattle.lines.proofs.refusal.Met as refusal-at
 use Rattle.numbers.proofs.read.Met as read-at
+use Rattle.plain.proofs.context.Met as plain-context-at
+use Rattle.plain.proofs.question.Met as plainly-at
 use Rattle.promises.specs.Calls.{ours}
 use Rattle.promises.specs.Coded.{Coded}
 use Rattle.season.proofs.add_all.Met as add-all-at
+use Rattle.stagetext.proofs.lines.Met as stage-lines-at
 use Rattle.store.proofs.Store.add.Met as add-at
 use Rattle.store.proofs.Store.open.Met as open-at
 use Rattle.store.proofs.Store.shape.Met as shape-at
@@ -43,4 +47,8 @@ coded = record {
   shape = record { keeps = λ M. shape-at.met; free = λ κs a. tt; exact = λ κs a r e. same };
   refusal = record { keeps = λ M. refusal-at.met; free = λ κs a. tt; exact = λ κs a r e. same };
   decoding = record { keeps = λ M. read-at.met; free = λ κs a. tt; exact = λ κs a r e. same };
+  plainly = record { keeps = λ M. plainly-at.met; free = λ κs a. tt; exact = λ κs a r e. same };
+  plainContext = record { keeps = λ M. plain-context-at.met; free = λ κs a. tt; exact = λ κs a r e. same };
+  stageLines = record { keeps = λ M. stage-lines-at.met; free = λ κs a. tt; exact = λ κs a r e. same };
+  bare = record { keeps = λ M. bare-at.met; exact = λ M 𝓤 H A mem run. refl };
 }

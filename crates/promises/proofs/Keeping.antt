@@ -7,12 +7,18 @@ use lib.Dec.{leb, ltb}
 use lib.ListN.{drop, length}
 use borrow.Author.Tests.{eqb-true}
 use Rattle.asking.specs.Asking.{contextBytes, contextOf, contextReply}
+use Rattle.bare.specs.Bare.{Answered, answered, askOf, barely, faultsOf, refusedAs, tellOf, toldNumber}
+use Rattle.bare.specs.declared.Query.{Query}
+use Rattle.bare.specs.declared.Told.the-variants.{Filled}
+use Rattle.bare.specs.declared.What.{What}
+use Rattle.bare.specs.declared.What.the-variants.{Context, Number as Of, Stages}
 use Rattle.casefile.specs.Case.{Case, Reading, caseOf, heldBy, refused as unread, whole}
 use Rattle.casefile.specs.Load.{loadOf, loadedOf}
 use Rattle.handed.specs.declared.Handed.{Handed}
 use Rattle.lent.specs.Lent.{Wrote, fitted, kept, writtenNumber}
 use Rattle.lines.specs.Lines.{caseText, headingOf, lineOf, lineText, refusalText}
-use Rattle.promises.specs.Calls.{Ask, caseLine, context, file, lentTo, line, listAll, member, numberSaid, question, readOf}
+use Rattle.plain.specs.Plainly.{byteOf, plainAfter, plainBy, plainBytes}
+use Rattle.promises.specs.Calls.{Ask, caseLine, context, file, lentTo, line, listAll, member, numberSaid, plainContext, plainly, question, readOf, stageLines}
 use Rattle.replies.specs.Replies.{numberOf}
 use Rattle.replies.specs.declared.Reply.{Reply}
 use Rattle.replies.specs.declared.Reply.the-variants.{Already, Counts, Done, Full, Number, Shape, Short, Unheld}
@@ -20,12 +26,15 @@ use Rattle.rules.specs.Held.{dropped, heldOf, put, saidBy}
 use Rattle.rules.specs.Items.{faultOf, justificationOf, sameJustification}
 use Rattle.rules.specs.declared.Held.{Held}
 use Rattle.season.specs.Season.{addAllOf, addedAll, bytesAfter, repliesOf}
+use Rattle.stagetext.specs.Stagetext.{stageText, stagesOf}
 use Rattle.store.specs.Calls.{addOf, answer, isDone, joinedBy, judgedOf, noStore, ofVerdict, openOf, partedFrom, startStore, storeOf, withdrawOf}
 use Rattle.store.specs.Shape.{heldFits, rightShape, top}
 use Rattle.store.specs.declared.Outcome.{Outcome}
 use Rattle.store.specs.declared.Store.{Store}
 use Rattle.theory.specs.Judge.{Verdict, judge, labelOver, limits, nogoodsOver, settled}
 use Rattle.theory.specs.Lists.{choose, someOf}
+use Rattle.theory.specs.Places.{table}
+use Rattle.theory.specs.Sets.{inRange}
 use Rattle.theory.specs.Stages.{Justification}
 use Rattle.listing.specs.Listing.{listedOf, listingOf, listingText}
 use Rattle.writing.specs.Writing.{fileOf, writeOf}
@@ -127,6 +136,19 @@ module _ (s : Store) where
   unfolding writeOf
   writing-keeps out = kept-choose out (not (rightShape s)) Shape _ (kept-fitted (fileOf (s .held)) out)
 
+  plain-keeps : (E : ℕ) (out : List ℕ) → (numberOf (contextReply s E (length out)) ≡ 0 → ⊥) → plainAfter s E out ≡ out
+  unfolding plainAfter
+  plain-keeps E out n = go (isDone (contextReply s E (length out))) (plainBytes s E ++ drop (top (s .held) + 1) out) refl
+    where
+      go : (b : Bool) (x : List ℕ) → isDone (contextReply s E (length out)) ≡ b → choose b x out ≡ out
+      go true x e = absurd (n (eqb-true (numberOf (contextReply s E (length out))) 0 e))
+      go false x e = refl
+
+  stages-keeps : (E : ℕ) (out : List ℕ) → KeptBytes out (stagesOf s E out)
+  unfolding stagesOf
+  stages-keeps E out =
+      kept-choose out (not (rightShape s)) Shape _ (kept-choose out (not (inRange (s .held .assumptions) E)) Number _ (kept-fitted (stageText (top (s .held)) (saidBy (s .held)) E) out))
+
   pub read-store : (a : Ask) → readOf s a .store ≡ s
   read-store (question n E) = refl
   read-store (context E out) = refl
@@ -135,6 +157,9 @@ module _ (s : Store) where
   read-store (caseLine out) = refl
   read-store (listAll out) = refl
   read-store (file out) = refl
+  read-store (plainly n E) = refl
+  read-store (plainContext E out) = refl
+  read-store (stageLines E out) = refl
 
   pub read-keeps : (a : Ask) → (numberSaid a (readOf s a .said) ≡ 0 → ⊥) → readOf s a .bytes ≡ lentTo a
   read-keeps (question n E) k = refl
@@ -144,6 +169,9 @@ module _ (s : Store) where
   read-keeps (caseLine out) k = heading-keeps out k
   read-keeps (listAll out) k = listing-keeps out k
   read-keeps (file out) k = writing-keeps out k
+  read-keeps (plainly n E) k = refl
+  read-keeps (plainContext E out) k = plain-keeps E out k
+  read-keeps (stageLines E out) k = stages-keeps E out k
 
 -- ---- no store is returned
 
@@ -172,3 +200,28 @@ refusal-keeps r k out = kept-fitted noStore (refusalText r k) out
 
 pub printing-keeps : (bytes out : List ℕ) → (writtenNumber (fitted (listingOf bytes) out .answer) ≡ 0 → ⊥) → fitted (listingOf bytes) out .bytes ≡ out
 printing-keeps bytes out = kept-fitted noStore (listingOf bytes) out
+
+-- ---- a bare list
+
+module _ (out : List ℕ) where
+  abbrev KeptBare : Answered → Type 0
+  KeptBare x = (toldNumber (x .answer) ≡ 0 → ⊥) → x .bytes ≡ out
+
+  bare-choose : (b : Bool) (x y : Answered) → x .bytes ≡ out → KeptBare y → KeptBare (choose b x y)
+  bare-choose true x y p q n = p
+  bare-choose false x y p q n = q n
+
+  tell-keeps : (N : ℕ) (J : List Justification) (E : ℕ) (w : What) → KeptBare (tellOf N J E w out)
+  tell-keeps N J E (Of n) k = refl
+  tell-keeps N J E Context k =
+      bare-choose (ltb (length out) (N + 1)) (answered (Filled Short) out) (answered (Filled Done) (table (N + 1) (λ n. byteOf (plainBy J E n)) ++ drop (N + 1) out)) refl (λ z. absurd (z refl)) k
+  tell-keeps N J E Stages k = kept-fitted noStore (stageText N J E) out k
+
+pub bare-keeps : (q : Query) (l : List Handed) (out : List ℕ) → (toldNumber (askOf q l out .answer) ≡ 0 → ⊥) → askOf q l out .bytes ≡ out
+unfolding askOf
+bare-keeps q l out =
+    let N : ℕ = q .assumptions + q .claims in
+    bare-choose out (ltb 32 (q .assumptions) || ltb 96 (q .claims)) (answered (refusedAs (q .what) Counts) out) _ refl
+    (bare-choose out (not (isDone (faultsOf N l))) (answered (refusedAs (q .what) (faultsOf N l)) out) _ refl
+    (bare-choose out (not (inRange (q .assumptions) (q .set))) (answered (refusedAs (q .what) Number) out) _ refl
+    (tell-keeps out N (barely N l) (q .set) (q .what))))

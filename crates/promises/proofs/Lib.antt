@@ -30,4 +30,5 @@ pub mod Words
 pub mod Truth
 pub mod Printing
 pub mod Files
+pub mod Plain
 pub mod Promises

@@ -3,6 +3,7 @@ use mathlib.Core.List.{List}
 use mathlib.Core.Path.{_∙_, _≡_, ap, refl, sym}
 use Prim.Native.Nat.{ℕ}
 use Rattle.asking.specs.Asking.{Left}
+use Rattle.bare.specs.Bare.{Answered}
 use Rattle.lent.specs.Lent.{Wrote}
 use Rattle.promises.specs.Once.{OnceEach}
 
@@ -71,4 +72,18 @@ once-each = record {
   has-zero-one = λ κs a r r′ w w′ p q. (p ∙ sym q, refl);
   has-above-one = λ κs a r r′ w w′ p q. (p ∙ sym q, refl);
   set-of-one = λ κs a r r′ w w′ p q. (p ∙ sym q, refl);
+  following-stages-one = λ κs a r r′ w w′ p q. (p ∙ sym q, refl);
+  following-mark-one = λ κs a r r′ w w′ p q. (p ∙ sym q, refl);
+  sown-one = λ κs a r r′ w w′ p q. (p ∙ sym q, refl);
+  chased-one = λ κs a r r′ w w′ p q. (p ∙ sym q, refl);
+  plain-read-one = λ κs a r r′ w w′ p q. (p ∙ sym q, refl);
+  plain-fill-one = λ κs a r r′ w w′ p q. (refl, ap (λ (l : List ℕ). (tt, (tt, (l, tt)))) (p ∙ sym q));
+  plainly-one = λ κs a r r′ w w′ p q. (p ∙ sym q, refl);
+  plain-context-one = λ κs a r r′ w w′ p q. (ap (λ (x : Left). x .outcome) (p ∙ sym q), ap (λ (l : List ℕ). (tt, (tt, (l, tt)))) (ap (λ (x : Left). x .bytes) (p ∙ sym q)));
+  put-one = λ κs a r r′ w w′ p q. (ap (λ (x : Wrote). x .answer) (p ∙ sym q), ap (λ (l : List ℕ). (tt, (tt, (l, tt)))) (ap (λ (x : Wrote). x .bytes) (p ∙ sym q)));
+  stage-lines-one = λ κs a r r′ w w′ p q. (p .0 ∙ sym (q .0), ap (λ (l : List ℕ). (tt, (tt, (l, tt)))) (p .1 ∙ sym (q .1)));
+  digits-one = λ κs a r r′ w w′ p q. (p .next ∙ sym (q .next), ap (λ (l : List ℕ). (tt, (tt, (l, tt)))) (p .bytes ∙ sym (q .bytes)));
+  spaced-one = λ κs a r r′ w w′ p q. (p .next ∙ sym (q .next), ap (λ (l : List ℕ). (tt, (tt, (l, tt)))) (p .bytes ∙ sym (q .bytes)));
+  ask-some-one = λ κs a r r′ w w′ p q. (ap (λ (x : Answered). x .answer) (p ∙ sym q), ap (λ (l : List ℕ). (tt, (tt, (tt, (l, tt))))) (ap (λ (x : Answered). x .bytes) (p ∙ sym q)));
+  bare-one = λ κs a r r′ w w′ p q. (ap (λ (x : Answered). x .answer) (p ∙ sym q), ap (λ (l : List ℕ). (tt, (tt, (l, tt)))) (ap (λ (x : Answered). x .bytes) (p ∙ sym q)));
 }

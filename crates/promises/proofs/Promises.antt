@@ -2,6 +2,7 @@
 use Rattle.promises.proofs.Files.{files}
 use Rattle.promises.proofs.Form.{made-holds}
 use Rattle.promises.proofs.Meaning.{meaning}
+use Rattle.promises.proofs.Plain.{plain-path}
 use Rattle.promises.proofs.Refusals.{demand-1}
 use Rattle.promises.proofs.Right.{made-no-own, made-right, own-shape}
 use Rattle.promises.proofs.Sameness.{demand-3}
@@ -18,4 +19,4 @@ pub stores : Stores ours
 stores = record { holds = made-holds; no-own = made-no-own; own-wrong = own-shape; right = made-right }
 
 pub promises : Promises ours
-promises = record { demand1 = demand-1; demand2 = demand-2; demand3 = demand-3; stores = stores; standing = as-they-stand; meaning = meaning; words = words; shortest = nothing-shorter; season = one-by-one; files = files }
+promises = record { demand1 = demand-1; demand2 = demand-2; demand3 = demand-3; stores = stores; standing = as-they-stand; meaning = meaning; words = words; shortest = nothing-shorter; season = one-by-one; files = files; plain = plain-path }

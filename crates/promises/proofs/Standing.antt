@@ -12,10 +12,12 @@ use Rattle.asking.specs.declared.Answer.{Answer}
 use Rattle.asking.specs.declared.Found.{Found}
 use Rattle.lent.specs.Lent.{Wrote, fitted}
 use Rattle.lines.specs.Lines.{caseText, headingOf, lineOf, lineText, refusalText}
+use Rattle.plain.specs.Plainly.{plainAfter, plainBy, plainBytes, plainOf}
+use Rattle.plain.specs.declared.Plain.{Plain}
 use Rattle.promises.proofs.Form.{add-tried, parted-done, tried-done, withdraw-parted}
 use Rattle.promises.proofs.InOrder.{in-order-is, in-order-put}
 use Rattle.promises.proofs.Rows.{less-test, or-test, outside-test, passed, test-off}
-use Rattle.promises.specs.Calls.{Ask, caseLine, context, file, line, listAll, member, ours, over, question, readOf, reads, written}
+use Rattle.promises.specs.Calls.{Ask, caseLine, context, file, line, listAll, member, ours, over, plainContext, plainly, question, readOf, reads, stageLines, written}
 use Rattle.promises.specs.Made.{inOrder}
 use Rattle.promises.specs.Standing.{AsTheyStand, Stands, asRead}
 use Rattle.promises.specs.Table.{ShapedRows, enlarged, handed, lessened}
@@ -24,6 +26,7 @@ use Rattle.replies.specs.declared.Reply.the-variants.{Done}
 use Rattle.rules.proofs.Dropping.{dropped-ordered}
 use Rattle.rules.proofs.Scan.{right-elim}
 use Rattle.rules.specs.Held.{saidBy}
+use Rattle.stagetext.specs.Stagetext.{stageText, stagesOf}
 use Rattle.store.proofs.Shapes.{shape-elim}
 use Rattle.store.specs.Calls.{addOf, answer, isDone, noStore, storeOf, withdrawOf}
 use Rattle.store.specs.Shape.{rightShape, top}
@@ -82,8 +85,20 @@ module _ (s : Store) (right : rightShape s ≡ true) where
   unfolding writeOf
   writing-stands out h = rw right (fits (fileOf (s .held)) out h)
 
+  plain-stands : (n E : ℕ) → ltb N n || not (inRange A E) ≡ false → plainOf s n E ≡ plainBy (saidBy (s .held)) E n
+  unfolding plainOf
+  plain-stands n E h = rw (right, h)
+
+  plain-context-stands : (E : ℕ) (out : List ℕ) → contextReply s E (length out) ≡ Done → plainAfter s E out ≡ plainBytes s E ++ drop (N + 1) out
+  unfolding plainAfter
+  plain-context-stands E out e = ap (λ (r : Reply). choose (isDone r) (plainBytes s E ++ drop (N + 1) out) out) e
+
+  stages-stand : (E : ℕ) (out : List ℕ) → not (inRange A E) ≡ false → ltb (length out) (length (stageText N (saidBy (s .held)) E)) ≡ false → stagesOf s E out ≡ wrote (stageText N (saidBy (s .held)) E) out
+  unfolding stagesOf
+  stages-stand E out h k = rw (right, h) (fits (stageText N (saidBy (s .held)) E) out k)
+
   read-stands : (a : Ask) → ShapedRows s a 0 → readOf s a ≡ asRead s a
-  unfolding contextOf
+  unfolding contextOf plainBytes
   read-stands (question n E) w =
       let p = passed _ _ _ w (λ z. omega arith) in
       ap (λ (x : Answer). reads (question n E) x s []) (question-stands n E (test-off (ltb N n || not (inRange A E)) (or-test (less-test N n) (outside-test s E)) (p .0)))
@@ -111,6 +126,20 @@ module _ (s : Store) (right : rightShape s ≡ true) where
       let p = passed _ _ _ w (λ z. omega arith) in
       let t : List ℕ = fileOf (s .held) in
       ap (λ (x : Wrote). reads (file out) (x .answer) s (x .bytes)) (writing-stands out (test-off (ltb (length out) (length t)) (less-test (length out) (length t)) (p .0)))
+
+  read-stands (plainly n E) w =
+      let p = passed _ _ _ w (λ z. omega arith) in
+      ap (λ (x : Plain). reads (plainly n E) x s []) (plain-stands n E (test-off (ltb N n || not (inRange A E)) (or-test (less-test N n) (outside-test s E)) (p .0)))
+  read-stands (plainContext E out) w =
+      let p = passed _ _ _ w (λ z. omega arith) in
+      let q = passed _ _ _ (p .1) (λ z. omega arith) in
+      let d = context-done E out (test-off (not (inRange A E)) (outside-test s E) (p .0)) (test-off (ltb (length out) (N + 1)) (less-test (length out) (N + 1)) (q .0)) in
+      ap₂ (λ (x : Reply) (b : List ℕ). reads (plainContext E out) x s b) d (plain-context-stands E out d)
+  read-stands (stageLines E out) w =
+      let p = passed _ _ _ w (λ z. omega arith) in
+      let q = passed _ _ _ (p .1) (λ z. omega arith) in
+      let t : List ℕ = stageText N (saidBy (s .held)) E in
+      ap (λ (x : Wrote). reads (stageLines E out) (x .answer) s (x .bytes)) (stages-stand E out (test-off (not (inRange A E)) (outside-test s E) (p .0)) (test-off (ltb (length out) (length t)) (less-test (length out) (length t)) (q .0)))
 
   -- ---- the justifications alone
 

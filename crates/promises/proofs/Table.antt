@@ -1,9 +1,9 @@
 -- The reply table of our calls. Assumes nothing.
 use mathlib.Core.Bool.{Bool, _||_, false, not, true}
-use mathlib.Core.List.{List, List·Memᴰ·cases-cons, List·Memᴰ as Mem, _++_, _∷_, List·Memᴰ·head as here, List·Memᴰ·tail as there}
-use mathlib.Core.Logic.{⊎-elim}
+use mathlib.Core.List.{List, List·Memᴰ·cases-cons, List·Memᴰ as Mem, [], _++_, _∷_, List·Memᴰ·head as here, List·Memᴰ·tail as there}
+use mathlib.Core.Logic.{_⊎_, inl, inr, ⊎-elim}
 use mathlib.Core.Option.{Option, none, some}
-use mathlib.Core.Path.{_≡_, refl, subst, sym}
+use mathlib.Core.Path.{_≡_, ap₂, refl, subst, sym}
 use Prim.Native.Nat.{_+_, _<_, _^_, _≤_, ℕ}
 use native.Mathlib.Omega.{arith}
 use lib.Dec.{eqb, leb, ltb}
@@ -12,21 +12,29 @@ use borrow.Author.Tests.{le-ltb, ltb-false, not-false, not-true}
 use Rattle.asking.specs.Asking.{answerNumber, contextReply, firstIn, memberAt, memberNumber, memberOf, questionOf, reasoned, standing}
 use Rattle.asking.specs.declared.Answer.the-variants.{Refused}
 use Rattle.asking.specs.declared.Found.the-variants.{Is, Not}
+use Rattle.bare.specs.Bare.{Answered, answered, askOf, barely, faultsOf, refusedAs, tellOf, toldNumber}
+use Rattle.bare.specs.declared.Query.{Query}
+use Rattle.bare.specs.declared.Told.the-variants.{Filled}
+use Rattle.bare.specs.declared.What.{What}
+use Rattle.bare.specs.declared.What.the-variants.{Context, Number as Of, Stages}
 use Rattle.casefile.specs.Load.{loadOf}
+use Rattle.handed.specs.Supplied.{suppliedBy}
 use Rattle.handed.specs.declared.Handed.{Handed}
 use Rattle.lent.specs.Lent.{Wrote, fitted, kept, writtenNumber}
 use Rattle.lent.specs.declared.Written.the-variants.{Length}
 use Rattle.lines.specs.Lines.{caseText, headingOf, lineOf, lineText, refusalText}
 use Rattle.numbers.specs.Numbers.{numberAt}
+use Rattle.plain.specs.Plainly.{plainBy, plainNumber, plainOf}
+use Rattle.plain.specs.declared.Plain.the-variants.{Inconsistent, Refused as Unsaid, Supported, Unsupported}
 use Rattle.promises.proofs.Filing.{decode-one, decode-told, load-names, load-one, load-told, reportOf}
 use Rattle.promises.proofs.Full.{VerdictSays, judge-says}
 use Rattle.promises.proofs.Rows.{Names, Tests, by-choice, exactly, fault-told, given-one, less-test, most-test, names-choice, no-row-one, not-test, or-test, outside-test, stages-name, stages-one, stages-told, unnamed}
 use Rattle.promises.proofs.Telling.{covered}
-use Rattle.promises.specs.Calls.{Ask, caseLine, context, file, line, listAll, member, numberSaid, ours, question, readOf}
+use Rattle.promises.specs.Calls.{Ask, caseLine, context, file, line, listAll, member, numberSaid, ours, plainContext, plainly, question, readOf, stageLines}
 use Rattle.promises.specs.Once.{One}
 use Rattle.promises.specs.Room.{LabelFull}
 use Rattle.promises.specs.Rows.{given, noRow}
-use Rattle.promises.specs.Table.{AddRows, AllRows, AskRows, DecodeRows, JudgeRows, LoadRows, OpenRows, PrintRows, RefusalRows, ReplyTable, ShapedRows, StageRows, WithdrawRows, enlarged, handed, lessened, reported}
+use Rattle.promises.specs.Table.{AddRows, AllRows, AskRows, AskedOver, BareRows, DecodeRows, ItemRows, JudgeRows, LoadRows, OpenRows, PrintRows, RefusalRows, ReplyTable, ShapedRows, StageRows, TooFew, WithdrawRows, enlarged, handed, lessened, reported}
 use Rattle.replies.proofs.Laws.{no-ten}
 use Rattle.replies.specs.Replies.{numberOf}
 use Rattle.replies.specs.declared.Reply.{Reply}
@@ -40,6 +48,7 @@ use Rattle.rules.specs.Items.{faultOf, sameJustification}
 use Rattle.rules.specs.declared.Held.{Held}
 use Rattle.season.specs.Season.{addAllOf, addedAll}
 use Rattle.stages.specs.declared.Lists.{Lists}
+use Rattle.stagetext.specs.Stagetext.{stageText, stagesOf}
 use Rattle.store.proofs.Shapes.{fits-elim, shape-elim}
 use Rattle.store.specs.Calls.{addOf, answer, isDone, joinedBy, judgedOf, noStore, openOf, partedFrom, startStore, storeOf, withdrawOf}
 use Rattle.store.specs.Reading.{labelHeld, listHeld, nogoodsHeld}
@@ -48,6 +57,7 @@ use Rattle.store.specs.declared.Outcome.{Outcome}
 use Rattle.store.specs.declared.Store.{Store}
 use Rattle.theory.proofs.Lists.{clash}
 use Rattle.theory.proofs.Judgement.{same-judge}
+use Rattle.theory.specs.Demands.{carries, contradicts}
 use Rattle.theory.specs.Judge.{Verdict, judge, limits}
 use Rattle.theory.specs.Lists.{choose, someOf}
 use Rattle.theory.specs.Sets.{inRange}
@@ -275,9 +285,19 @@ standing-zero l n E = go (firstIn (nogoodsHeld l) E) (firstIn (labelHeld l n) E)
     go none (some F) = refl
     go none none = refl
 
+pub plain-zero : (J : List Justification) (E n : ℕ) → plainNumber (plainBy J E n) ≡ 0
+unfolding plainBy
+plain-zero J E n = go (contradicts J E) (carries J E n)
+  where
+    go : (b c : Bool) → plainNumber (choose b Inconsistent (choose c Supported Unsupported)) ≡ 0
+    go true c = refl
+    go false true = refl
+    go false false = refl
+
 module _ (s : Store) where
   read-told : (a : Ask) → AskRows s a (numberSaid a (readOf s a .said))
   unfolding questionOf contextReply memberOf memberAt lineOf headingOf listedOf writeOf
+  unfolding questionOf contextReply memberOf memberAt lineOf headingOf listedOf plainOf stagesOf
   read-told (question n E) =
       let out : Bool = ltb (top (s .held)) n || not (inRange (s .held .assumptions) E) in
       by-choice _ answerNumber (not (rightShape s)) (Refused Shape) (choose out (Refused Number) (standing (s .lists) n E)) (not-test (rightShape s)) refl
@@ -299,6 +319,19 @@ module _ (s : Store) where
   read-told (listAll out) = by-choice _ wrote (not (rightShape s)) (kept Shape out) (fitted (listingText s) out) (not-test (rightShape s)) refl (λ p. fitted-told (listingText s) out)
   read-told (file out) = by-choice _ wrote (not (rightShape s)) (kept Shape out) (fitted (fileOf (s .held)) out) (not-test (rightShape s)) refl (λ p. fitted-told (fileOf (s .held)) out)
 
+  read-told (plainly n E) =
+      let out : Bool = ltb (top (s .held)) n || not (inRange (s .held .assumptions) E) in
+      by-choice _ plainNumber (not (rightShape s)) (Unsaid Shape) (choose out (Unsaid Number) (plainBy (saidBy (s .held)) E n)) (not-test (rightShape s)) refl
+      (λ p. by-choice noRow plainNumber out (Unsaid Number) (plainBy (saidBy (s .held)) E n) (or-test (less-test (top (s .held)) n) (outside-test s E)) refl (λ q. plain-zero (saidBy (s .held)) E n))
+  read-told (plainContext E out) =
+      by-choice _ numberOf (not (rightShape s)) Shape (choose (not (inRange (s .held .assumptions) E)) Number (choose (ltb (length out) (top (s .held) + 1)) Short Done)) (not-test (rightShape s)) refl
+      (λ p. by-choice _ numberOf (not (inRange (s .held .assumptions) E)) Number (choose (ltb (length out) (top (s .held) + 1)) Short Done) (outside-test s E) refl
+      (λ q. by-choice noRow numberOf (ltb (length out) (top (s .held) + 1)) Short Done (less-test (length out) (top (s .held) + 1)) refl (λ z. refl)))
+  read-told (stageLines E out) =
+      let w : Wrote = fitted (stageText (top (s .held)) (saidBy (s .held)) E) out in
+      by-choice _ wrote (not (rightShape s)) (kept Shape out) (choose (not (inRange (s .held .assumptions) E)) (kept Number out) w) (not-test (rightShape s)) refl
+      (λ p. by-choice _ wrote (not (inRange (s .held .assumptions) E)) (kept Number out) w (outside-test s E) refl (λ q. fitted-told (stageText (top (s .held)) (saidBy (s .held)) E) out))
+
   shaped-one : (a : Ask) → One (ShapedRows s a)
   shaped-one (question n E) = given-one _ _ _ no-row-one
   shaped-one (context E out) = given-one _ _ _ (given-one _ _ _ no-row-one)
@@ -307,6 +340,73 @@ module _ (s : Store) where
   shaped-one (caseLine out) = given-one _ _ _ no-row-one
   shaped-one (listAll out) = given-one _ _ _ no-row-one
   shaped-one (file out) = given-one _ _ _ no-row-one
+  shaped-one (plainly n E) = given-one _ _ _ no-row-one
+  shaped-one (plainContext E out) = given-one _ _ _ (given-one _ _ _ no-row-one)
+  shaped-one (stageLines E out) = given-one _ _ _ (given-one _ _ _ no-row-one)
+
+-- ---- a bare list
+
+refused-number : (w : What) (r : Reply) → toldNumber (refusedAs w r) ≡ numberOf r
+refused-number (Of n) r = refl
+refused-number Context r = refl
+refused-number Stages r = refl
+
+module _ (N : ℕ) (g : Reply → ℕ) (e₆ : g Supports ≡ 6) (e₄ : g Number ≡ 4) (e₅ : g Falsity ≡ 5) (e₁₇ : g Itself ≡ 17) (next : ℕ → Type 0) where
+  items-told : (l : List Handed) → (faultsOf N l ≡ Done → next (g Done)) → ItemRows N l next (g (faultsOf N l))
+  unfolding ItemRows faultsOf
+  items-told [] k = k refl
+  items-told (h ∷ l) k =
+      fault-told N (h .consequent) (suppliedBy h) (λ x. g (choose (isDone x) (faultsOf N l) x)) (ItemRows N l next) 4 5 17 e₄ e₅ e₁₇
+      (λ d. items-told l (λ r. k (ap₂ (λ (x y : Reply). choose (isDone x) y x) d r))) 6 e₆
+
+items-one : (N : ℕ) (next : ℕ → Type 0) → One next → (l : List Handed) → One (ItemRows N l next)
+unfolding ItemRows
+items-one N next o [] = o
+items-one N next o (h ∷ l) = given-one _ _ _ (given-one _ _ _ (given-one _ _ _ (given-one _ _ _ (items-one N next o l))))
+
+module _ (q : Query) (l : List Handed) (out : List ℕ) where
+  abbrev Q : ℕ
+  Q = q .assumptions + q .claims
+
+  abbrev answeredBy : Answered → ℕ
+  answeredBy x = toldNumber (x .answer)
+
+  abbrev refusal-of : Reply → Answered
+  refusal-of r = answered (refusedAs (q .what) r) out
+
+  set-test : Tests (not (inRange (q .assumptions) (q .set))) (2 ^ (q .assumptions) ≤ q .set)
+  unfolding inRange
+  set-test =
+      let w : ℕ = 2 ^ (q .assumptions) in
+      record { so = λ h. ltb-false (q .set) w (not-true (ltb (q .set) w) h); not-so = λ h p. clash (not-false (ltb (q .set) w) h) (le-ltb (q .set) w p) }
+
+  abbrev LastRows : What → ℕ → Type 0
+  LastRows w = given (AskedOver Q w ⊎ (2 ^ (q .assumptions) ≤ q .set)) 4 (given (TooFew Q (barely Q l) (q .set) w out) 15 noRow)
+
+  last-told : (w : What) (b : Bool) → Tests b (2 ^ (q .assumptions) ≤ q .set) → LastRows w (answeredBy (choose b (answered (refusedAs w Number) out) (tellOf Q (barely Q l) (q .set) w out)))
+  unfolding given
+  last-told w true t = inl (inr (t .so refl), refused-number w Number)
+  last-told (Of n) false t = go (ltb Q n) (less-test Q n)
+    where
+      go : (o : Bool) → Tests o (Q < n) → LastRows (Of n) (plainNumber (choose o (Unsaid Number) (plainBy (barely Q l) (q .set) n)))
+      go true u = inl (inl (u .so refl), refl)
+      go false u = inr (⊎-elim (u .not-so refl) (t .not-so refl), inr (λ z. z, plain-zero (barely Q l) (q .set) n))
+  last-told Context false t =
+      inr (⊎-elim (λ z. z) (t .not-so refl), by-choice noRow answeredBy (ltb (length out) (Q + 1)) (answered (Filled Short) out) _ (less-test (length out) (Q + 1)) refl (λ z. refl))
+  last-told Stages false t = inr (⊎-elim (λ z. z) (t .not-so refl), fitted-told (stageText Q (barely Q l) (q .set)) out)
+
+  abbrev afterItems : Reply → Answered
+  afterItems r = choose (not (isDone r)) (refusal-of r) (choose (not (inRange (q .assumptions) (q .set))) (refusal-of Number) (tellOf Q (barely Q l) (q .set) (q .what) out))
+
+  bare-told : BareRows q l out (answeredBy (askOf q l out))
+  unfolding askOf
+  bare-told =
+      by-choice _ answeredBy (ltb 32 (q .assumptions) || ltb 96 (q .claims)) (refusal-of Counts) (afterItems (faultsOf Q l)) (or-test (less-test 32 (q .assumptions)) (less-test 96 (q .claims))) (refused-number (q .what) Counts)
+      (λ p. items-told Q (λ r. answeredBy (afterItems r)) (refused-number (q .what) Supports) (refused-number (q .what) Number) (refused-number (q .what) Falsity) (refused-number (q .what) Itself) (LastRows (q .what)) l
+      (λ d. last-told (q .what) (not (inRange (q .assumptions) (q .set))) set-test))
+
+  bare-one : One (BareRows q l out)
+  bare-one = given-one _ _ _ (items-one Q (LastRows (q .what)) (given-one _ _ _ (given-one _ _ _ no-row-one)) l)
 
 -- ---- all of it
 
@@ -322,6 +422,7 @@ reply-table = record {
   shape = λ s. refl;
   refusal = λ r k out. exactly (RefusalRows r k out) (wrote (fitted (refusalText r k) out)) (given-one _ _ _ no-row-one) (fitted-told (refusalText r k) out);
   printing = λ bytes out. exactly (PrintRows bytes out) (wrote (fitted (listingOf bytes) out)) (given-one _ _ _ no-row-one) (fitted-told (listingOf bytes) out);
+  bare = λ q l out. exactly (BareRows q l out) (toldNumber (askOf q l out .answer)) (bare-one q l out) (bare-told q l out);
   decoding = λ bytes at. exactly (DecodeRows bytes at) (reported (numberAt bytes at)) (decode-one bytes at) (decode-told bytes at);
   onward = decode-onward;
   adding-names = add-names;

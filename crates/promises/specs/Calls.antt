@@ -6,6 +6,8 @@ use lib.ListN.{drop, length}
 use Rattle.asking.specs.Asking.{Left, answerNumber, contextBytes, contextReply, left, memberNumber, memberOf, questionOf}
 use Rattle.asking.specs.declared.Answer.{Answer}
 use Rattle.asking.specs.declared.Found.{Found}
+use Rattle.bare.specs.Bare.{Answered, askOf}
+use Rattle.bare.specs.declared.Query.{Query}
 use Rattle.casefile.specs.Load.{loadOf}
 use Rattle.casefile.specs.declared.Loaded.{Loaded}
 use Rattle.handed.specs.declared.Handed.{Handed}
@@ -15,10 +17,13 @@ use Rattle.lent.specs.declared.Written.the-variants.{Length}
 use Rattle.lines.specs.Lines.{headingOf, lineOf, refusalText}
 use Rattle.numbers.specs.Numbers.{numberAt}
 use Rattle.numbers.specs.declared.Number.{Number}
+use Rattle.plain.specs.Plainly.{plainAfter, plainNumber, plainOf}
+use Rattle.plain.specs.declared.Plain.{Plain}
 use Rattle.replies.specs.Replies.{numberOf}
 use Rattle.replies.specs.declared.Reply.{Reply}
 use Rattle.rules.specs.declared.Held.{Held}
 use Rattle.season.specs.Season.{addAllOf, bytesAfter}
+use Rattle.stagetext.specs.Stagetext.{stagesOf}
 use Rattle.store.specs.Calls.{addOf, judgedOf, openOf, withdrawOf}
 use Rattle.store.specs.Shape.{rightShape}
 use Rattle.store.specs.declared.Outcome.{Outcome}
@@ -43,6 +48,10 @@ pub data Ask : Type 0 where
   listAll : List ℕ → Ask
   -- the case file, into lent bytes
   file : List ℕ → Ask
+  -- without labels: of a number and a set; of a set, into lent bytes; the lines of the stages of a set, into lent bytes
+  plainly : ℕ → ℕ → Ask
+  plainContext : ℕ → List ℕ → Ask
+  stageLines : ℕ → List ℕ → Ask
 
 -- what is said to each
 abbrev pub Said : Ask → Type 0
@@ -53,6 +62,9 @@ Said (line n out) = Written
 Said (caseLine out) = Written
 Said (listAll out) = Written
 Said (file out) = Written
+Said (plainly n E) = Plain
+Said (plainContext E out) = Reply
+Said (stageLines E out) = Written
 
 -- the document's number of it
 abbrev pub numberSaid : (a : Ask) → Said a → ℕ
@@ -63,6 +75,9 @@ numberSaid (line n out) x = writtenNumber x
 numberSaid (caseLine out) x = writtenNumber x
 numberSaid (listAll out) x = writtenNumber x
 numberSaid (file out) x = writtenNumber x
+numberSaid (plainly n E) x = plainNumber x
+numberSaid (plainContext E out) x = numberOf x
+numberSaid (stageLines E out) x = writtenNumber x
 
 -- the bytes lent to the call; none where it takes none
 abbrev pub lentTo : Ask → List ℕ
@@ -73,6 +88,9 @@ lentTo (line n out) = out
 lentTo (caseLine out) = out
 lentTo (listAll out) = out
 lentTo (file out) = out
+lentTo (plainly n E) = []
+lentTo (plainContext E out) = out
+lentTo (stageLines E out) = out
 
 -- what a call that reads leaves: what it says, the store, and the lent bytes
 pub record Read (a : Ask) : Type 0 where
@@ -111,6 +129,8 @@ pub record Calls : Type 0 where
   pub printing : List ℕ → List ℕ → Wrote
   -- the number at a place of the bytes of a file
   pub decoding : List ℕ → ℕ → Number
+  -- what is asked of a bare list of justifications, with lent bytes; no store is in it
+  pub bare : Query → List Handed → List ℕ → Answered
 
 -- what the contracts of the product's calls that read say
 abbrev pub readOf : Store → (a : Ask) → Read a
@@ -121,6 +141,9 @@ readOf s (line n out) = reads (line n out) (lineOf s n out .answer) s (lineOf s 
 readOf s (caseLine out) = reads (caseLine out) (headingOf s out .answer) s (headingOf s out .bytes)
 readOf s (listAll out) = reads (listAll out) (listedOf s out .answer) s (listedOf s out .bytes)
 readOf s (file out) = reads (file out) (writeOf s out .answer) s (writeOf s out .bytes)
+readOf s (plainly n E) = reads (plainly n E) (plainOf s n E) s []
+readOf s (plainContext E out) = reads (plainContext E out) (contextReply s E (length out)) s (plainAfter s E out)
+readOf s (stageLines E out) = reads (stageLines E out) (stagesOf s E out .answer) s (stagesOf s E out .bytes)
 
 -- ours: what the contracts of the product's calls say of every answer (`Coded`)
 abbrev pub ours : Calls
@@ -136,4 +159,5 @@ ours = record {
   refusal = λ r k out. fitted (refusalText r k) out;
   printing = λ bytes out. fitted (listingOf bytes) out;
   decoding = numberAt;
+  bare = askOf;
 }

@@ -15,6 +15,9 @@ use Rattle.asking.proofs.question.Symbol as question-code
 use Rattle.asking.specs.Asking.{Left, left}
 use Rattle.asking.specs.declared.Asked.{Asked}
 use Rattle.asking.specs.declared.Shown.{Shown}
+use Rattle.bare.proofs.ask as bare-at
+use Rattle.bare.proofs.ask.Symbol as bare-code
+use Rattle.bare.specs.Bare.{answered}
 use Rattle.casefile.proofs.load as load-at
 use Rattle.casefile.proofs.load.Reads as load-reads
 use Rattle.casefile.proofs.load.Symbol as load-code
@@ -39,10 +42,20 @@ use Rattle.lent.specs.declared.Written.{Written}
 use Rattle.numbers.proofs.read as read-at
 use Rattle.numbers.proofs.read.Reads as read-reads
 use Rattle.numbers.proofs.read.Symbol as read-code
-use Rattle.promises.specs.Calls.{Calls, Read, caseLine, context, file, line, listAll, member, question}
+use Rattle.plain.proofs.context as plain-context-at
+use Rattle.plain.proofs.context.Reads as plain-context-reads
+use Rattle.plain.proofs.context.Symbol as plain-context-code
+use Rattle.plain.proofs.question as plainly-at
+use Rattle.plain.proofs.question.Reads as plainly-reads
+use Rattle.plain.proofs.question.Symbol as plainly-code
+use Rattle.plain.specs.declared.Told.{Told}
+use Rattle.promises.specs.Calls.{Calls, Read, caseLine, context, file, line, listAll, member, plainContext, plainly, question, stageLines}
 use Rattle.promises.specs.Keeps.{Claim, Tied, Walked}
 use Rattle.season.proofs.add_all as add-all-at
 use Rattle.season.proofs.add_all.Symbol as add-all-code
+use Rattle.stagetext.proofs.lines as stage-lines-at
+use Rattle.stagetext.proofs.lines.Reads as stage-lines-reads
+use Rattle.stagetext.proofs.lines.Symbol as stage-lines-code
 use Rattle.store.proofs.Store.add as add-at
 use Rattle.store.proofs.Store.add.Reads as add-reads
 use Rattle.store.proofs.Store.add.Symbol as add-code
@@ -86,6 +99,15 @@ listedBy x = record { answer = x .said; store = x .store }
 abbrev pub filed : {out : List ℕ} → Read (file out) → Listed
 filed x = record { answer = x .said; store = x .store }
 
+abbrev pub told : {n E : ℕ} → Read (plainly n E) → Told
+told x = record { answer = x .said; store = x .store }
+
+abbrev pub plainContexted : {E : ℕ} {out : List ℕ} → Read (plainContext E out) → Left
+plainContexted x = left (answer (x .said) (x .store)) (x .bytes)
+
+abbrev pub staged : {E : ℕ} {out : List ℕ} → Read (stageLines E out) → Listed
+staged x = record { answer = x .said; store = x .store }
+
 abbrev pub wrote : Written → List ℕ → Wrote
 wrote r b = record { answer = r; bytes = b }
 
@@ -94,6 +116,10 @@ abbrev pub allAdded : Calls → Claim add-all-at.ended
 allAdded C κs a r e =
     (r ≡ C .addingAll (a .0) (now (a .1 .0)) (now (a .1 .1 .0)) .outcome)
     × (now (e .1 .1 .0) ≡ C .addingAll (a .0) (now (a .1 .0)) (now (a .1 .1 .0)) .bytes)
+
+-- what `ask` of a bare list ensures
+abbrev pub bareAsked : Calls → Claim bare-at.ended
+bareAsked C κs a r e = answered r (now (e .1 .1 .0)) ≡ C .bare (a .0) (now (a .1 .0)) (now (a .1 .1 .0))
 
 -- ---- the functions: a the arguments, r the result, e the parameters at exit
 
@@ -131,3 +157,10 @@ pub record Coded (C : Calls) : Type 2 where
       (λ κs a r e. wrote r (now (e .1 .1 .0)) ≡ C .refusal (a .0) (a .1 .0) (now (a .1 .1 .0)))
   pub decoding : Tied read-at.ended read-code.routine read-reads.Asked read-reads.Learnt
       (λ κs a r e. r ≡ C .decoding (now (a .0)) (a .1 .0))
+  pub plainly : Tied plainly-at.ended plainly-code.routine plainly-reads.Asked plainly-reads.Learnt
+      (λ κs a r e. r ≡ told (C .reading (a .0) (plainly (a .1 .0) (a .1 .1 .0))))
+  pub plainContext : Tied plain-context-at.ended plain-context-code.routine plain-context-reads.Asked plain-context-reads.Learnt
+      (λ κs a r e. left r (now (e .1 .1 .0)) ≡ plainContexted (C .reading (a .0) (plainContext (a .1 .0) (now (a .1 .1 .0)))))
+  pub stageLines : Tied stage-lines-at.ended stage-lines-code.routine stage-lines-reads.Asked stage-lines-reads.Learnt
+      (λ κs a r e. (r ≡ staged (C .reading (a .0) (stageLines (a .1 .0) (now (a .1 .1 .0))))) × (now (e .1 .1 .0) ≡ C .reading (a .0) (stageLines (a .1 .0) (now (a .1 .1 .0))) .bytes))
+  pub bare : Walked bare-at.ended bare-code.routine (λ M. bare-at.clauses) (bareAsked C)

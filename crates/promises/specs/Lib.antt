@@ -16,4 +16,5 @@ pub mod Shaped
 pub mod Meaning
 pub mod Words
 pub mod Files
+pub mod Plain
 pub mod Promises

@@ -123,7 +123,34 @@ use Rattle.lent.proofs.fit.Reads as fit-reads
 use Rattle.writing.proofs.write as write-at
 use Rattle.writing.proofs.write.Reads as write-reads
 use Rattle.promises.specs.Calls.{ours}
-use Rattle.promises.specs.Coded.{allAdded}
+use Rattle.following.proofs.stages as following-stages-at
+use Rattle.following.proofs.stages.Reads as following-stages-reads
+use Rattle.following.proofs.mark as following-mark-at
+use Rattle.following.proofs.mark.Reads as following-mark-reads
+use Rattle.plain.proofs.sown as sown-at
+use Rattle.plain.proofs.sown.Reads as sown-reads
+use Rattle.plain.proofs.chased as chased-at
+use Rattle.plain.proofs.chased.Reads as chased-reads
+use Rattle.plain.proofs.read as plain-read-at
+use Rattle.plain.proofs.read.Reads as plain-read-reads
+use Rattle.plain.proofs.fill as plain-fill-at
+use Rattle.plain.proofs.fill.Reads as plain-fill-reads
+use Rattle.plain.proofs.question as plainly-at
+use Rattle.plain.proofs.question.Reads as plainly-reads
+use Rattle.plain.proofs.context as plain-context-at
+use Rattle.plain.proofs.context.Reads as plain-context-reads
+use Rattle.stagetext.proofs.put as put-at
+use Rattle.stagetext.proofs.put.Reads as put-reads
+use Rattle.stagetext.proofs.lines as stage-lines-at
+use Rattle.stagetext.proofs.lines.Reads as stage-lines-reads
+use Rattle.text.proofs.number as digits-at
+use Rattle.text.proofs.number.Reads as digits-reads
+use Rattle.text.proofs.field as spaced-at
+use Rattle.text.proofs.field.Reads as spaced-reads
+use Rattle.bare.proofs.ask_some as ask-some-at
+use Rattle.bare.proofs.ask_some.Reads as ask-some-reads
+use Rattle.bare.proofs.ask as bare-at
+use Rattle.promises.specs.Coded.{allAdded, bareAsked}
 use Rattle.promises.specs.Keeps.{Claim}
 
 -- what is said of a result holds of one at most
@@ -195,3 +222,17 @@ pub record OnceEach : Type 0 where
   pub has-zero-one : Once has-zero-at.ended has-zero-reads.Learnt
   pub has-above-one : Once has-above-at.ended has-above-reads.Learnt
   pub set-of-one : Once set-of-at.ended set-of-reads.Learnt
+  pub following-stages-one : Once following-stages-at.ended following-stages-reads.Learnt
+  pub following-mark-one : Once following-mark-at.ended following-mark-reads.Learnt
+  pub sown-one : Once sown-at.ended sown-reads.Learnt
+  pub chased-one : Once chased-at.ended chased-reads.Learnt
+  pub plain-read-one : Once plain-read-at.ended plain-read-reads.Learnt
+  pub plain-fill-one : Once plain-fill-at.ended plain-fill-reads.Learnt
+  pub plainly-one : Once plainly-at.ended plainly-reads.Learnt
+  pub plain-context-one : Once plain-context-at.ended plain-context-reads.Learnt
+  pub put-one : Once put-at.ended put-reads.Learnt
+  pub stage-lines-one : Once stage-lines-at.ended stage-lines-reads.Learnt
+  pub digits-one : Once digits-at.ended digits-reads.Learnt
+  pub spaced-one : Once spaced-at.ended spaced-reads.Learnt
+  pub ask-some-one : Once ask-some-at.ended ask-some-reads.Learnt
+  pub bare-one : Once bare-at.ended (bareAsked ours)

@@ -6,6 +6,7 @@ use Rattle.promises.specs.Demand3.{Demand3}
 use Rattle.promises.specs.Files.{Files}
 use Rattle.promises.specs.Made.{Stores}
 use Rattle.promises.specs.Meaning.{Meaning}
+use Rattle.promises.specs.Plain.{PlainPath}
 use Rattle.promises.specs.Season.{OneByOne}
 use Rattle.promises.specs.Shortest.{NothingShorter}
 use Rattle.promises.specs.Standing.{AsTheyStand}
@@ -22,3 +23,4 @@ pub record Promises (C : Calls) : Type 2 where
   pub shortest : NothingShorter C
   pub season : OneByOne C
   pub files : Files C
+  pub plain : PlainPath C

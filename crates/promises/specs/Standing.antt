@@ -6,11 +6,14 @@ use Prim.Native.Nat.{_+_, _≤_, ℕ}
 use lib.ListN.{drop, length}
 use Rattle.asking.specs.Asking.{byteOf, memberAt, standing}
 use Rattle.lines.specs.Lines.{caseText, lineText, refusalText}
-use Rattle.promises.specs.Calls.{Ask, Calls, Read, caseLine, context, file, line, listAll, member, over, question, reads, written}
+use Rattle.plain.specs.Plainly.{byteOf as plainByte, plainBy}
+use Rattle.promises.specs.Calls.{Ask, Calls, Read, caseLine, context, file, line, listAll, member, over, plainContext, plainly, question, reads, stageLines, written}
 use Rattle.promises.specs.Made.{inOrder}
 use Rattle.promises.specs.Table.{ShapedRows, enlarged, lessened}
 use Rattle.replies.specs.declared.Reply.{Reply}
 use Rattle.replies.specs.declared.Reply.the-variants.{Done}
+use Rattle.rules.specs.Held.{saidBy}
+use Rattle.stagetext.specs.Stagetext.{stageText}
 use Rattle.store.specs.Calls.{answer, noStore, storeOf}
 use Rattle.store.specs.Reading.{contradictedIn}
 use Rattle.store.specs.Shape.{rightShape, top}
@@ -28,9 +31,13 @@ asRead s (line n out) = reads (line n out) (written (lineText s n)) s (over (lin
 asRead s (caseLine out) = reads (caseLine out) (written (caseText s)) s (over (caseText s) out)
 asRead s (listAll out) = reads (listAll out) (written (listingText s)) s (over (listingText s) out)
 asRead s (file out) = reads (file out) (written (fileOf (s .held))) s (over (fileOf (s .held)) out)
+-- the plain path reads no list
+asRead s (plainly n E) = reads (plainly n E) (plainBy (saidBy (s .held)) E n) s []
+asRead s (plainContext E out) = reads (plainContext E out) Done s (table (top (s .held) + 1) (λ n. plainByte (plainBy (saidBy (s .held)) E n)) ++ drop (top (s .held) + 1) out)
+asRead s (stageLines E out) = reads (stageLines E out) (written (stageText (top (s .held)) (saidBy (s .held)) E)) s (over (stageText (top (s .held)) (saidBy (s .held)) E) out)
 
 pub record Stands (C : Calls) (s : Store) : Type 0 where
-  -- what the reply table does not refuse reads the lists as they stand, the file what is held
+  -- what the reply table does not refuse reads the lists as they stand, the file and the plain path what is held
   pub reading : (a : Ask) → ShapedRows s a 0 → C .reading s a ≡ asRead s a
   -- adding works from the justifications alone: answered 0, the store of those held with this one, judged anew; the lists of s do not come into it
   pub adding : (c : ℕ) (l : List ℕ) (t : Store) → C .adding s c l ≡ answer Done t → storeOf noStore (s .held .assumptions) (s .held .claims) (inOrder (enlarged s c l)) ≡ answer Done t

@@ -6,13 +6,18 @@ use mathlib.Core.Option.{some}
 use mathlib.Core.Path.{_≡_}
 use Prim.Native.Nat.{_*_, _+_, _-_, _<_, _^_, _≤_, suc, zero, ℕ}
 use lib.ListN.{drop, length}
+use Rattle.bare.specs.Bare.{barely, toldNumber}
+use Rattle.bare.specs.declared.Query.{Query}
+use Rattle.bare.specs.declared.What.{What}
+use Rattle.bare.specs.declared.What.the-variants.{Context, Number as Of, Stages}
 use Rattle.casefile.specs.Case.{Case, Reading, caseOf, refused, whole}
+use Rattle.handed.specs.Supplied.{suppliedBy}
 use Rattle.handed.specs.declared.Handed.{Handed}
 use Rattle.lent.specs.Lent.{writtenNumber}
 use Rattle.lines.specs.Lines.{caseText, lineText, refusalText}
 use Rattle.numbers.specs.declared.Number.{Number}
 use Rattle.numbers.specs.declared.Number.the-variants.{Bad, Value}
-use Rattle.promises.specs.Calls.{Ask, Calls, caseLine, context, file, line, listAll, member, numberSaid, question}
+use Rattle.promises.specs.Calls.{Ask, Calls, caseLine, context, file, line, listAll, member, numberSaid, plainContext, plainly, question, stageLines}
 use Rattle.promises.specs.Made.{putIn}
 use Rattle.promises.specs.Room.{Above, LabelFull, NogoodsFull}
 use Rattle.promises.specs.Rows.{given, noRow}
@@ -21,6 +26,7 @@ use Rattle.replies.specs.declared.Reply.{Reply}
 use Rattle.rules.specs.Held.{dropped, saidBy}
 use Rattle.rules.specs.Items.{justificationOf}
 use Rattle.rules.specs.declared.Held.{Held}
+use Rattle.stagetext.specs.Stagetext.{stageText}
 use Rattle.store.specs.Reading.{listHeld}
 use Rattle.store.specs.Shape.{heldFits, rightShape, top}
 use Rattle.store.specs.declared.Store.{Store}
@@ -109,9 +115,46 @@ ShapedRows s (line n out) = given (top (s .held) < n) 4 (given (length out < len
 ShapedRows s (caseLine out) = given (length out < length (caseText s)) 15 noRow
 ShapedRows s (listAll out) = given (length out < length (listingText s)) 15 noRow
 ShapedRows s (file out) = given (length out < length (fileOf (s .held))) 15 noRow
+-- as the calls that they mirror; the lines as context
+ShapedRows s (plainly n E) = given ((top (s .held) < n) ⊎ Outside s E) 4 noRow
+ShapedRows s (plainContext E out) = given (Outside s E) 4 (given (length out < top (s .held) + 1) 15 noRow)
+ShapedRows s (stageLines E out) = given (Outside s E) 4 (given (length out < length (stageText (top (s .held)) (saidBy (s .held)) E)) 15 noRow)
 
 abbrev pub AskRows : Store → Ask → ℕ → Type 0
 AskRows s a = given (rightShape s ≡ false) 2 (ShapedRows s a)
+
+-- ---- a bare list
+
+-- each item in order by 6, 4, 5, 17
+unfoldable pub ItemRows : ℕ → List Handed → (ℕ → Type 0) → ℕ → Type 0
+ItemRows N [] next = next
+ItemRows N (h ∷ l) next =
+    given (4 < length (suppliedBy h)) 6
+    (given (Above N (h .consequent) (suppliedBy h)) 4
+    (given (Mem 0 (suppliedBy h)) 5
+    (given (Mem (h .consequent) (suppliedBy h)) 17
+    (ItemRows N l next))))
+
+-- the number asked is above N
+abbrev pub AskedOver : ℕ → What → Type 0
+AskedOver N (Of n) = N < n
+AskedOver N Context = ⊥
+AskedOver N Stages = ⊥
+
+-- fewer lent bytes than what is asked needs
+abbrev pub TooFew : ℕ → List Justification → ℕ → What → List ℕ → Type 0
+TooFew N J E (Of n) out = ⊥
+TooFew N J E Context out = length out < N + 1
+TooFew N J E Stages out = length out < length (stageText N J E)
+
+-- 3, then each item in order, then 4 for the number or set asked, then 15
+abbrev pub BareRows : Query → List Handed → List ℕ → ℕ → Type 0
+BareRows q l out =
+    let N : ℕ = q .assumptions + q .claims in
+    given (OverCounts (q .assumptions) (q .claims)) 3
+    (ItemRows N l
+    (given (AskedOver N (q .what) ⊎ (2 ^ (q .assumptions) ≤ q .set)) 4
+    (given (TooFew N (barely N l) (q .set) (q .what) out) 15 noRow)))
 
 -- ---- the line of a refusal
 
@@ -201,6 +244,7 @@ pub record ReplyTable (C : Calls) : Type 0 where
   pub shape : (s : Store) → C .shape s ≡ rightShape s
   pub refusal : (r : Reply) (k : ℕ) (out : List ℕ) (a : ℕ) → (writtenNumber (C .refusal r k out .answer) ≡ a) ↔ RefusalRows r k out a
   pub printing : (bytes out : List ℕ) (a : ℕ) → (writtenNumber (C .printing bytes out .answer) ≡ a) ↔ PrintRows bytes out a
+  pub bare : (q : Query) (l : List Handed) (out : List ℕ) (a : ℕ) → (toldNumber (C .bare q l out .answer) ≡ a) ↔ BareRows q l out a
   pub decoding : (bytes : List ℕ) (at : ℕ) (a : Reported) → (reported (C .decoding bytes at) ≡ a) ↔ DecodeRows bytes at a
   pub onward : (bytes : List ℕ) (at n next : ℕ) → C .decoding bytes at ≡ Value n next → Onward at n next
   -- 8 names the lowest such claim or assumption; no other reply names one

@@ -1,9 +1,10 @@
 -- A question that works the lists out anew from the justifications is right of every made store, and refuses as ours does: the demands over made stores do not tell it from ours. Assumes nothing.
 use mathlib.Core.Bool.{Bool, false, true}
 use mathlib.Core.List.{List}
-use mathlib.Core.Logic.{_↔_, ⊎-elim}
-use mathlib.Core.Path.{_∙_, _≡_, ap, ap₂, refl, sym}
+use mathlib.Core.Logic.{_↔_, inl, inr, ⊎-elim}
+use mathlib.Core.Path.{_∙_, _≡_, ap, ap₂, refl, subst, sym}
 use Prim.Native.Nat.{_+_, _<_, _^_, _≤_, ℕ}
+use native.Mathlib.Omega.{arith}
 use lib.Dec.{eqb, ltb}
 use borrow.Author.Tests.{eqb-true, ltb-false, ltb-true}
 use Rattle.asking.specs.Asking.{answerNumber, questionOf, standing}
@@ -11,8 +12,10 @@ use Rattle.asking.specs.declared.Answer.{Answer}
 use Rattle.promises.proofs.Answers.{question-by}
 use Rattle.promises.proofs.Form.{Form, form-a, form-m, form-said, made-form, made-holds}
 use Rattle.promises.proofs.Keeping.{read-store}
+use Rattle.promises.proofs.Plain.{plain-path}
 use Rattle.promises.proofs.Refusals.{refusals}
 use Rattle.promises.proofs.Right.{made-no-own, made-right, own-shape}
+use Rattle.promises.proofs.Rows.{passed}
 use Rattle.promises.proofs.Sameness.{demand-3, one-store}
 use Rattle.promises.proofs.Season.{one-by-one}
 use Rattle.promises.proofs.Table.{reply-table, standing-zero}
@@ -22,6 +25,7 @@ use Rattle.promises.specs.Demand1.{Refusals}
 use Rattle.promises.specs.Demand2.{Demand2, QuestionSays, Tells}
 use Rattle.promises.specs.Demand3.{Demand3}
 use Rattle.promises.specs.Made.{Made, Stores, added, asked, judged, kept, listed, loaded, opened, refused, unlisted, withdrawn}
+use Rattle.promises.specs.Plain.{PlainPath, wordAlone}
 use Rattle.promises.specs.Season.{OneByOne}
 use Rattle.promises.specs.Table.{AskRows, ReplyTable}
 use Rattle.refuted.proofs.Exchange.{by-question}
@@ -29,6 +33,7 @@ use Rattle.refuted.specs.Wrong.{deducing, workedOut}
 use Rattle.rules.specs.Held.{saidBy}
 use Rattle.stages.specs.declared.Lists.{Lists}
 use Rattle.store.specs.Calls.{isDone, noStore, storeOf}
+use Rattle.store.specs.Shape.{top}
 use Rattle.store.specs.declared.Outcome.{Outcome}
 use Rattle.store.specs.declared.Store.{Store}
 use Rattle.theory.specs.Lists.{choose}
@@ -123,6 +128,7 @@ its-table = record {
       let r = reply-table .printing bytes out a in
       let e : writtenNumber (deducing .printing bytes out .answer) ≡ writtenNumber (ours .printing bytes out .answer) = ap (λ (w : Wrote). writtenNumber (w .answer)) (prints-ours bytes out) in
       (λ q. r .0 (sym e ∙ q), λ w. e ∙ r .1 w);
+  bare = reply-table .bare;
   decoding = reply-table .decoding;
   onward = reply-table .onward;
   adding-names = reply-table .adding-names;
@@ -145,6 +151,7 @@ refusals-too = record {
   reading = its-store;
   bytes = λ s. by-question asks readOf s (λ a x. (numberSaid a (x .said) ≡ 0 → ⊥) → x .bytes ≡ lentTo a) (refusals .bytes s) (λ n E k. refl);
   refusal-bytes = refusals .refusal-bytes;
+  bare-bytes = refusals .bare-bytes;
   printing-bytes = λ bytes out k.
       ap (λ (w : Wrote). w .bytes) (prints-ours bytes out)
       ∙ refusals .printing-bytes bytes out (λ z. k (ap (λ (w : Wrote). writtenNumber (w .answer)) (prints-ours bytes out) ∙ z));
@@ -218,3 +225,38 @@ stores-too = record { holds = λ m. made-holds (made-ours m); no-own = λ m. mad
 
 pub one-by-one-too : OneByOne deducing
 one-by-one-too = record { one-by-one = one-by-one .one-by-one; few = one-by-one .few; many = one-by-one .many }
+
+-- of every number and every set, refused ones too
+same-question : {A M : ℕ} {H : List Justification} {s : Store} → Made ours A M H s → (n E : ℕ) → asks s n E ≡ questionOf s n E
+same-question {A} {M} {s = s} m n E = go (eqb (answerNumber (questionOf s n E)) 0) refl
+  where
+    go : (b : Bool) → eqb (answerNumber (questionOf s n E)) 0 ≡ b → choose b (workedOut (s .held) n E) (questionOf s n E) ≡ questionOf s n E
+    go true e =
+        let f = made-form m in
+        let rows = passed _ _ _ (reply-table .reading s (question n E) 0 .0 (eqb-true (answerNumber (questionOf s n E)) 0 e)) (λ z. omega arith) in
+        let no = passed _ _ _ (rows .1) (λ z. omega arith) in
+        let tops : top (s .held) ≡ A + M = ap₂ (λ (a c : ℕ). a + c) (form-a f) (form-m f) in
+        let low : n ≤ A + M = at-most (top (s .held)) (A + M) n tops (λ k. no .0 (inl k)) in
+        let small : E < 2 ^ A = subst (λ (a : ℕ). E < 2 ^ a) (form-a f) (under (2 ^ (s .held .assumptions)) E (λ k. no .0 (inr k))) in
+        ap (λ (x : Lists). standing x n E) (lists-again f) ∙ sym (question-by f n E low small)
+      where
+        at-most : (t k x : ℕ) → t ≡ k → (t < x → ⊥) → x ≤ k
+        at-most t k x p q = omega (arith, p, q)
+
+        under : (w x : ℕ) → (w ≤ x → ⊥) → x < w
+        under w x q = omega (arith, q)
+    go false e = refl
+
+pub plain-path-too : PlainPath deducing
+plain-path-too = record {
+  replies = λ m n E. plain-path .replies (made-ours m) n E ∙ ap wordAlone (sym (same-question (made-ours m) n E));
+  context-reply = λ m E out. plain-path .context-reply (made-ours m) E out;
+  context-bytes = λ m E out h k. plain-path .context-bytes (made-ours m) E out h k;
+  says = λ m n E l h. plain-path .says (made-ours m) n E l h;
+  lines = λ m E out h k. plain-path .lines (made-ours m) E out h k;
+  enough = λ m E. plain-path .enough (made-ours m) E;
+  bare = plain-path .bare;
+  bare-question = λ m l d w n E out. plain-path .bare-question (made-ours m) l d w n E out;
+  bare-context = λ m l d w E out. plain-path .bare-context (made-ours m) l d w E out;
+  bare-lines = λ m l d w E out. plain-path .bare-lines (made-ours m) l d w E out;
+}

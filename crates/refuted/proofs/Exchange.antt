@@ -2,7 +2,7 @@
 use mathlib.Core.List.{[]}
 use Prim.Native.Nat.{ℕ}
 use Rattle.asking.specs.declared.Answer.{Answer}
-use Rattle.promises.specs.Calls.{Ask, Read, caseLine, context, file, line, listAll, member, question, reads}
+use Rattle.promises.specs.Calls.{Ask, Read, caseLine, context, file, line, listAll, member, plainContext, plainly, question, reads, stageLines}
 use Rattle.refuted.specs.Exchange.{answering}
 use Rattle.store.specs.declared.Store.{Store}
 
@@ -15,3 +15,6 @@ module _ (f : Store → ℕ → ℕ → Answer) (r : Store → (a : Ask) → Rea
   by-question p q (caseLine out) = p (caseLine out)
   by-question p q (listAll out) = p (listAll out)
   by-question p q (file out) = p (file out)
+  by-question p q (plainly n E) = p (plainly n E)
+  by-question p q (plainContext E out) = p (plainContext E out)
+  by-question p q (stageLines E out) = p (stageLines E out)

@@ -11,6 +11,7 @@ pub mod Deducing
 pub mod Naming
 pub mod Third
 pub mod Season
+pub mod Halting
 pub mod Wrong
 pub mod Writing
 pub mod Product

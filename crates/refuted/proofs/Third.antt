@@ -79,10 +79,10 @@ abbrev item : ℕ → List ℕ → Item
 item c l = record { consequent = c; supports = l }
 
 -- falsity from 1, 2 from 1, 3 from 2
-abbrev beyondBytes : List ℕ
+abbrev pub beyondBytes : List ℕ
 beyondBytes = 1 ∷ 2 ∷ 3 ∷ 0 ∷ 1 ∷ 1 ∷ 2 ∷ 1 ∷ 1 ∷ 3 ∷ 1 ∷ 2 ∷ []
 
-abbrev beyond : Case
+abbrev pub beyond : Case
 beyond = record { header = record { assumptions = 1; claims = 2; records = 3 }; items = item 0 (1 ∷ []) ∷ item 2 (1 ∷ []) ∷ item 3 (2 ∷ []) ∷ [] }
 
 -- 2 from 3, 3 from 2
@@ -92,17 +92,17 @@ otherBytes = 1 ∷ 2 ∷ 2 ∷ 2 ∷ 1 ∷ 3 ∷ 3 ∷ 1 ∷ 2 ∷ []
 abbrev other : Case
 other = record { header = record { assumptions = 1; claims = 2; records = 2 }; items = item 2 (3 ∷ []) ∷ item 3 (2 ∷ []) ∷ [] }
 
-spelled : (caseOf beyondBytes ≡ whole beyond) × (caseOf otherBytes ≡ whole other)
+pub spelled : (caseOf beyondBytes ≡ whole beyond) × (caseOf otherBytes ≡ whole other)
 unfolding caseOf headerFrom numberFrom secondFrom recordsFrom recordFrom numbersFrom unless faultOf someOf
 spelled = (refl, refl)
 
-abbrev beyondHeld : List Justification
+abbrev pub beyondHeld : List Justification
 beyondHeld = from 0 (1 ∷ []) ∷ from 2 (1 ∷ []) ∷ from 3 (2 ∷ []) ∷ []
 
 abbrev otherHeld : List Justification
 otherHeld = from 2 (3 ∷ []) ∷ from 3 (2 ∷ []) ∷ []
 
-held : (inOrder (putIn beyond) ≡ beyondHeld) × (inOrder (putIn other) ≡ otherHeld)
+pub held : (inOrder (putIn beyond) ≡ beyondHeld) × (inOrder (putIn other) ≡ otherHeld)
 unfolding inOrder put setOf those someOf numbersBelow sameJustification sameSets alike ahead lesser
 held = (refl, refl)
 

@@ -15,7 +15,8 @@ use Rattle.asking.specs.declared.Answer.{Answer}
 use Rattle.asking.specs.declared.Answer.the-variants.{Inconsistent, Refused, Supported, Unsupported}
 use Rattle.refuted.proofs.Arrival.{keeps-arrival}
 use Rattle.refuted.proofs.Cases.{p-cases}
-use Rattle.refuted.proofs.Deducing.{demand-2-too, demand-3-too, lists-again, one-by-one-too, refusals-too, stores-too}
+use Rattle.refuted.proofs.Deducing.{demand-2-too, demand-3-too, lists-again, one-by-one-too, plain-path-too, refusals-too, stores-too}
+use Rattle.refuted.proofs.Halting.{stops-at-falsity}
 use Rattle.refuted.proofs.Naming.{names-the-asked, names-the-last}
 use Rattle.refuted.proofs.Season.{judges-at-once, stops-at-a-refusal}
 use Rattle.casefile.proofs.Cases.{listed as spells, listedCase}
@@ -498,6 +499,7 @@ refuted = record {
   judges-prefixes = judges-prefixes;
   forgets-nogoods = forgets-nogoods;
   calls-all-full = calls-all-full;
+  stops-at-falsity = stops-at-falsity;
   names-the-asked = names-the-asked;
   names-the-last = names-the-last;
   holds-its-own = holds-its-own;
@@ -507,5 +509,5 @@ refuted = record {
   clears-a-consequent = clears-a-consequent;
   frees-no-place = frees-no-place;
   reads-no-list = reads-no-list;
-  reads-no-list-untold = (refusals-too, demand-2-too, demand-3-too, stores-too, one-by-one-too);
+  reads-no-list-untold = (refusals-too, demand-2-too, demand-3-too, stores-too, one-by-one-too, plain-path-too);
 }

@@ -9,7 +9,7 @@ use Rattle.asking.specs.declared.Answer.{Answer}
 use Rattle.casefile.specs.declared.Loaded.{Loaded}
 use Rattle.handed.specs.declared.Handed.{Handed}
 use Rattle.lent.specs.Lent.{Wrote}
-use Rattle.promises.specs.Calls.{Ask, Calls, Read, caseLine, context, file, line, listAll, member, question, reads}
+use Rattle.promises.specs.Calls.{Ask, Calls, Read, caseLine, context, file, line, listAll, member, plainContext, plainly, question, reads, stageLines}
 use Rattle.promises.specs.Season.{Adds, afterEach, numbersEach}
 use Rattle.replies.specs.declared.Reply.{Reply}
 use Rattle.replies.specs.declared.Reply.the-variants.{Done, Long, Shape, Short}
@@ -47,6 +47,7 @@ exchanged C opening loading adding addingAll withdrawing reading = record {
   refusal = C .refusal;
   printing = printingBy loading reading (C .refusal);
   decoding = C .decoding;
+  bare = C .bare;
 }
 
 abbrev pub withOpening : (ℕ → ℕ → Outcome) → Calls → Calls
@@ -77,6 +78,9 @@ answering f r s (line n out) = r s (line n out)
 answering f r s (caseLine out) = r s (caseLine out)
 answering f r s (listAll out) = r s (listAll out)
 answering f r s (file out) = r s (file out)
+answering f r s (plainly n E) = r s (plainly n E)
+answering f r s (plainContext E out) = r s (plainContext E out)
+answering f r s (stageLines E out) = r s (stageLines E out)
 
 -- a line written by f, what else is read by r
 abbrev pub lining : (Store → ℕ → List ℕ → Wrote) → (Store → (a : Ask) → Read a) → Store → (a : Ask) → Read a
@@ -87,6 +91,25 @@ lining f r s (line n out) = reads (line n out) (f s n out .answer) s (f s n out 
 lining f r s (caseLine out) = r s (caseLine out)
 lining f r s (listAll out) = r s (listAll out)
 lining f r s (file out) = r s (file out)
+lining f r s (plainly n E) = r s (plainly n E)
+lining f r s (plainContext E out) = r s (plainContext E out)
+lining f r s (stageLines E out) = r s (stageLines E out)
+
+-- the lines of the stages written by f, what else is read by r
+abbrev pub staging : (Store → ℕ → List ℕ → Wrote) → (Store → (a : Ask) → Read a) → Store → (a : Ask) → Read a
+staging f r s (question n E) = r s (question n E)
+staging f r s (context E out) = r s (context E out)
+staging f r s (member n place) = r s (member n place)
+staging f r s (line n out) = r s (line n out)
+staging f r s (caseLine out) = r s (caseLine out)
+staging f r s (listAll out) = r s (listAll out)
+staging f r s (file out) = r s (file out)
+staging f r s (plainly n E) = r s (plainly n E)
+staging f r s (plainContext E out) = r s (plainContext E out)
+staging f r s (stageLines E out) = reads (stageLines E out) (f s E out .answer) s (f s E out .bytes)
+
+abbrev pub withStages : (Store → ℕ → List ℕ → Wrote) → Calls → Calls
+withStages f C = withReading (staging f (C .reading)) C
 
 abbrev pub withLine : (Store → ℕ → List ℕ → Wrote) → Calls → Calls
 withLine f C = withReading (lining f (C .reading)) C
@@ -102,6 +125,9 @@ filing f r s (member n place) = r s (member n place)
 filing f r s (line n out) = r s (line n out)
 filing f r s (caseLine out) = r s (caseLine out)
 filing f r s (listAll out) = r s (listAll out)
+filing f r s (plainly n E) = r s (plainly n E)
+filing f r s (plainContext E out) = r s (plainContext E out)
+filing f r s (stageLines E out) = r s (stageLines E out)
 filing f r s (file out) = reads (file out) (f s out .answer) s (f s out .bytes)
 
 abbrev pub withFile : (Store → List ℕ → Wrote) → Calls → Calls

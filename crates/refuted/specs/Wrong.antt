@@ -13,21 +13,24 @@ use Rattle.asking.specs.declared.Found.the-variants.{Not}
 use Rattle.casefile.specs.Case.{Case, Reading, caseOf, joined, refused, whole}
 use Rattle.casefile.specs.Load.{loadedOf, recorded}
 use Rattle.casefile.specs.declared.Loaded.{Loaded}
+use Rattle.following.specs.First.{sinceOf}
 use Rattle.handed.specs.Supplied.{suppliedBy}
 use Rattle.handed.specs.declared.Handed.{Handed}
 use Rattle.items.specs.Items.{Item}
 use Rattle.lent.specs.Lent.{Wrote, fitted, kept}
 use Rattle.lent.specs.declared.Written.the-variants.{Refused as Unwritten}
 use Rattle.lines.specs.Lines.{lineWith}
-use Rattle.promises.specs.Calls.{Ask, Calls, Read, caseLine, context, file, line, listAll, member, ours, question, reads}
+use Rattle.plain.specs.declared.Plain.the-variants.{Refused as Unsaid}
+use Rattle.promises.specs.Calls.{Ask, Calls, Read, caseLine, context, file, line, listAll, member, ours, plainContext, plainly, question, reads, stageLines}
 use Rattle.promises.specs.Demand1.{Refusals}
 use Rattle.promises.specs.Demand2.{Demand2, IsDepth}
 use Rattle.promises.specs.Demand3.{Demand3}
 use Rattle.promises.specs.Made.{Input, Made, Stores, inOrder}
+use Rattle.promises.specs.Plain.{PlainPath}
 use Rattle.promises.specs.Season.{OneByOne}
 use Rattle.promises.specs.Standing.{AsTheyStand}
 use Rattle.promises.specs.Table.{ReplyTable}
-use Rattle.refuted.specs.Exchange.{exchanged, withAdding, withAddingAll, withLine, withLoading, withOpening, withQuestion, withWithdrawing}
+use Rattle.refuted.specs.Exchange.{exchanged, withAdding, withAddingAll, withLine, withLoading, withOpening, withQuestion, withStages, withWithdrawing}
 use Rattle.replies.specs.Replies.{numberOf}
 use Rattle.replies.specs.declared.Reply.the-variants.{Counts, Done, Ends, Nogoods, Number, Shape}
 use Rattle.rules.specs.Held.{heldOf, put, saidBy}
@@ -36,14 +39,15 @@ use Rattle.rules.specs.declared.Held.{Held}
 use Rattle.season.specs.Season.{giveOf}
 use Rattle.stages.specs.Lists.{listsOf}
 use Rattle.stages.specs.declared.Lists.{Lists}
+use Rattle.stagetext.specs.Stagetext.{lastStage, stageLine}
 use Rattle.store.specs.Calls.{answer, isDone, noStore, storeOf}
 use Rattle.store.specs.Reading.{labelHeld, nogoodsHeld}
 use Rattle.store.specs.Shape.{rightShape, top}
 use Rattle.store.specs.declared.Outcome.{Outcome}
 use Rattle.store.specs.declared.Store.{Store}
 use Rattle.theory.specs.Judge.{Stage, consequents}
-use Rattle.theory.specs.Lists.{allOf, choose, numbersTo, someOf, those}
-use Rattle.theory.specs.Sets.{listing, together as everyOne}
+use Rattle.theory.specs.Lists.{allOf, choose, each, numbersBelow, numbersTo, someOf, those}
+use Rattle.theory.specs.Sets.{inRange, listing, together as everyOne}
 use Rattle.theory.specs.Stages.{Justification, follows, minimal}
 
 -- ---- empty programs
@@ -57,6 +61,9 @@ refusingRead s (line n out) = reads (line n out) (Unwritten Shape) s out
 refusingRead s (caseLine out) = reads (caseLine out) (Unwritten Shape) s out
 refusingRead s (listAll out) = reads (listAll out) (Unwritten Shape) s out
 refusingRead s (file out) = reads (file out) (Unwritten Shape) s out
+refusingRead s (plainly n E) = reads (plainly n E) (Unsaid Shape) s []
+refusingRead s (plainContext E out) = reads (plainContext E out) Shape s out
+refusingRead s (stageLines E out) = reads (stageLines E out) (Unwritten Shape) s out
 
 abbrev pub refusing : Calls
 refusing = exchanged ours (λ A M. answer Counts noStore) (λ bytes. record { reply = Ends; «record» = 0; store = noStore }) (λ s c l. answer Shape s) (λ s l out. left (answer Shape s) out) (λ s c l. answer Shape s) refusingRead
@@ -242,6 +249,22 @@ shallow = withLine (linedBy atDepth) ours
 abbrev pub always : Calls
 always = withLine (linedBy (λ s n. true)) ours
 
+-- follows no further once falsity has followed: its lines end with that stage
+abbrev pub haltedAt : List Justification → ℕ → ℕ
+haltedAt J E = choose (ltb (sinceOf J E 0) (lastStage J E)) (sinceOf J E 0) (lastStage J E)
+
+abbrev pub haltedText : ℕ → List Justification → ℕ → List ℕ
+haltedText N J E = each (stageLine N J E) (numbersBelow (haltedAt J E + 1))
+
+abbrev pub haltedLines : Store → ℕ → List ℕ → Wrote
+haltedLines s E out =
+    choose (not (rightShape s)) (kept Shape out)
+    (choose (not (inRange (s .held .assumptions) E)) (kept Number out)
+    (fitted (haltedText (top (s .held)) (saidBy (s .held)) E) out))
+
+abbrev pub halting : Calls
+halting = withStages haltedLines ours
+
 -- ---- classes
 
 -- answers no adding with 0
@@ -276,6 +299,7 @@ pub record Refuted : Type 0 where
   pub calls-all-full : Demand2 alwaysFull → ⊥
   pub stops-at-the-depth : Demand2 shallow → ⊥
   pub calls-all-contradicted : Demand2 always → ⊥
+  pub stops-at-falsity : PlainPath halting → ⊥
   pub names-the-asked : Demand2 echoing → ⊥
   pub names-the-last : Demand2 lasting → ⊥
   pub holds-its-own : Stores welcoming → ⊥
@@ -286,4 +310,4 @@ pub record Refuted : Type 0 where
   pub frees-no-place : Stores notFreed → ⊥
   pub reads-no-list : AsTheyStand deducing → ⊥
   -- .. of which no other demand can tell
-  pub reads-no-list-untold : Refusals deducing × Demand2 deducing × Demand3 deducing × Stores deducing × OneByOne deducing
+  pub reads-no-list-untold : Refusals deducing × Demand2 deducing × Demand3 deducing × Stores deducing × OneByOne deducing × PlainPath deducing

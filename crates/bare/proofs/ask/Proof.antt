@@ -54,15 +54,15 @@ use denote.Triple.Clauses.{ensured, lasts, Lasts}
 use denote.Exit.{yes}
 use Rattle.bare.specs.Bare.{answered, askOf}
 use Rattle.bare.specs.Chasing.{Going, begunOf, finishOf, stepOf}
-use Rattle.bare.specs.declared.Asked.{Asked}
+use Rattle.bare.specs.declared.Query.{Query}
 use Rattle.bare.specs.declared.Chase.{Chase}
 use Rattle.bare.specs.declared.Told.{Told}
 use Rattle.handed.specs.declared.Handed.{Handed}
 use Rattle.bare.proofs.Answers.{finish-answers}
 use Rattle.bare.proofs.Chased.{Stands, begun-stands, going, left, step-left, step-stands}
 use Rattle.bare.proofs.Items.{itemAt, noItem}
-use Rattle.bare.proofs.Asked as Q
-use Rattle.bare.proofs.Asked.Laws as Q′
+use Rattle.bare.proofs.Query as Q
+use Rattle.bare.proofs.Query.Laws as Q′
 use Rattle.bare.proofs.Chase as K
 use Rattle.bare.proofs.Chase.Laws as K′
 use Rattle.bare.proofs.Told as E
@@ -117,7 +117,7 @@ by-test i n {P} yes′ no′ = go (ltb i n) refl
         not-below l = subst Holds e (lt→ltb i n l)
 
 -- ---- the machine values
-abbrev askVal : Asked → Val
+abbrev askVal : Query → Val
 askVal q = LL.tuple-val Q.the-type Q′.the-laws (Q.the-type .to q)
 
 abbrev itemVal : Handed → Val
@@ -166,7 +166,7 @@ module _ {M : Type 1} (𝓤 : URA M) (H : Heap 𝓤) (A : Atoms 𝓤) (mem : Mem
   Finish = tripleOf 𝓤 H A finish.signature (finish.spec 𝓤 H A mem run)
 
   -- of a callee's `ensured`, the clause alone
-  begin-said : (n : ℕ) (q : Asked) (r : Chase) → ent 𝓤 (ensured 𝓤 H A begin.ended (begin.clauses 𝓤 H A mem run) tt (n, (q, tt)) tt r) (fact 𝓤 (r ≡ begunOf n q))
+  begin-said : (n : ℕ) (q : Query) (r : Chase) → ent 𝓤 (ensured 𝓤 H A begin.ended (begin.clauses 𝓤 H A mem run) tt (n, (q, tt)) tt r) (fact 𝓤 (r ≡ begunOf n q))
   begin-said n q r = exE 𝓤 _ (λ ws. snd∗ 𝓤 (sem 𝓤 H A (lasts begin.ended tt (n, (q, tt)) ws)) (fact 𝓤 (r ≡ begunOf n q)))
 
   step-said : (c : Chase) (h : Handed) (r : Chase) → ent 𝓤 (ensured 𝓤 H A step.ended (step.clauses 𝓤 H A mem run) tt (c, (h, tt)) tt r) (fact 𝓤 (r ≡ stepOf c h))
@@ -179,7 +179,7 @@ module _ {M : Type 1} (𝓤 : URA M) (H : Heap 𝓤) (A : Atoms 𝓤) (mem : Mem
     pub finishes : Triple 𝓤 (C #bare·finish) Finish
 
 module _ {M : Type 1} (𝓤 : URA M) (H : Heap 𝓤) (A : Atoms 𝓤) (W : Given 𝓤 H A) (mem : Memory → SProp 𝓤) (run : Routine → Fun 𝓤) (κ κ′ : Lft) (q q₁ : Share)
-    (q₀ : Asked) (b o : ℕ) (γ : GName) (rs : List Handed) (b′ o′ : ℕ) (γ′ : GName) (zs₀ : List ℕ) where
+    (q₀ : Query) (b o : ℕ) (γ : GName) (rs : List Handed) (b′ o′ : ℕ) (γ′ : GName) (zs₀ : List ℕ) where
   abbrev n : ℕ
   n = length rs
 
@@ -199,7 +199,7 @@ module _ {M : Type 1} (𝓤 : URA M) (H : Heap 𝓤) (A : Atoms 𝓤) (W : Given
   v′ = sliceVal (b′, o′) m
 
   abbrev Args : Type 0
-  Args = Asked × (RefT (List Handed) × (RefT (List ℕ) × Unit {0}))
+  Args = Query × (RefT (List Handed) × (RefT (List ℕ) × Unit {0}))
 
   abbrev args : Args
   args = (q₀, (x, (y, tt)))
@@ -252,7 +252,7 @@ module _ {M : Type 1} (𝓤 : URA M) (H : Heap 𝓤) (A : Atoms 𝓤) (W : Given
   goes-step c r ok = qed W (‵ (chaseOwn c) ∷ ‵ (R .own r (itemVal r ∷ [])) ∷ []) ∵ says ! ok $ nothing ! $ frame ! $ nothing ! $ move ! (2 ∷ 0 ∷ []) $ fjoin ! $ move ! (1 ∷ 0 ∷ []) $ fjoin ! $ done !
 
   abbrev FinishArgs : Type 0
-  FinishArgs = Chase × (Asked × (RefT (List ℕ) × Unit {0}))
+  FinishArgs = Chase × (Query × (RefT (List ℕ) × Unit {0}))
 
   abbrev passes : Chase → FinishArgs
   passes c = (c, (q₀, (y, tt)))

@@ -50,11 +50,11 @@ use denote.Triple.Walked.{says, needs, Stay, Stays, stay-none, gave-slice, walkO
 use denote.Triple.Clauses.{ensured, lasts, Lasts}
 use denote.Exit.{yes}
 use Rattle.bare.specs.Bare.{answered, askOf}
-use Rattle.bare.specs.declared.Asked.{Asked}
+use Rattle.bare.specs.declared.Query.{Query}
 use Rattle.bare.specs.declared.Told.{Told}
 use Rattle.handed.specs.declared.Handed.{Handed}
-use Rattle.bare.proofs.Asked as Q
-use Rattle.bare.proofs.Asked.Laws as Q′
+use Rattle.bare.proofs.Query as Q
+use Rattle.bare.proofs.Query.Laws as Q′
 use Rattle.bare.proofs.Told as E
 use Rattle.bare.proofs.Told.Laws as E′
 use Rattle.handed.proofs.Handed as T
@@ -82,7 +82,7 @@ gone-array = record { fit = λ κs x w. Unit {0}; has = λ κs x w vs. ftrue }
 abbrev stayed : Stays (some-of.ended .signature .params) (some-of.ended .kept)
 stayed = (stay-none (λ _. Q.the-row) yes, (gone-array, (stay-none (λ _. usize) yes, (gave-slice (0 ∷ []) tt (plain (λ _. u8)), tt))))
 
-abbrev askVal : Asked → Val
+abbrev askVal : Query → Val
 askVal s = LL.tuple-val Q.the-type Q′.the-laws (Q.the-type .to s)
 
 abbrev itemVals : Handed → List Val
@@ -168,7 +168,7 @@ module _ {M : Type 1} (𝓤 : URA M) (H : Heap 𝓤) (A : Atoms 𝓤) (mem : Mem
   abbrev All : Contract 𝓤
   All = tripleOf 𝓤 H A all.signature (all.spec 𝓤 H A mem run)
 
-module _ {M : Type 1} (𝓤 : URA M) (H : Heap 𝓤) (A : Atoms 𝓤) (W : Given 𝓤 H A) (mem : Memory → SProp 𝓤) (run : Routine → Fun 𝓤) (κ : Lft) (q : Share) (q₀ : Asked) (rs : List Handed) (n : ℕ) (ok : n < 2 ^ 64) (b′ o′ : ℕ) (γ′ : GName) (zq₀ : List ℕ) where
+module _ {M : Type 1} (𝓤 : URA M) (H : Heap 𝓤) (A : Atoms 𝓤) (W : Given 𝓤 H A) (mem : Memory → SProp 𝓤) (run : Routine → Fun 𝓤) (κ : Lft) (q : Share) (q₀ : Query) (rs : List Handed) (n : ℕ) (ok : n < 2 ^ 64) (b′ o′ : ℕ) (γ′ : GName) (zq₀ : List ℕ) where
   abbrev y : RefT (List ℕ)
   y = record { ptr = (b′, o′); name = γ′; now = zq₀ }
 
@@ -180,7 +180,7 @@ module _ {M : Type 1} (𝓤 : URA M) (H : Heap 𝓤) (A : Atoms 𝓤) (W : Given
   few = take n rs
 
   abbrev Args : Type 0
-  Args = Asked × (List Handed × (ℕ × (RefT (List ℕ) × Unit {0})))
+  Args = Query × (List Handed × (ℕ × (RefT (List ℕ) × Unit {0})))
 
   abbrev args : Args
   args = (q₀, (rs, (n, (y, tt))))
@@ -215,7 +215,7 @@ module _ {M : Type 1} (𝓤 : URA M) (H : Heap 𝓤) (A : Atoms 𝓤) (W : Given
     Own = ShrSlice (named 0) (α ∷ []) R .own x (u ∷ [])
 
     abbrev CalleeArgs : Type 0
-    CalleeArgs = Asked × (RefT (List Handed) × (RefT (List ℕ) × Unit {0}))
+    CalleeArgs = Query × (RefT (List Handed) × (RefT (List ℕ) × Unit {0}))
 
     abbrev passes : CalleeArgs
     passes = (q₀, (x, (y, tt)))
