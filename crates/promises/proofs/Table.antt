@@ -296,8 +296,7 @@ plain-zero J E n = go (contradicts J E) (carries J E n)
 
 module _ (s : Store) where
   read-told : (a : Ask) → AskRows s a (numberSaid a (readOf s a .said))
-  unfolding questionOf contextReply memberOf memberAt lineOf headingOf listedOf writeOf
-  unfolding questionOf contextReply memberOf memberAt lineOf headingOf listedOf plainOf stagesOf
+  unfolding questionOf contextReply memberOf memberAt lineOf headingOf listedOf writeOf plainOf stagesOf
   read-told (question n E) =
       let out : Bool = ltb (top (s .held)) n || not (inRange (s .held .assumptions) E) in
       by-choice _ answerNumber (not (rightShape s)) (Refused Shape) (choose out (Refused Number) (standing (s .lists) n E)) (not-test (rightShape s)) refl
