@@ -100,5 +100,11 @@ fault "contradicted: 3 also where the label is not empty" store.rs \
     's/Answer::Unsupported if self.is_contradicted(n) => 3/Answer::Unsupported if n != 0 \&\& self.from_all[n as usize] => 3/'
 fault "contradicted: whatever some rule names" store.rs \
     's/n != 0 \&\& self.list(n).is_empty() \&\& self.from_all\[n as usize\]/n != 0 \&\& self.list(n).is_empty() \&\& (n <= self.a || self.held.iter().any(|rule| rule.consequent == n))/'
+fault "season: ends at the first refusal" store.rs \
+    '/pub fn season/,/^    }/s/Err(refusal) => refusal.number,/Err(refusal) => { numbers.push(refusal.number); numbers.resize(items.len(), 0); return numbers; }/'
+fault "season: an item held already is told as done" store.rs \
+    '/pub fn season/,/^    }/s/Ok(Added::AlreadyHeld) => 1,/Ok(Added::AlreadyHeld) => 0,/'
+fault "season: room for 255 items" script.rs 's/MOST_ITEMS: usize = 256/MOST_ITEMS: usize = 255/'
+fault "season: the list is emptied by it" script.rs 's/return season(store, line, list)/return { let reply = season(store, line, list); list.clear(); reply }/'
 rm -rf "$work"
 if [ $missed = 0 ]; then echo "all faults seen"; else echo "faults.sh: FAILED"; exit 1; fi

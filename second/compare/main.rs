@@ -49,9 +49,9 @@ struct Findings {
     compared: usize,
     sampled: usize,
     differences: Vec<String>,
-    /// For each group, the common ends of those scripts whose bringing lines
-    /// were all done.
-    ends: HashMap<usize, Vec<(String, Vec<u8>)>>,
+    /// For each group, by kind and number, the common ends of those scripts
+    /// whose bringing lines were all done.
+    ends: HashMap<(&'static str, usize), Vec<(String, Vec<u8>)>>,
 }
 
 fn main() {
@@ -184,19 +184,21 @@ impl Findings {
         let Some(group) = &job.group else { return };
         let brought = |reply: &&script::Reply| group.bringing.contains(&reply.line);
         if replies.iter().filter(brought).all(|reply| matches!(reply.number, 0 | 1 | 18)) {
+            let told = replies.iter().filter(|reply| group.numbers.contains(&reply.line));
+            let mut text: String = told.flat_map(reply_numbers).map(|number| format!("{number} ")).collect();
             let end = replies.iter().filter(|reply| reply.line >= group.end);
-            let text = end.map(|reply| reply.text.as_str()).collect();
-            self.ends.entry(group.number).or_default().push((text, job.input.clone()));
+            end.for_each(|reply| text.push_str(&reply.text));
+            self.ends.entry((job.kind, group.number)).or_default().push((text, job.input.clone()));
         }
     }
 
     /// Within a group all ends kept are the same.
     fn compare_ends(&mut self) {
-        for (number, ends) in &self.ends {
+        for ((kind, number), ends) in &self.ends {
             for (text, input) in &ends[1..] {
                 if *text != ends[0].0 {
                     self.differences.push(format!(
-                        "group {number}: two orders end differently; inputs as hex:\n{}\n{}\none:\n{}two:\n{text}",
+                        "group {number} of {kind}: two ways end differently; inputs as hex:\n{}\n{}\none:\n{}two:\n{text}",
                         hex(&ends[0].1), hex(input), ends[0].0
                     ));
                 }
@@ -204,9 +206,9 @@ impl Findings {
         }
     }
 
-    /// The groups in which at least two orders could be compared.
-    fn groups_compared(&self) -> usize {
-        self.ends.values().filter(|ends| ends.len() > 1).count()
+    /// The groups of a kind in which at least two scripts could be compared.
+    fn groups_compared(&self, kind: &str) -> usize {
+        self.ends.iter().filter(|(key, ends)| key.0 == kind && ends.len() > 1).count()
     }
 
     fn take_in(&mut self, other: Findings) {
@@ -214,10 +216,15 @@ impl Findings {
         self.compared += other.compared;
         self.sampled += other.sampled;
         self.differences.extend(other.differences);
-        for (number, ends) in other.ends {
-            self.ends.entry(number).or_default().extend(ends);
+        for (key, ends) in other.ends {
+            self.ends.entry(key).or_default().extend(ends);
         }
     }
+}
+
+/// The reply number of a call, or those of a season's items.
+fn reply_numbers(reply: &script::Reply) -> Vec<u32> {
+    if reply.call == script::Call::Season { reply.items.clone() } else { vec![reply.number] }
 }
 
 fn hex(bytes: &[u8]) -> String {
@@ -234,13 +241,15 @@ fn report(seed: u64, jobs: &[Job], findings: &Findings) -> i32 {
     let files = jobs.len() - named - scripts;
     println!("seed {seed}: {named} named cases, {files} files, {scripts} scripts");
     println!("{} inputs also went to the program SECOND", findings.sampled);
-    println!("{} groups of scripts: the same justifications in several orders", findings.groups_compared());
+    println!("{} groups of scripts: the same justifications in several orders", findings.groups_compared("orders"));
+    println!("{} pairs of scripts: a season, and its items added one by one", findings.groups_compared("season"));
     findings.tally.print();
     let mut faults = findings.tally.too_few();
     for (what, count, least) in [
         ("files", files, LEAST_FILES),
         ("scripts", scripts, LEAST_SCRIPTS),
-        ("groups of scripts", findings.groups_compared(), LEAST_GROUPS),
+        ("groups of scripts", findings.groups_compared("orders"), LEAST_GROUPS),
+        ("pairs of seasons", findings.groups_compared("season"), LEAST_GROUPS),
     ] {
         if count < least {
             faults.push(format!("only {count} {what}"));

@@ -23,6 +23,7 @@ pub fn all() -> Vec<Named> {
     cases.extend(own_reasons());
     cases.extend(reasons());
     cases.extend(third_word());
+    cases.extend(seasons());
     cases
 }
 
@@ -304,6 +305,31 @@ fn third_word() -> Vec<Named> {
             "done\ndone\ndone\n0 0 0 0 3 0\n0 1 0 1 3 0\n2 2 2 2 2 2\nunsupported\n4 contradicted\n5 unsupported\ndone\n\
              0 1 0 0 0 0\n4 supported {3}\ndone\ndone\n0 1 0 0 0 0\n"
                 .to_string(),
+        ),
+    ]
+}
+
+/// A season's rules at once, and the list in hand at its limit.
+fn seasons() -> Vec<Named> {
+    let singles: String = (1..=13).map(|k| format!("rule 14 {k}\n")).collect();
+    let full = "rule 1 2\n".repeat(256);
+    vec![
+        script(
+            "a season",
+            "open 2 2\nrule 3 1\nrule 3 1 1\nrule 5\nrule 0 0\nrule 4 3 4\nrule 1 1 1 1 1 1\nrule 4 3 2\nseason\nlist\nseason\n".to_string(),
+            "done\ndone 0 1 4 5 17 6 0\ncase 2 2 2 2\n0 nogood\n1 supported {1}\n2 supported {2}\n3 supported {1}\n4 supported {1,2}\n\
+             done 1 1 4 5 17 6 1\n"
+                .to_string(),
+        ),
+        script(
+            "a season of thirteen singles",
+            format!("season\n{singles}rule 14\nrule 14 13\nopen 13 1\nseason\nline 14\nforget\nseason\n"),
+            "done\ndone\ndone 0 0 0 0 0 0 0 0 0 0 0 0 8 0 0\n14 supported {}\ndone\n".to_string(),
+        ),
+        script(
+            "256 items in hand, and one more",
+            format!("{full}rule 1 2\nopen 2 0\nseason\nlist\n"),
+            format!("bad line 257\ndone\ndone 0{}\ncase 2 0 1 1\n0 nogood\n1 supported {{1}} {{2}}\n2 supported {{2}}\n", " 1".repeat(255)),
         ),
     ]
 }

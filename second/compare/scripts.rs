@@ -13,15 +13,18 @@ pub struct Script {
     pub group: Option<Group>,
 }
 
-/// Which group; the lines (from 1) that bring the group's justifications; and
+/// Which group; the lines (from 1) that bring the group's justifications and
+/// have to be done; the lines whose reply numbers are alike in the group; and
 /// the line where the common end begins.
 pub struct Group {
     pub number: usize,
     pub bringing: Vec<usize>,
+    pub numbers: Vec<usize>,
     pub end: usize,
 }
 
-const GROUPS: usize = 430;
+const GROUPS: usize = 370;
+const SEASONS: usize = 260;
 const WAYS: u32 = 6;
 const MOST_BYTES: usize = 65_536;
 
@@ -30,14 +33,18 @@ pub fn all(r: &mut Random) -> Vec<Script> {
     for number in 0..GROUPS {
         one_group(r, number, &mut scripts);
     }
+    for number in 0..SEASONS {
+        one_season(r, number, &mut scripts);
+    }
     let mut take = |count: u32, kind: &'static str, make: &mut dyn FnMut(u32) -> Vec<u8>| {
         (0..count).for_each(|i| scripts.push(Script { kind, bytes: make(i), group: None }));
     };
-    take(1500, "mixed", &mut |_| mixed(r));
+    take(1400, "mixed", &mut |_| mixed(r));
     take(600, "adding to a limit", &mut |_| adding_to_a_limit(r));
     take(340, "withdrawing to a limit", &mut |_| withdrawing_to_a_limit(r));
     take(100, "256 held", &mut |_| held_256(r));
     take(150, "asking", &mut |_| asking(r));
+    take(32, "full hand", &mut |_| full_hand(r));
     take(350, "bad lines", &mut |_| bad_lines(r));
     take(70, "long loads", &mut |_| long_loads(r));
     take(60, "about 65,536 bytes", &mut |i| about_65536(r, i));
@@ -115,6 +122,10 @@ fn withdraw_line((consequent, supports): &Record) -> String {
     words("withdraw", &[&[*consequent][..], supports].concat())
 }
 
+fn rule_line((consequent, supports): &Record) -> String {
+    words("rule", &[&[*consequent][..], supports].concat())
+}
+
 fn load_line(r: &mut Random, bytes: &[u8]) -> String {
     let upper = r.chance(50);
     let mut line = "load".to_string();
@@ -137,7 +148,7 @@ fn one_group(r: &mut Random, number: usize, scripts: &mut Vec<Script>) {
         let begin = lines.plain("# from here on all scripts of the group are alike") + 1;
         lines.lines.extend(end.lines.iter().cloned());
         let bytes = [lines.lines.join(&b'\n'), vec![b'\n']].concat();
-        let group = Some(Group { number, bringing, end: begin });
+        let group = Some(Group { number, bringing, numbers: vec![], end: begin });
         scripts.push(Script { kind: "orders", bytes, group });
     }
 }
@@ -301,6 +312,116 @@ fn common_end(r: &mut Random, case: &Case) -> Lines {
     lines
 }
 
+// ---------------------------------------------------------------- seasons
+
+/// Items at once by `season`, and the same items by `add`, with one end.
+fn one_season(r: &mut Random, number: usize, scripts: &mut Vec<Script>) {
+    let (case, items) = season_items(r);
+    let start = season_start(r, &case);
+    let rounds = *r.pick(&[1, 1, 2, 3]);
+    let end = common_end(r, &case);
+    for at_once in [true, false] {
+        let mut lines = Lines::default();
+        if at_once {
+            note_items(r, &items, &mut lines);
+        }
+        let line = lines.plain(start.clone());
+        let mut numbers = vec![line];
+        for _ in 0..rounds {
+            if at_once {
+                numbers.push(lines.line(r, "season"));
+            } else {
+                items.iter().for_each(|item| numbers.push(lines.line(r, &add_line(item))));
+            }
+        }
+        let begin = lines.plain("# from here on both scripts are alike") + 1;
+        lines.lines.extend(end.lines.iter().cloned());
+        let bytes = [lines.lines.join(&b'\n'), vec![b'\n']].concat();
+        let group = Some(Group { number, bringing: vec![], numbers, end: begin });
+        scripts.push(Script { kind: "season", bytes, group });
+    }
+}
+
+/// A case, and items for it: its records, some of them twice, and faulty ones.
+fn season_items(r: &mut Random) -> (Case, Vec<Record>) {
+    if r.chance(12) {
+        return full_season(r);
+    }
+    let mut case = match r.from_to(0, 9) {
+        0 => cases::random_small(r),
+        1..=4 => cases::near_label_limit(r),
+        5..=8 => cases::near_nogood_limit(r),
+        _ => cases::random_crowded(r),
+    };
+    cases::reorder(r, &mut case);
+    let mut items = case.records.clone();
+    if r.chance(70) {
+        items.extend(case.records.iter().map(|record| cases::respelled(r, record)));
+    }
+    for _ in 0..r.from_to(0, 8) {
+        let place = r.from_to(0, items.len() as u32) as usize;
+        items.insert(place, perhaps_faulty(r, case.a, case.m));
+    }
+    items.truncate(*r.pick(&[5, 256, 256, 256, 256]));
+    (case, items)
+}
+
+/// Items for a store that is full or nearly so: held ones and new ones.
+fn full_season(r: &mut Random) -> (Case, Vec<Record>) {
+    let case = cases::many_records(r, 256);
+    let mut items = Vec::new();
+    for _ in 0..r.from_to(8, 30) {
+        items.push(if r.chance(40) { r.pick(&case.records).clone() } else { cases::floating(r, case.a, case.m) });
+    }
+    items.push(perhaps_faulty(r, case.a, case.m));
+    (case, items)
+}
+
+/// Open, or load some of the case's records so that items are held already.
+fn season_start(r: &mut Random, case: &Case) -> String {
+    if r.chance(60) && case.records.len() < 200 {
+        return open_line(case.a, case.m);
+    }
+    let fewest = if case.records.len() < 200 { 0 } else { case.records.len() as u32 - 8 };
+    let some = r.from_to(fewest, case.records.len() as u32) as usize;
+    let part = Case { a: case.a, m: case.m, records: case.records[..some].to_vec() };
+    load_line(r, &part.bytes())
+}
+
+/// Note the items, at times after others that are forgotten again.
+fn note_items(r: &mut Random, items: &[Record], lines: &mut Lines) {
+    if r.chance(30) {
+        for _ in 0..r.from_to(0, 3) {
+            let other = cases::any_record(r, 4, 4);
+            lines.line(r, &rule_line(&other));
+        }
+        lines.line(r, "forget");
+    }
+    for item in items {
+        lines.line(r, &rule_line(item));
+    }
+}
+
+/// The list in hand filled to 255, 256 and over, and lent to a small store.
+fn full_hand(r: &mut Random) -> Vec<u8> {
+    let mut lines = Lines::default();
+    let (a, m) = (r.from_to(1, 6), r.from_to(1, 6));
+    for _ in 0..*r.pick(&[255, 256, 257, 270, 270, 270]) {
+        let record = perhaps_faulty(r, a, m);
+        lines.line(r, &rule_line(&record));
+    }
+    lines.line(r, &open_line(a, m));
+    for _ in 0..8 {
+        lines.line(r, "season");
+        let line = withdraw_line(&cases::any_record(r, a, m));
+        lines.line(r, &line);
+    }
+    lines.line(r, "list");
+    lines.line(r, "forget");
+    lines.line(r, "season");
+    lines.bytes(r)
+}
+
 // ---------------------------------------------------------------- calls
 
 /// A question, context, member, line or listing.
@@ -405,14 +526,14 @@ fn mixed(r: &mut Random) -> Vec<u8> {
 
 /// One call of any kind; `now` has the counts and what may be held.
 fn any_call(r: &mut Random, now: &mut Case, lines: &mut Lines) {
-    match r.from_to(0, 22) {
+    match r.from_to(0, 26) {
         0..=7 => {
             let record = perhaps_faulty(r, now.a, now.m);
             lines.line(r, &add_line(&record));
             now.records.push(record);
         }
         8..=17 => telling(r, now.a, now.m, lines),
-        18 => {
+        18 | 26 => {
             let line = refused_load(r);
             lines.line(r, &line);
         }
@@ -421,6 +542,14 @@ fn any_call(r: &mut Random, now: &mut Case, lines: &mut Lines) {
             lines.line(r, &line);
         }
         21 => there_and_back(r, now, lines),
+        22..=23 => {
+            let line = rule_line(&perhaps_faulty(r, now.a, now.m));
+            lines.line(r, &line);
+        }
+        24 => {
+            let line = *r.pick(&["season", "season", "forget"]);
+            lines.line(r, line);
+        }
         _ => {
             lines.plain(*r.pick(BAD_LINES));
         }
@@ -572,6 +701,8 @@ const BAD_LINES: &[&str] = &[
     "add 1 1 1 1 1 1 x", "add 0,1", "add 1 #",
     "withdraw", "withdraw x", "withdraw 1 x", "withdraw 1 -1", "withdraw 1 4294967296",
     "withdraw 4294967296", "withdraw 1 1 1 1 1 1 x", "Withdraw 1", "withdraws 1 2", "withdraw 1 #",
+    "rule", "rule x", "rule 1 x", "rule 4294967296", "rule 1 -1", "Rule 1", "rules 1", "forget 1", "forgets",
+    "forget x", "season 1", "season x", "seasons", "Season", "season #",
     "ask", "ask x", "ask 1 0", "ask 300 0", "ask 1 1 0 1", "ask 1 00", "ask 1 4294967296", "ask 1 {1}",
     "context 0", "context 1 0", "context x", "context 000", "context 4294967296", "context 300 0",
     "member", "member 1", "member 1 2 3", "member x 0", "member 0 x", "member 0 4294967296",

@@ -17,11 +17,13 @@ const FILES: usize = 0;
 const LOADS: usize = 1;
 const CALLS: usize = 2;
 const WITHDRAWALS: usize = 3;
-const COLUMNS: [Column; 4] = [
+const SEASONS: usize = 4;
+const COLUMNS: [Column; 5] = [
     Column { head: "files", replies: &[0, 3, 4, 5, 6, 7, 8, 9, 11, 12, 13, 14, 17] },
     Column { head: "loads", replies: &[0, 3, 4, 5, 6, 7, 8, 9, 11, 12, 13, 14, 17] },
     Column { head: "calls", replies: &[0, 1, 3, 4, 5, 6, 7, 8, 9, 16, 17] },
     Column { head: "withdraw", replies: &[0, 4, 5, 6, 8, 9, 17, 18] },
+    Column { head: "season", replies: &[0, 1, 4, 5, 6, 7, 8, 9, 17] },
 ];
 
 const MEANINGS: [&str; 19] = [
@@ -72,6 +74,10 @@ const KINDS: &[&str] = &[
     "context with 3s and no 1",
     "context with 1s and no 3",
     "context of 0s",
+    "bad line, the list in hand is full",
+    "season of no items",
+    "season of 256 items",
+    "season",
 ];
 
 #[derive(Default)]
@@ -108,6 +114,7 @@ impl Tally {
                 Call::BadLine => self.count_kind("bad line"),
                 Call::TooLong => self.too_long += 1,
                 Call::Load => self.count(LOADS, reply.number, reply.stage),
+                Call::Season => reply.items.iter().for_each(|&number| self.count(SEASONS, number, 0)),
                 Call::Withdraw => self.count(WITHDRAWALS, reply.number, reply.stage),
                 _ => self.count(CALLS, reply.number, reply.stage),
             }
@@ -194,7 +201,8 @@ impl Tally {
         };
         for (place, Column { head, replies }) in COLUMNS.iter().enumerate() {
             replies.iter().for_each(|&i| want(format!("reply {i} in {head}"), self.counts[place][i]));
-            for &i in replies.iter().filter(|&&i| i == 8 || i == 9) {
+            // The stage behind an item's reply is not told.
+            for &i in replies.iter().filter(|&&i| (i == 8 || i == 9) && place != SEASONS) {
                 want(format!("reply {i} above stage 1 in {head}"), self.late[place][i]);
             }
         }

@@ -3,10 +3,13 @@
 use super::case_file::Fault;
 use super::listing;
 use super::rule::{inside, single, Refusal};
-use super::store::{Added, Answer, Store};
+use super::store::{Added, Answer, Item, Store};
 
 /// A longer script is not replayed at all.
 pub const MOST_BYTES: usize = 65_536;
+
+/// The list in hand holds so many items.
+pub const MOST_ITEMS: usize = 256;
 
 /// The text of reply 1; no other call prints it.
 const ALREADY_HELD: &str = "already held\n";
@@ -18,6 +21,9 @@ pub enum Call {
     Load,
     Add,
     Withdraw,
+    Rule,
+    Forget,
+    Season,
     Ask,
     Context,
     Member,
@@ -28,8 +34,8 @@ pub enum Call {
 }
 
 /// One reply: the script's line it belongs to, the reply number behind it, the
-/// stage that decided, the text with its newline, and for some calls what kind
-/// of answer it is.
+/// stage that decided, the text with its newline, for some calls what kind of
+/// answer it is, and for a season the reply number of each item.
 #[derive(Clone, Debug)]
 pub struct Reply {
     pub line: usize,
@@ -38,6 +44,13 @@ pub struct Reply {
     pub stage: u32,
     pub text: String,
     pub kind: &'static str,
+    pub items: Vec<u32>,
+}
+
+/// What the calls of a script work on: the store, and the list in hand.
+struct Desk {
+    store: Store,
+    list: Vec<Item>,
 }
 
 /// A line that was read as a call, its fields all in order.
@@ -46,6 +59,9 @@ enum Command {
     Load(Vec<u8>),
     Add(u32, Vec<u32>),
     Withdraw(u32, Vec<u32>),
+    Rule(u32, Vec<u32>),
+    Forget,
+    Season,
     Ask(u32, Vec<u32>),
     Context(Vec<u32>),
     Member(u32, u32),
@@ -61,9 +77,10 @@ pub fn text_of(replies: &[Reply]) -> Vec<u8> {
 pub fn replay(input: &[u8]) -> Vec<Reply> {
     if input.len() > MOST_BYTES {
         let text = "too long\n".to_string();
-        return vec![Reply { line: 0, call: Call::TooLong, number: 0, stage: 0, text, kind: "" }];
+        return vec![Reply { line: 0, call: Call::TooLong, number: 0, stage: 0, text, kind: "", items: vec![] }];
     }
-    let mut store = Store::open(0, 0).expect("the smallest store opens");
+    let store = Store::open(0, 0).expect("the smallest store opens");
+    let mut desk = Desk { store, list: Vec::new() };
     let mut replies = Vec::new();
     for (i, line) in input.split(|&byte| byte == b'\n').enumerate() {
         let fields: Vec<&[u8]> =
@@ -72,7 +89,7 @@ pub fn replay(input: &[u8]) -> Vec<Reply> {
             continue;
         }
         replies.push(match read(fields[0], &fields[1..]) {
-            Some(command) => run(&mut store, i + 1, command),
+            Some(command) => run(&mut desk, i + 1, command),
             None => bad_line(i + 1),
         });
     }
@@ -80,7 +97,7 @@ pub fn replay(input: &[u8]) -> Vec<Reply> {
 }
 
 fn bad_line(line: usize) -> Reply {
-    Reply { line, call: Call::BadLine, number: 0, stage: 0, text: format!("bad line {line}\n"), kind: "" }
+    Reply { line, call: Call::BadLine, number: 0, stage: 0, text: format!("bad line {line}\n"), kind: "", items: vec![] }
 }
 
 /// The command of a line, or nothing for a bad line.
@@ -95,6 +112,9 @@ fn read(name: &[u8], fields: &[&[u8]]) -> Option<Command> {
         (b"withdraw", [consequent, supports @ ..]) => {
             Some(Command::Withdraw(*consequent, supports.to_vec()))
         }
+        (b"rule", [consequent, supports @ ..]) => Some(Command::Rule(*consequent, supports.to_vec())),
+        (b"forget", []) => Some(Command::Forget),
+        (b"season", []) => Some(Command::Season),
         (b"ask", [n, set @ ..]) if !set.contains(&0) => Some(Command::Ask(*n, set.to_vec())),
         (b"context", set) if !set.contains(&0) => Some(Command::Context(set.to_vec())),
         (b"member", &[n, place]) => Some(Command::Member(n, place)),
@@ -125,7 +145,8 @@ fn hex_byte(field: &[u8]) -> Option<u8> {
     }
 }
 
-fn run(store: &mut Store, line: usize, command: Command) -> Reply {
+fn run(desk: &mut Desk, line: usize, command: Command) -> Reply {
+    let Desk { store, list } = desk;
     let (call, outcome) = match command {
         Command::Open(a, m) => (Call::Open, open(store, a, m)),
         Command::Load(bytes) => return load(store, line, &bytes),
@@ -134,6 +155,16 @@ fn run(store: &mut Store, line: usize, command: Command) -> Reply {
             let withdrawn = store.withdraw(consequent, &supports);
             (Call::Withdraw, withdrawn.map(|()| "done\n".to_string()))
         }
+        Command::Rule(..) if list.len() == MOST_ITEMS => return full_hand(line),
+        Command::Rule(consequent, supports) => {
+            list.push((consequent, supports));
+            (Call::Rule, Ok(String::new()))
+        }
+        Command::Forget => {
+            list.clear();
+            (Call::Forget, Ok(String::new()))
+        }
+        Command::Season => return season(store, line, list),
         Command::Ask(n, set) => {
             let answer = store.ask(n, &set);
             let kind = answer.map_or("", |answer| answer_kind(store, n, answer, &set));
@@ -164,14 +195,14 @@ fn reply(line: usize, call: Call, outcome: Result<String, Refusal>) -> Reply {
     match outcome {
         Ok(text) => {
             let number = u32::from(text == ALREADY_HELD);
-            Reply { line, call, number, stage: 0, text, kind: "" }
+            Reply { line, call, number, stage: 0, text, kind: "", items: vec![] }
         }
         Err(Refusal { number, named, stage }) => {
             let text = match named {
                 Some(n) => format!("refused {number} {n}\n"),
                 None => format!("refused {number}\n"),
             };
-            Reply { line, call, number, stage, text, kind: "" }
+            Reply { line, call, number, stage, text, kind: "", items: vec![] }
         }
     }
 }
@@ -186,14 +217,14 @@ fn load(store: &mut Store, line: usize, bytes: &[u8]) -> Reply {
     match listing::load(bytes) {
         Ok(loaded) => {
             *store = loaded;
-            Reply { line, call, number: 0, stage: 0, text: "done\n".to_string(), kind: "" }
+            Reply { line, call, number: 0, stage: 0, text: "done\n".to_string(), kind: "", items: vec![] }
         }
         Err(Fault { refusal: Refusal { number, named, stage }, record }) => {
             let text = match named {
                 Some(n) => format!("refused {number} {record} {n}\n"),
                 None => format!("refused {number} {record}\n"),
             };
-            Reply { line, call, number, stage, text, kind: "" }
+            Reply { line, call, number, stage, text, kind: "", items: vec![] }
         }
     }
 }
@@ -203,6 +234,23 @@ fn add(store: &mut Store, consequent: u32, supports: &[u32]) -> Result<String, R
         Added::Done => "done\n".to_string(),
         Added::AlreadyHeld => ALREADY_HELD.to_string(),
     })
+}
+
+/// The reply to a rule that the list in hand has no room for.
+fn full_hand(line: usize) -> Reply {
+    Reply { kind: "bad line, the list in hand is full", ..bad_line(line) }
+}
+
+/// `done` and the reply number of each item.
+fn season(store: &mut Store, line: usize, list: &[Item]) -> Reply {
+    let items = store.season(list);
+    let text: String = items.iter().map(|number| format!(" {number}")).collect();
+    let kind = match items.len() {
+        0 => "season of no items",
+        MOST_ITEMS => "season of 256 items",
+        _ => "season",
+    };
+    Reply { kind, items, ..reply(line, Call::Season, Ok(format!("done{text}\n"))) }
 }
 
 /// The word, and the set that is the reason, if there is one.

@@ -56,6 +56,14 @@ const BY_HAND: &[(&str, &str)] = &[
         "done\ndone\ndone\ndone\ncase 1 3 3 1\n0 nogood {1}\n1 contradicted\n2 contradicted\n3 contradicted\n4 unsupported\n\
          0 3 3 3 0\n2 2 2 2 2\nunsupported\ndone\n3 supported {}\n4 unsupported\n0 3 1 1 0\n",
     ),
+    // A season: the replies of adding one by one, refused items passed over; the
+    // list stays for the next store.
+    (
+        "season\nopen 2 1\nrule 3 1\nrule 3 1 1\nrule 3 3\nrule 4\nrule 0 0\nrule 1 1 1 1 1 1\nrule 3 2\nseason\nline 3\nopen 3 1\nseason\n\
+         line 3\nforget\nseason\nrule\nforget 1\nseason 1",
+        "done\ndone\ndone 0 1 17 4 5 6 0\n3 supported {1} {2}\ndone\ndone 0 1 17 0 5 6 0\n3 supported {1} {2} {3}\n\
+         done\nbad line 17\nbad line 18\nbad line 19\n",
+    ),
     // Depth 2 with two consequents, 3 with falsity too; two more rules for them add no stage.
     (
         "open 1 2\nadd 2 1\nadd 3 2\nadd 3 1 2\nadd 2\nlist\nadd 0 3\nlist",

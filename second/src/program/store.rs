@@ -15,6 +15,9 @@ pub struct Store {
     from_all: Follows,
 }
 
+/// A justification as it is handed over: consequent and supports.
+pub type Item = (u32, Vec<u32>);
+
 /// A justification was taken in, or was there already.
 #[derive(Clone, Copy, Debug, PartialEq, Eq)]
 pub enum Added {
@@ -61,6 +64,20 @@ impl Store {
         enlarged.insert(rule);
         *self = Store::of_rules(self.a, self.m, enlarged)?;
         Ok(Added::Done)
+    }
+
+    /// Add the items one by one in their order, refused ones passed over; the
+    /// reply number of each.
+    pub fn season(&mut self, items: &[Item]) -> Vec<u32> {
+        let mut numbers = Vec::new();
+        for (consequent, supports) in items {
+            numbers.push(match self.add(*consequent, supports) {
+                Ok(Added::Done) => 0,
+                Ok(Added::AlreadyHeld) => 1,
+                Err(refusal) => refusal.number,
+            });
+        }
+        numbers
     }
 
     /// Refusals in this order: 6, 4, 5, 17; 18; then the stages of the smaller set.
