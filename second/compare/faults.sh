@@ -106,5 +106,10 @@ fault "season: an item held already is told as done" store.rs \
     '/pub fn season/,/^    }/s/Ok(Added::AlreadyHeld) => 1,/Ok(Added::AlreadyHeld) => 0,/'
 fault "season: room for 255 items" script.rs 's/MOST_ITEMS: usize = 256/MOST_ITEMS: usize = 255/'
 fault "season: the list is emptied by it" script.rs 's/return season(store, line, list)/return { let reply = season(store, line, list); list.clear(); reply }/'
+fault "plain: nothing follows after falsity" plain.rs 's/if next == \*last {/if next == *last || last[0] {/'
+fault "plain: one line more" plain.rs 's/^                return stages;/                stages.push(next); return stages;/'
+fault "plain: a consequent too large before the faults of earlier items" plain.rs \
+    's/^        check_counts(a, m)?;/        check_counts(a, m)?; if items.iter().any(|item| item.0 > a + m) { return Err(Refusal::plain(4)); }/'
+fault "plain: falsity supported" plain.rs 's/if follows\[0\] {/if follows[0] \&\& n > 0 {/'
 rm -rf "$work"
 if [ $missed = 0 ]; then echo "all faults seen"; else echo "faults.sh: FAILED"; exit 1; fi

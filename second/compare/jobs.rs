@@ -1,6 +1,6 @@
 //! Running the programs, and the inputs as jobs for the workers.
 
-use crate::scripts::Group;
+use crate::scripts::{Bare, Group};
 use std::io::{Read, Write};
 use std::process::{Command, Stdio};
 use std::sync::mpsc;
@@ -13,14 +13,15 @@ pub enum Program {
     Replay,
 }
 
-/// One input: what kind it is, the reply if it is known beforehand, and the
-/// group of a script.
+/// One input: what kind it is, the reply if it is known beforehand, and of a
+/// script its group and its bare calls.
 pub struct Job {
     pub kind: &'static str,
     pub program: Program,
     pub input: Vec<u8>,
     pub expected: Option<Vec<u8>>,
     pub group: Option<Group>,
+    pub bare: Option<Bare>,
 }
 
 /// No call of the product takes so long.

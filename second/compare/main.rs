@@ -21,6 +21,8 @@ mod tally;
 
 use jobs::{Job, Program};
 use program::random::Random;
+use scripts::Script;
+use program::script::Call;
 use program::{listing, script};
 use std::collections::HashMap;
 use std::sync::atomic::{AtomicUsize, Ordering};
@@ -76,15 +78,15 @@ fn all_jobs(seed: u64) -> Vec<Job> {
     let mut jobs = Vec::new();
     for case in named::all() {
         let expected = Some(case.expected.into_bytes());
-        jobs.push(Job { kind: case.name, program: case.program, input: case.input, expected, group: None });
+        jobs.push(Job { kind: case.name, program: case.program, input: case.input, expected, group: None, bare: None });
     }
     let named = jobs.len();
     for file in files::all(&mut Random::new(seed)) {
-        jobs.push(Job { kind: file.kind, program: Program::List, input: file.bytes, expected: None, group: None });
+        jobs.push(Job { kind: file.kind, program: Program::List, input: file.bytes, expected: None, group: None, bare: None });
     }
     for script in scripts::all(&mut Random::new(!seed)) {
-        let (kind, input, group) = (script.kind, script.bytes, script.group);
-        jobs.push(Job { kind, program: Program::Replay, input, expected: None, group });
+        let Script { kind, bytes: input, group, bare } = script;
+        jobs.push(Job { kind, program: Program::Replay, input, expected: None, group, bare });
     }
     // All kinds mixed, so that a difference of any kind shows early.
     Random::new(seed).shuffle(&mut jobs[named..]);
@@ -131,6 +133,8 @@ fn one_job(paths: &Paths, job: &Job, sampled: bool, findings: &mut Findings) {
             let replies = script::replay(&job.input);
             findings.tally.count_script(&replies);
             findings.keep_end(job, &replies);
+            findings.hold_mirrors(job, &replies);
+            findings.hold_bare(job, &replies);
             script::text_of(&replies)
         }
     };
@@ -174,6 +178,52 @@ impl Findings {
                 "difference ({}, depth): {depth} with {consequents} consequents; input as hex:\n{}",
                 job.kind,
                 hex(&job.input)
+            ));
+        }
+    }
+
+    /// Where a line of the plain path comes after the line it mirrors, with the
+    /// same fields, the two agree.
+    fn hold_mirrors(&mut self, job: &Job, replies: &[script::Reply]) {
+        let lines: Vec<&[u8]> = job.input.split(|&byte| byte == b'\n').collect();
+        for two in replies.windows(2) {
+            let kind = match (two[0].call, two[1].call) {
+                (Call::Ask, Call::Plain) => "plain held to ask",
+                (Call::Context, Call::PlainContext) => "plaincontext held to context",
+                _ => continue,
+            };
+            let fields = |reply: &script::Reply| fields_of(lines[reply.line - 1]);
+            if fields(&two[0])[1..] == fields(&two[1])[1..] {
+                self.hold(job, kind, &two[0], &two[1]);
+            }
+        }
+    }
+
+    /// Where the store holds the rules of the list in hand, the bare calls agree
+    /// with the calls they stand beside.
+    fn hold_bare(&mut self, job: &Job, replies: &[script::Reply]) {
+        let Some(bare) = &job.bare else { return };
+        let at = |line: usize| replies.iter().find(|reply| reply.line == line).expect("a reply");
+        if reply_numbers(at(bare.bringing)).iter().any(|&number| number > 1) {
+            return;
+        }
+        for &(one, other) in &bare.pairs {
+            let kind = match at(other).call {
+                Call::BareAsk => "bareask held to ask",
+                Call::BareContext => "barecontext held to context",
+                _ => "barestages held to stages",
+            };
+            self.hold(job, kind, at(one), at(other));
+        }
+    }
+
+    /// Two replies that have to agree, reasons aside and with 0 in place of 3.
+    fn hold(&mut self, job: &Job, kind: &'static str, one: &script::Reply, other: &script::Reply) {
+        self.tally.count_kind(kind);
+        if plain_text(one) != other.text {
+            self.differences.push(format!(
+                "difference ({}, {kind}): lines {} and {}; input as hex:\n{}\none:\n{}other:\n{}",
+                job.kind, one.line, other.line, hex(&job.input), one.text, other.text
             ));
         }
     }
@@ -222,9 +272,24 @@ impl Findings {
     }
 }
 
+/// A reply as the plain path would give it: no reason, and 0 in place of 3.
+fn plain_text(reply: &script::Reply) -> String {
+    match reply.call {
+        Call::Ask if reply.number == 0 => {
+            format!("{}\n", reply.text.split_whitespace().next().unwrap_or(""))
+        }
+        Call::Context if reply.number == 0 => reply.text.replace('3', "0"),
+        _ => reply.text.clone(),
+    }
+}
+
+fn fields_of(line: &[u8]) -> Vec<&[u8]> {
+    line.split(|&byte| byte == b' ').filter(|field| !field.is_empty()).collect()
+}
+
 /// The reply number of a call, or those of a season's items.
 fn reply_numbers(reply: &script::Reply) -> Vec<u32> {
-    if reply.call == script::Call::Season { reply.items.clone() } else { vec![reply.number] }
+    if reply.call == Call::Season { reply.items.clone() } else { vec![reply.number] }
 }
 
 fn hex(bytes: &[u8]) -> String {

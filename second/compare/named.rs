@@ -24,6 +24,7 @@ pub fn all() -> Vec<Named> {
     cases.extend(reasons());
     cases.extend(third_word());
     cases.extend(seasons());
+    cases.extend(plain_path());
     cases
 }
 
@@ -330,6 +331,42 @@ fn seasons() -> Vec<Named> {
             "256 items in hand, and one more",
             format!("{full}rule 1 2\nopen 2 0\nseason\nlist\n"),
             format!("bad line 257\ndone\ndone 0{}\ncase 2 0 1 1\n0 nogood\n1 supported {{1}} {{2}}\n2 supported {{2}}\n", " 1".repeat(255)),
+        ),
+    ]
+}
+
+/// The plain path on the listed case and on a bare list.
+fn plain_path() -> Vec<Named> {
+    vec![
+        script(
+            "the plain path on the listed case",
+            "load 03 02 04 04 01 01 04 02 02 03 05 02 02 04 00 02 01 02\nplain 4 1\nplain 5 2 3\nplain 5 1 3\nplain 3 1 2\nplain 0 3\nplain 6\n\
+             plaincontext 3 2\nplaincontext 2 1\nplaincontext\nstages 3 2\nstages 1 2 3\nstages\nstages 1 4\nstages 0\n"
+                .to_string(),
+            "done\nsupported\nsupported\nunsupported\ninconsistent\nunsupported\nrefused 4\n\
+             0 0 1 1 1 1\n2 2 2 2 2 2\n0 0 0 0 0 0\n0 2 3\n1 2 3 4\n2 2 3 4 5\n0 1 2 3\n1 0 1 2 3 4\n2 0 1 2 3 4 5\n0\nrefused 4\nbad line 15\n"
+                .to_string(),
+        ),
+        script(
+            "never a 3 by the plain path",
+            "open 1 2\nadd 0 1\nadd 2 1\ncontext\nplaincontext\nadd 3\nstages\nstages 1\nplain 3\nplain 3 1\n".to_string(),
+            "done\ndone\ndone\n0 3 3 0\n0 0 0 0\ndone\n0\n1 3\n0 1\n1 0 1 2 3\nsupported\ninconsistent\n".to_string(),
+        ),
+        script(
+            "a bare list",
+            "barestages 0 0\nrule 0 3\nrule 3 2\nrule 2 1\nrule 4 2\nrule 2 1 1\nbarestages 1 3 1\nbareask 1 3 4 1\nbareask 1 3 4\nbarecontext 1 3\nbarecontext 1 3 1\n\
+             bareask 33 3 4\nbareask 1 97 4\nbareask 1 2 4 1\nbareask 1 3 5 1\nbareask 1 3 4 2\nbareask 1 3 4 32\nbareask 1 3 4 33\nlist\n"
+                .to_string(),
+            "0\n0 1\n1 1 2\n2 1 2 3 4\n3 0 1 2 3 4\ninconsistent\nunsupported\n0 0 0 0 0\n2 2 2 2 2\n\
+             refused 3\nrefused 3\nrefused 4\nrefused 4\nrefused 4\nrefused 4\nbad line 18\ncase 0 0 0 0\n0 nogood\n"
+                .to_string(),
+        ),
+        script(
+            "a bare list, the first faulty item decides",
+            "rule 1 2\nrule 1 1\nrule 1 0\nrule 9\nrule 1 1 1 1 1 1\nbareask 2 1 9 9\nbarecontext 1 1\nbarestages 33 0\n\
+             forget\nrule 1 1 1 1 1 1\nbarecontext 2 2\nforget\nrule 0 0\nbarestages 2 2\nforget\nrule 3\nbareask 1 1 3\nbareask 2 1 3\n"
+                .to_string(),
+            "refused 17\nrefused 17\nrefused 3\nrefused 6\nrefused 5\nrefused 4\nsupported\n".to_string(),
         ),
     ]
 }

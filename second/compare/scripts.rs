@@ -11,6 +11,15 @@ pub struct Script {
     pub kind: &'static str,
     pub bytes: Vec<u8>,
     pub group: Option<Group>,
+    pub bare: Option<Bare>,
+}
+
+/// The line (from 1) that brings all of the list in hand into the store, and
+/// the pairs of lines that agree if it does: a call on the store, and the bare
+/// call.
+pub struct Bare {
+    pub bringing: usize,
+    pub pairs: Vec<(usize, usize)>,
 }
 
 /// Which group; the lines (from 1) that bring the group's justifications and
@@ -23,8 +32,9 @@ pub struct Group {
     pub end: usize,
 }
 
-const GROUPS: usize = 370;
-const SEASONS: usize = 260;
+const GROUPS: usize = 330;
+const SEASONS: usize = 320;
+const BARE: usize = 320;
 const WAYS: u32 = 6;
 const MOST_BYTES: usize = 65_536;
 
@@ -37,9 +47,9 @@ pub fn all(r: &mut Random) -> Vec<Script> {
         one_season(r, number, &mut scripts);
     }
     let mut take = |count: u32, kind: &'static str, make: &mut dyn FnMut(u32) -> Vec<u8>| {
-        (0..count).for_each(|i| scripts.push(Script { kind, bytes: make(i), group: None }));
+        (0..count).for_each(|i| scripts.push(Script { kind, bytes: make(i), group: None, bare: None }));
     };
-    take(1400, "mixed", &mut |_| mixed(r));
+    take(1250, "mixed", &mut |_| mixed(r));
     take(600, "adding to a limit", &mut |_| adding_to_a_limit(r));
     take(340, "withdrawing to a limit", &mut |_| withdrawing_to_a_limit(r));
     take(100, "256 held", &mut |_| held_256(r));
@@ -48,6 +58,7 @@ pub fn all(r: &mut Random) -> Vec<Script> {
     take(350, "bad lines", &mut |_| bad_lines(r));
     take(70, "long loads", &mut |_| long_loads(r));
     take(60, "about 65,536 bytes", &mut |i| about_65536(r, i));
+    (0..BARE).for_each(|_| scripts.push(bare(r)));
     scripts
 }
 
@@ -60,10 +71,15 @@ struct Lines {
 }
 
 impl Lines {
-    /// Add a line as it is and hand back its number, from 1.
+    /// Add a line as it is and hand back its number, from 1. A question or
+    /// context is followed by the same one to the plain path.
     fn plain(&mut self, line: impl Into<Vec<u8>>) -> usize {
-        self.lines.push(line.into());
-        self.lines.len()
+        let line = line.into();
+        let mirror = mirrored(&line);
+        self.lines.push(line);
+        let number = self.lines.len();
+        self.lines.extend(mirror);
+        number
     }
 
     /// Add a line written in an odd but allowed way; now and then a comment or
@@ -84,6 +100,18 @@ impl Lines {
         }
         bytes
     }
+}
+
+/// The line with `plain` for `ask` or `plaincontext` for `context`.
+fn mirrored(line: &[u8]) -> Option<Vec<u8>> {
+    let spaces = line.iter().take_while(|&&byte| byte == b' ').count();
+    let word: Vec<u8> = line[spaces..].iter().copied().take_while(|&byte| byte != b' ').collect();
+    let other: &[u8] = match word.as_slice() {
+        b"ask" => b"plain",
+        b"context" => b"plaincontext",
+        _ => return None,
+    };
+    Some([&line[..spaces], other, &line[spaces + word.len()..]].concat())
 }
 
 fn oddly_spaced(r: &mut Random, line: &str) -> String {
@@ -149,7 +177,7 @@ fn one_group(r: &mut Random, number: usize, scripts: &mut Vec<Script>) {
         lines.lines.extend(end.lines.iter().cloned());
         let bytes = [lines.lines.join(&b'\n'), vec![b'\n']].concat();
         let group = Some(Group { number, bringing, numbers: vec![], end: begin });
-        scripts.push(Script { kind: "orders", bytes, group });
+        scripts.push(Script { kind: "orders", bytes, group, bare: None });
     }
 }
 
@@ -338,7 +366,7 @@ fn one_season(r: &mut Random, number: usize, scripts: &mut Vec<Script>) {
         lines.lines.extend(end.lines.iter().cloned());
         let bytes = [lines.lines.join(&b'\n'), vec![b'\n']].concat();
         let group = Some(Group { number, bringing: vec![], numbers, end: begin });
-        scripts.push(Script { kind: "season", bytes, group });
+        scripts.push(Script { kind: "season", bytes, group, bare: None });
     }
 }
 
@@ -406,7 +434,7 @@ fn note_items(r: &mut Random, items: &[Record], lines: &mut Lines) {
 fn full_hand(r: &mut Random) -> Vec<u8> {
     let mut lines = Lines::default();
     let (a, m) = (r.from_to(1, 6), r.from_to(1, 6));
-    for _ in 0..*r.pick(&[255, 256, 257, 270, 270, 270]) {
+    for _ in 0..*r.pick(&[255, 256, 257, 280, 280, 280]) {
         let record = perhaps_faulty(r, a, m);
         lines.line(r, &rule_line(&record));
     }
@@ -422,17 +450,118 @@ fn full_hand(r: &mut Random) -> Vec<u8> {
     lines.bytes(r)
 }
 
+// ---------------------------------------------------------------- bare lists
+
+/// Calls on the list in hand, beside the same calls on a store that the same
+/// list is brought into; at times the list has faulty items.
+fn bare(r: &mut Random) -> Script {
+    let case = bare_case(r);
+    let mut lines = Lines::default();
+    let mut items = case.records.clone();
+    for _ in 0..*r.pick(&[0, 0, 0, 1, 2]) {
+        let place = r.from_to(0, items.len() as u32) as usize;
+        items.insert(place, surely_faulty(r, case.last().max(1)));
+    }
+    items.truncate(256);
+    note_items(r, &items, &mut lines);
+    let bringing = bring_list(r, &case, &items, &mut lines);
+    let mut pairs = Vec::new();
+    for _ in 0..r.from_to(6, 12) {
+        pairs.push(bare_pair(r, &case, &mut lines));
+        if r.chance(45) {
+            odd_bare_call(r, &case, &mut lines);
+        }
+    }
+    lines.line(r, "list");
+    Script { kind: "bare", bytes: lines.bytes(r), group: None, bare: Some(Bare { bringing, pairs }) }
+}
+
+/// Open a store and lend it the list in hand, or load the same records; the
+/// line that brings them.
+fn bring_list(r: &mut Random, case: &Case, items: &[Record], lines: &mut Lines) -> usize {
+    if r.chance(50) && items.len() < 100 {
+        lines.line(r, &open_line(case.a, case.m));
+        return lines.line(r, "season");
+    }
+    let whole = Case { a: case.a, m: case.m, records: items.to_vec() };
+    let line = load_line(r, &whole.bytes());
+    lines.line(r, &line)
+}
+
+/// A record that is refused by 6, 4, 5 or 17.
+fn surely_faulty(r: &mut Random, last: u32) -> Record {
+    let (consequent, mut supports) = cases::own_support(r, last);
+    match r.from_to(0, 3) {
+        0 => supports = vec![r.from_to(0, last); r.from_to(5, 7) as usize],
+        1 => supports[0] = 0,
+        2 => return (last + 1, supports),
+        _ => {}
+    }
+    (consequent, supports)
+}
+
+/// Mostly small; chains for many stages; at times a long list.
+fn bare_case(r: &mut Random) -> Case {
+    match r.from_to(0, 9) {
+        0..=3 => cases::random_small(r),
+        4..=6 => cases::chain(r),
+        7 => cases::kept_short(r),
+        8 => cases::random_crowded(r),
+        _ => {
+            let count = r.from_to(100, 256);
+            cases::many_records(r, count)
+        }
+    }
+}
+
+/// A call on the store and the same call on the bare list: their lines.
+fn bare_pair(r: &mut Random, case: &Case, lines: &mut Lines) -> (usize, usize) {
+    let n = if r.chance(10) { case.last() + 1 } else { r.from_to(0, case.last()) };
+    let mut set = if r.chance(50) { wide_set(r, case.a) } else { random_set(r, case.a) };
+    set.retain(|&k| k <= 32);
+    let ((one, first), (other, counts)) = match r.from_to(0, 2) {
+        0 => (("ask", vec![n]), ("bareask", vec![case.a, case.m, n])),
+        1 => (("context", vec![]), ("barecontext", vec![case.a, case.m])),
+        _ => (("stages", vec![]), ("barestages", vec![case.a, case.m])),
+    };
+    let one = lines.line(r, &words(one, &[first, set.clone()].concat()));
+    let other = lines.line(r, &words(other, &[counts, set].concat()));
+    (one, other)
+}
+
+/// A bare call with other counts or a number out of range.
+fn odd_bare_call(r: &mut Random, case: &Case, lines: &mut Lines) {
+    let (a, m) = match r.from_to(0, 4) {
+        0 => (*r.pick(&[32, 33, 33, u32::MAX]), case.m),
+        1 => (case.a, *r.pick(&[96, 97, 97, u32::MAX])),
+        2 => (case.a, case.m.saturating_sub(1)),
+        3 => (32, 96),
+        _ => (case.a, case.m),
+    };
+    let mut set = random_set(r, case.a.min(32));
+    if r.chance(15) {
+        set.push(*r.pick(&[32, 32, 33, 0, 300]));
+    }
+    let line = match r.from_to(0, 2) {
+        0 => words("bareask", &[vec![a, m, *r.pick(&[0, case.last(), case.last() + 1, u32::MAX])], set].concat()),
+        1 => words("barecontext", &[vec![a, m], set].concat()),
+        _ => words("barestages", &[vec![a, m], set].concat()),
+    };
+    lines.line(r, &line);
+}
+
 // ---------------------------------------------------------------- calls
 
-/// A question, context, member, line or listing.
+/// A question, context, member, line, listing or the lines of a set.
 fn telling(r: &mut Random, a: u32, m: u32, lines: &mut Lines) {
     let n = random_number(r, a + m);
     let set = random_set(r, a);
-    let line = match r.from_to(0, 9) {
+    let line = match r.from_to(0, 10) {
         0..=2 => words("ask", &[&[n][..], &set].concat()),
         3..=4 => words("context", &set),
         5..=7 => words("member", &[n, *r.pick(&[0, 0, 0, 1, 1, 2, 3, 11, 12, 31, 32, 300, u32::MAX])]),
         8 => words("line", &[n]),
+        9 => words("stages", &set),
         _ => "list".to_string(),
     };
     lines.line(r, &line);
@@ -485,8 +614,9 @@ fn asking(r: &mut Random) -> Vec<u8> {
         if r.chance(25) {
             telling(r, case.a, case.m, &mut lines);
         }
-        if r.chance(25) {
-            let line = words("context", &wide_set(r, case.a));
+        if r.chance(40) {
+            let call = *r.pick(&["context", "stages"]);
+            let line = words(call, &wide_set(r, case.a));
             lines.line(r, &line);
         }
     }
@@ -705,6 +835,12 @@ const BAD_LINES: &[&str] = &[
     "forget x", "season 1", "season x", "seasons", "Season", "season #",
     "ask", "ask x", "ask 1 0", "ask 300 0", "ask 1 1 0 1", "ask 1 00", "ask 1 4294967296", "ask 1 {1}",
     "context 0", "context 1 0", "context x", "context 000", "context 4294967296", "context 300 0",
+    "plain", "plain x", "plain 1 0", "plain 1 4294967296", "plain 300 0", "Plain 1", "plaincontext 0",
+    "plaincontext x", "plaincontext 1 0", "stages 0", "stages x", "stages 1 0", "stage 1", "stages 4294967296",
+    "bareask", "bareask 1", "bareask 1 1", "bareask 1 1 1 0", "bareask 1 1 1 33", "bareask 33 97 1 33",
+    "bareask 1 1 x", "bareask 1 1 1 300", "barecontext", "barecontext 1", "barecontext 1 1 0",
+    "barecontext 32 1 33", "barecontext 1 x", "barestages", "barestages 1", "barestages 1 1 33",
+    "barestages 1 1 0", "barestages 1 4294967296", "bare 1 1",
     "member", "member 1", "member 1 2 3", "member x 0", "member 0 x", "member 0 4294967296",
     "line", "line 1 2", "line x", "line 4294967296", "line -0",
     "list 1", "list list", "list #", "listing", "list\t", "\tlist", "list\r", "\r",
@@ -758,7 +894,7 @@ fn long_loads(r: &mut Random) -> Vec<u8> {
 fn about_65536(r: &mut Random, i: u32) -> Vec<u8> {
     let mut bytes = b"open 2 1\nadd 3 1 2\n".to_vec();
     let length = MOST_BYTES - 2 + (i as usize % 5);
-    let filler = *r.pick(&["# filling\n", "          ", "ask 3 1 2\n", "line 0 \n\n\n"]);
+    let filler = *r.pick(&["# filling\n", "          ", "ask 3 1 2\nplain 3 1 2\n", "line 0 \n\n\n"]);
     while bytes.len() + filler.len() + 6 < length {
         bytes.extend(filler.bytes());
     }

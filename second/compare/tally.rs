@@ -18,12 +18,16 @@ const LOADS: usize = 1;
 const CALLS: usize = 2;
 const WITHDRAWALS: usize = 3;
 const SEASONS: usize = 4;
-const COLUMNS: [Column; 5] = [
+const PLAIN: usize = 5;
+const BARE: usize = 6;
+const COLUMNS: [Column; 7] = [
     Column { head: "files", replies: &[0, 3, 4, 5, 6, 7, 8, 9, 11, 12, 13, 14, 17] },
     Column { head: "loads", replies: &[0, 3, 4, 5, 6, 7, 8, 9, 11, 12, 13, 14, 17] },
     Column { head: "calls", replies: &[0, 1, 3, 4, 5, 6, 7, 8, 9, 16, 17] },
     Column { head: "withdraw", replies: &[0, 4, 5, 6, 8, 9, 17, 18] },
     Column { head: "season", replies: &[0, 1, 4, 5, 6, 7, 8, 9, 17] },
+    Column { head: "plain", replies: &[0, 4] },
+    Column { head: "bare", replies: &[0, 3, 4, 5, 6, 17] },
 ];
 
 const MEANINGS: [&str; 19] = [
@@ -78,6 +82,22 @@ const KINDS: &[&str] = &[
     "season of no items",
     "season of 256 items",
     "season",
+    "plain: supported",
+    "plain: unsupported",
+    "plain: inconsistent",
+    "plain: context of 2s",
+    "plain: context with 1s",
+    "plain: context of 0s",
+    "stage 0 alone",
+    "2 to 11 stages",
+    "12 stages or more",
+    "stages that end with falsity",
+    "stages that go on after falsity",
+    "plain held to ask",
+    "plaincontext held to context",
+    "bareask held to ask",
+    "barecontext held to context",
+    "barestages held to stages",
 ];
 
 #[derive(Default)]
@@ -115,6 +135,8 @@ impl Tally {
                 Call::TooLong => self.too_long += 1,
                 Call::Load => self.count(LOADS, reply.number, reply.stage),
                 Call::Season => reply.items.iter().for_each(|&number| self.count(SEASONS, number, 0)),
+                Call::Plain | Call::PlainContext | Call::Stages => self.count(PLAIN, reply.number, 0),
+                Call::BareAsk | Call::BareContext | Call::BareStages => self.count(BARE, reply.number, 0),
                 Call::Withdraw => self.count(WITHDRAWALS, reply.number, reply.stage),
                 _ => self.count(CALLS, reply.number, reply.stage),
             }

@@ -6,6 +6,7 @@ mod by_subsets;
 pub mod case_file;
 mod following;
 pub mod listing;
+pub mod plain;
 pub mod random;
 pub mod rule;
 pub mod script;

@@ -2,7 +2,8 @@
 
 use super::case_file::Fault;
 use super::listing;
-use super::rule::{inside, single, Refusal};
+use super::plain::{Plain, Word};
+use super::rule::{inside, single, Refusal, MOST_ASSUMPTIONS};
 use super::store::{Added, Answer, Item, Store};
 
 /// A longer script is not replayed at all.
@@ -26,6 +27,12 @@ pub enum Call {
     Season,
     Ask,
     Context,
+    Plain,
+    PlainContext,
+    Stages,
+    BareAsk,
+    BareContext,
+    BareStages,
     Member,
     Line,
     List,
@@ -64,6 +71,12 @@ enum Command {
     Season,
     Ask(u32, Vec<u32>),
     Context(Vec<u32>),
+    Plain(u32, Vec<u32>),
+    PlainContext(Vec<u32>),
+    Stages(Vec<u32>),
+    BareAsk(u32, u32, u32, Vec<u32>),
+    BareContext(u32, u32, Vec<u32>),
+    BareStages(u32, u32, Vec<u32>),
     Member(u32, u32),
     Line(u32),
     List,
@@ -117,11 +130,28 @@ fn read(name: &[u8], fields: &[&[u8]]) -> Option<Command> {
         (b"season", []) => Some(Command::Season),
         (b"ask", [n, set @ ..]) if !set.contains(&0) => Some(Command::Ask(*n, set.to_vec())),
         (b"context", set) if !set.contains(&0) => Some(Command::Context(set.to_vec())),
+        (b"plain", [n, set @ ..]) if !set.contains(&0) => Some(Command::Plain(*n, set.to_vec())),
+        (b"plaincontext", set) if !set.contains(&0) => Some(Command::PlainContext(set.to_vec())),
+        (b"stages", set) if !set.contains(&0) => Some(Command::Stages(set.to_vec())),
+        (b"bareask", [a, m, n, set @ ..]) if bare_set(set) => {
+            Some(Command::BareAsk(*a, *m, *n, set.to_vec()))
+        }
+        (b"barecontext", [a, m, set @ ..]) if bare_set(set) => {
+            Some(Command::BareContext(*a, *m, set.to_vec()))
+        }
+        (b"barestages", [a, m, set @ ..]) if bare_set(set) => {
+            Some(Command::BareStages(*a, *m, set.to_vec()))
+        }
         (b"member", &[n, place]) => Some(Command::Member(n, place)),
         (b"line", &[n]) => Some(Command::Line(n)),
         (b"list", []) => Some(Command::List),
         _ => None,
     }
+}
+
+/// In a bare call a set has numbers from 1 to 32 only.
+fn bare_set(set: &[u32]) -> bool {
+    set.iter().all(|&k| (1..=MOST_ASSUMPTIONS).contains(&k))
 }
 
 /// Decimal digits, leading zeros allowed, at most 4294967295.
@@ -174,6 +204,20 @@ fn run(desk: &mut Desk, line: usize, command: Command) -> Reply {
             let values = store.context(&set);
             let kind = values.as_ref().map_or("", |values| context_kind(values));
             return Reply { kind, ..reply(line, Call::Context, values.map(context_text)) };
+        }
+        Command::Plain(n, set) => return plain_ask(line, Call::Plain, Ok(store.plain()), n, &set),
+        Command::PlainContext(set) => {
+            return plain_context(line, Call::PlainContext, Ok(store.plain()), &set)
+        }
+        Command::Stages(set) => return plain_lines(line, Call::Stages, Ok(store.plain()), &set),
+        Command::BareAsk(a, m, n, set) => {
+            return plain_ask(line, Call::BareAsk, Plain::of_list(a, m, list), n, &set)
+        }
+        Command::BareContext(a, m, set) => {
+            return plain_context(line, Call::BareContext, Plain::of_list(a, m, list), &set)
+        }
+        Command::BareStages(a, m, set) => {
+            return plain_lines(line, Call::BareStages, Plain::of_list(a, m, list), &set)
         }
         Command::Member(n, place) => {
             let set = store.member(n, place);
@@ -291,5 +335,54 @@ fn context_kind(values: &[u8]) -> &'static str {
         (false, true) => "context with 3s and no 1",
         (true, false) => "context with 1s and no 3",
         (false, false) => "context of 0s",
+    }
+}
+
+/// A question to the plain path.
+fn plain_ask(line: usize, call: Call, plain: Result<Plain, Refusal>, n: u32, set: &[u32]) -> Reply {
+    let answer = plain.and_then(|plain| plain.ask(n, set));
+    let kind = match answer {
+        Ok(Word::Supported) => "plain: supported",
+        Ok(Word::Unsupported) => "plain: unsupported",
+        Ok(Word::Inconsistent) => "plain: inconsistent",
+        Err(_) => "",
+    };
+    let text = answer.map(|word| match word {
+        Word::Supported => "supported\n".to_string(),
+        Word::Unsupported => "unsupported\n".to_string(),
+        Word::Inconsistent => "inconsistent\n".to_string(),
+    });
+    Reply { kind, ..reply(line, call, text) }
+}
+
+/// A context by the plain path.
+fn plain_context(line: usize, call: Call, plain: Result<Plain, Refusal>, set: &[u32]) -> Reply {
+    let values = plain.and_then(|plain| plain.context(set));
+    let kind = match &values {
+        Ok(values) if values.contains(&2) => "plain: context of 2s",
+        Ok(values) if values.contains(&1) => "plain: context with 1s",
+        Ok(_) => "plain: context of 0s",
+        Err(_) => "",
+    };
+    Reply { kind, ..reply(line, call, values.map(context_text)) }
+}
+
+/// The lines of the plain path.
+fn plain_lines(line: usize, call: Call, plain: Result<Plain, Refusal>, set: &[u32]) -> Reply {
+    let text = plain.and_then(|plain| plain.lines(set));
+    let kind = text.as_ref().map_or("", |text| lines_kind(text));
+    Reply { kind, ..reply(line, call, text) }
+}
+
+/// The kind of the lines: how many, and whether falsity is the last to follow.
+fn lines_kind(text: &str) -> &'static str {
+    let lines: Vec<&str> = text.lines().collect();
+    let falsity = lines.iter().position(|line| line.split(' ').nth(1) == Some("0"));
+    match falsity {
+        _ if lines.len() >= 12 => "12 stages or more",
+        None if lines.len() == 1 => "stage 0 alone",
+        None => "2 to 11 stages",
+        Some(place) if place + 1 == lines.len() => "stages that end with falsity",
+        Some(_) => "stages that go on after falsity",
     }
 }

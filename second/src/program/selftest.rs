@@ -64,6 +64,21 @@ const BY_HAND: &[(&str, &str)] = &[
         "done\ndone\ndone 0 1 17 4 5 6 0\n3 supported {1} {2}\ndone\ndone 0 1 17 0 5 6 0\n3 supported {1} {2} {3}\n\
          done\nbad line 17\nbad line 18\nbad line 19\n",
     ),
+    // The plain path on the listed case; falsity follows at stage 1 and the rest goes on.
+    (
+        "load 03 02 04 04 01 01 04 02 02 03 05 02 02 04 00 02 01 02\nplain 5 2 3\nplain 4 3\nplain 5 1 2\nplain 0 1\nplain 6\nplain 5 4\n\
+         plaincontext 2 3\nplaincontext\nplaincontext 1 2\nstages 2 3\nstages\nstages 1 2\nstages 4",
+        "done\nsupported\nunsupported\ninconsistent\nunsupported\nrefused 4\nrefused 4\n\
+         0 0 1 1 1 1\n0 0 0 0 0 0\n2 2 2 2 2 2\n0 2 3\n1 2 3 4\n2 2 3 4 5\n0\n0 1 2\n1 0 1 2 4\n2 0 1 2 4 5\nrefused 4\n",
+    ),
+    // A bare list: 3, the items in their order, then what was asked; the store is not looked at.
+    (
+        "rule 2 1\nrule 3 2 2\nrule 2 1\nbareask 1 2 3 1\nbareask 1 2 3\nbarecontext 1 2 1\nbarestages 1 2 1\nbarestages 1 2\n\
+         bareask 33 97 9 1\nbareask 1 1 3 1\nbareask 1 2 4 1\nbarestages 1 2 2\nbareask 1 2 3 33\nbareask 1 2 3 0\n\
+         rule 9 0\nrule 1 1 1 1 1 1\nbareask 1 2 9 1\nforget\nrule 1 1\nrule 0 0\nbarecontext 1 2 1",
+        "supported\nunsupported\n0 1 1 1\n0 1\n1 1 2\n2 1 2 3\n0\n\
+         refused 3\nrefused 4\nrefused 4\nrefused 4\nbad line 13\nbad line 14\nrefused 4\nrefused 17\n",
+    ),
     // Depth 2 with two consequents, 3 with falsity too; two more rules for them add no stage.
     (
         "open 1 2\nadd 2 1\nadd 3 2\nadd 3 1 2\nadd 2\nlist\nadd 0 3\nlist",

@@ -1,6 +1,7 @@
 //! The store and its calls.
 
 use super::following::{at_stage_zero, from_all, next_stage, Follows};
+use super::plain::Plain;
 use super::rule::{inside, single, Refusal, Rule, Set};
 use super::rule::{MOST_ASSUMPTIONS, MOST_CLAIMS, MOST_HELD, MOST_SUPPORTS};
 use super::stages::{judge, Judged};
@@ -133,6 +134,11 @@ impl Store {
         follows
     }
 
+    /// The justifications held, to be followed with no labels.
+    pub fn plain(&self) -> Plain {
+        Plain::of_rules(self.a, self.m, self.held.iter().cloned().collect())
+    }
+
     /// The highest number: A+M.
     pub fn last(&self) -> u32 {
         self.a + self.m
@@ -176,7 +182,7 @@ fn first_within(set: Set, list: &[Set]) -> Option<Set> {
     list.iter().copied().find(|&member| inside(member, set))
 }
 
-fn refuse_if(fault: bool, number: u32) -> Result<(), Refusal> {
+pub fn refuse_if(fault: bool, number: u32) -> Result<(), Refusal> {
     if fault { Err(Refusal::plain(number)) } else { Ok(()) }
 }
 
