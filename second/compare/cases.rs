@@ -559,7 +559,7 @@ pub fn near_both_limits(r: &mut Random) -> Case {
 /// limit or over it, at a stage from 1 to 4.
 pub fn kept_short(r: &mut Random) -> Case {
     let mut b = Builder::new(r.from_to(15, 24));
-    let delay = r.from_to(0, 3);
+    let delay = *r.pick(&[0, 1, 1, 2, 2, 3]);
     match r.from_to(0, 3) {
         0 => label_short_by_premise(r, &mut b, delay),
         1 => label_short_by_nogoods(r, &mut b, delay),

@@ -26,8 +26,9 @@ fault() {
     rustc -O --edition 2021 -A warnings -o "$work/faulty" "$work/src/main.rs"
     printf '#!/bin/sh\nexec %s/faulty list\n' "$work" > "$work/list.sh"
     printf '#!/bin/sh\nexec %s/faulty replay\n' "$work" > "$work/replay.sh"
-    chmod +x "$work/list.sh" "$work/replay.sh"
-    if "$compare" "$work/list.sh" "$work/replay.sh" "$second" "$seed" > "$work/out"; then
+    printf '#!/bin/sh\nexec %s/faulty rewrite\n' "$work" > "$work/rewrite.sh"
+    chmod +x "$work/list.sh" "$work/replay.sh" "$work/rewrite.sh"
+    if "$compare" "$work/list.sh" "$work/replay.sh" "$second" "$seed" "$work/rewrite.sh" > "$work/out"; then
         echo "$name: NOT SEEN"; missed=1
     else
         echo "$name: $(tail -n 1 "$work/out")"
@@ -111,5 +112,10 @@ fault "plain: one line more" plain.rs 's/^                return stages;/       
 fault "plain: a consequent too large before the faults of earlier items" plain.rs \
     's/^        check_counts(a, m)?;/        check_counts(a, m)?; if items.iter().any(|item| item.0 > a + m) { return Err(Refusal::plain(4)); }/'
 fault "plain: falsity supported" plain.rs 's/if follows\[0\] {/if follows[0] \&\& n > 0 {/'
+fault "written: 128 in one byte" writing.rs 's/if n < 128 {/if n <= 128 {/'
+fault "written: by supports before their number" rule.rs \
+    's/(self.consequent, self.supports.len(), &self.supports)/(self.consequent, 0, \&self.supports)/;s/(other.consequent, other.supports.len(), &other.supports)/(other.consequent, 0, \&other.supports)/'
+fault "written: a refused file is handed back" writing.rs \
+    's/listing::load(input).map(|store| file_of(&store))/listing::load(input).map(|store| file_of(\&store)).or_else(|fault| if fault.refusal.number == 13 { Ok(input.to_vec()) } else { Err(fault) })/'
 rm -rf "$work"
 if [ $missed = 0 ]; then echo "all faults seen"; else echo "faults.sh: FAILED"; exit 1; fi

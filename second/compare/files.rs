@@ -12,13 +12,13 @@ pub struct File {
 /// All files, no two of them alike.
 pub fn all(r: &mut Random) -> Vec<File> {
     let mut files = Files { files: Vec::new(), seen: HashSet::new() };
-    files.take(4400, "small", |_| cases::random_small(r).bytes());
+    files.take(3800, "small", |_| cases::random_small(r).bytes());
     files.take(1100, "middle", |_| cases::random_middle(r).bytes());
     files.take(700, "large", |_| cases::random_large(r).bytes());
     files.take(900, "crowded", |_| cases::random_crowded(r).bytes());
-    files.take(700, "chain", |_| cases::chain(r).bytes());
-    files.take(1600, "label limit", |_| cases::near_label_limit(r).bytes());
-    files.take(1600, "nogood limit", |_| cases::near_nogood_limit(r).bytes());
+    files.take(600, "chain", |_| cases::chain(r).bytes());
+    files.take(1400, "label limit", |_| cases::near_label_limit(r).bytes());
+    files.take(1400, "nogood limit", |_| cases::near_nogood_limit(r).bytes());
     files.take(500, "both limits", |_| cases::near_both_limits(r).bytes());
     files.take(600, "long working list", |_| cases::long_working_list(r).bytes());
     files.take(500, "counts", |i| counts(r, i));
@@ -26,10 +26,19 @@ pub fn all(r: &mut Random) -> Vec<File> {
     files.take(900, "record fault", |i| record_fault(r, i));
     files.take(300, "number form", |_| number_form(r));
     files.take(400, "bytes after", |_| bytes_after(r));
-    files.take(2200, "damaged", |_| damaged(r));
+    files.take(2000, "damaged", |_| damaged(r));
     files.take(400, "about 4,096 bytes", |i| about_4096(r, i));
-    files.cut(1800, r);
+    files.cut(1600, r);
     files.files
+}
+
+/// The files with faults at a certain place, and some of the others.
+pub fn to_rewrite(file: &File, place: usize) -> bool {
+    match file.kind {
+        "counts" | "header" | "record fault" | "number form" | "bytes after" | "about 4,096 bytes" => true,
+        "label limit" | "nogood limit" => place % 4 == 0,
+        _ => place % 7 == 0,
+    }
 }
 
 struct Files {

@@ -6,11 +6,28 @@ use std::process::{Command, Stdio};
 use std::sync::mpsc;
 use std::time::Duration;
 
-/// Which of the two programs an input is for.
+/// Which of the programs an input is for.
 #[derive(Clone, Copy, Debug, PartialEq, Eq)]
 pub enum Program {
     List,
     Replay,
+    Rewrite,
+}
+
+impl Program {
+    /// The word that asks the second program for it.
+    pub fn word(self) -> &'static str {
+        match self {
+            Program::List => "list",
+            Program::Replay => "replay",
+            Program::Rewrite => "rewrite",
+        }
+    }
+}
+
+/// What a program printed on standard output and on standard error, as one.
+pub fn both(output: &[u8], errors: &[u8]) -> Vec<u8> {
+    [output, b"\nstandard error:\n", errors].concat()
 }
 
 /// One input: what kind it is, the reply if it is known beforehand, and of a
@@ -27,24 +44,33 @@ pub struct Job {
 /// No call of the product takes so long.
 const PATIENCE: Duration = Duration::from_secs(60);
 
-/// Run a program on an input and hand back all it printed.
-pub fn run(program: &str, words: &[&str], input: &[u8]) -> Result<Vec<u8>, String> {
+/// Run a program on an input and hand back all it printed; of rewriting also
+/// what it printed on standard error.
+pub fn run(program: &str, words: &[&str], input: &[u8], job: Program) -> Result<Vec<u8>, String> {
+    let rewriting = job == Program::Rewrite;
     let mut child = Command::new(program)
         .args(words)
         .stdin(Stdio::piped())
         .stdout(Stdio::piped())
-        .stderr(Stdio::null())
+        .stderr(if rewriting { Stdio::piped() } else { Stdio::null() })
         .spawn()
         .map_err(|error| format!("{program} does not start: {error}"))?;
     let mut stdin = child.stdin.take().expect("a pipe to the program");
     let mut stdout = child.stdout.take().expect("a pipe from the program");
+    let mut stderr = child.stderr.take();
     let input = input.to_vec();
     // It may stop reading early, as with input that is too long: no matter.
     std::thread::spawn(move || drop(stdin.write_all(&input)));
     let (send, receive) = mpsc::channel();
     std::thread::spawn(move || {
         let mut output = Vec::new();
-        let read = stdout.read_to_end(&mut output);
+        let mut read = stdout.read_to_end(&mut output);
+        if let Some(stderr) = &mut stderr {
+            // It prints one line at most there, so that it never waits for us.
+            let mut errors = Vec::new();
+            read = read.and(stderr.read_to_end(&mut errors));
+            output = both(&output, &errors);
+        }
         drop(send.send(read.map(|_| output)));
     });
     let output = receive.recv_timeout(PATIENCE);

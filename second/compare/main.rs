@@ -1,10 +1,11 @@
-//! Compares a product's two programs with the second program, byte for byte,
-//! on thousands of inputs made from a seed.
+//! Compares a product's programs with the second program, byte for byte, on
+//! thousands of inputs made from a seed.
 //!
-//!   compare OURS_LIST OURS_REPLAY SECOND SEED
+//!   compare OURS_LIST OURS_REPLAY SECOND SEED [OURS_REWRITE]
 //!
 //! OURS_LIST lists a case file from standard input, OURS_REPLAY replays a
-//! script. The second program is built in; the program SECOND itself is run
+//! script, OURS_REWRITE writes a case file in canonical form; without it the
+//! rewriting of the second program alone is looked at. The second program is built in; the program SECOND itself is run
 //! on the named cases and on some of the others, to see that it is the same.
 //!
 //! Build: rustc -O --edition 2021 -o compare compare/main.rs
@@ -23,13 +24,13 @@ use jobs::{Job, Program};
 use program::random::Random;
 use scripts::Script;
 use program::script::Call;
-use program::{listing, script};
+use program::{listing, script, writing};
 use std::collections::HashMap;
 use std::sync::atomic::{AtomicUsize, Ordering};
 use tally::Tally;
 
 const WORKERS: usize = 2;
-const LEAST_FILES: usize = 16_000;
+const LEAST_FILES: usize = 15_000;
 const LEAST_SCRIPTS: usize = 5_000;
 const LEAST_GROUPS: usize = 100;
 /// One in so many inputs also goes to the program SECOND.
@@ -42,6 +43,18 @@ struct Paths {
     list: String,
     replay: String,
     second: String,
+    rewrite: Option<String>,
+}
+
+impl Paths {
+    /// The product's program for a job, if it was handed in.
+    fn ours(&self, program: Program) -> Option<&str> {
+        match program {
+            Program::List => Some(&self.list),
+            Program::Replay => Some(&self.replay),
+            Program::Rewrite => self.rewrite.as_deref(),
+        }
+    }
 }
 
 /// What a worker found.
@@ -59,14 +72,15 @@ struct Findings {
 fn main() {
     let words: Vec<String> = std::env::args().skip(1).collect();
     let seed = words.get(3).and_then(|word| word.parse::<u64>().ok());
-    let (4, Some(seed)) = (words.len(), seed) else {
-        eprintln!("use: compare OURS_LIST OURS_REPLAY SECOND SEED");
+    let (4..=5, Some(seed)) = (words.len(), seed) else {
+        eprintln!("use: compare OURS_LIST OURS_REPLAY SECOND SEED [OURS_REWRITE]");
         std::process::exit(2);
     };
     let paths = Paths {
         list: words[0].clone(),
         replay: words[1].clone(),
         second: words[2].clone(),
+        rewrite: words.get(4).cloned(),
     };
     let jobs = all_jobs(seed);
     let findings = work(&paths, &jobs);
@@ -77,11 +91,15 @@ fn main() {
 fn all_jobs(seed: u64) -> Vec<Job> {
     let mut jobs = Vec::new();
     for case in named::all() {
-        let expected = Some(case.expected.into_bytes());
+        let expected = Some(case.expected);
         jobs.push(Job { kind: case.name, program: case.program, input: case.input, expected, group: None, bare: None });
     }
     let named = jobs.len();
-    for file in files::all(&mut Random::new(seed)) {
+    for (place, file) in files::all(&mut Random::new(seed)).into_iter().enumerate() {
+        if files::to_rewrite(&file, place) {
+            let (kind, program, input) = (file.kind, Program::Rewrite, file.bytes.clone());
+            jobs.push(Job { kind, program, input, expected: None, group: None, bare: None });
+        }
         jobs.push(Job { kind: file.kind, program: Program::List, input: file.bytes, expected: None, group: None, bare: None });
     }
     for script in scripts::all(&mut Random::new(!seed)) {
@@ -135,22 +153,24 @@ fn one_job(paths: &Paths, job: &Job, sampled: bool, findings: &mut Findings) {
             findings.keep_end(job, &replies);
             findings.hold_mirrors(job, &replies);
             findings.hold_bare(job, &replies);
+            findings.hold_written(job, &replies);
             script::text_of(&replies)
         }
+        Program::Rewrite => findings.rewritten(job),
     };
     if let Some(expected) = &job.expected {
         findings.judge(job, "the document", Ok(expected.clone()), "second", &second);
     }
     if sampled {
-        let word = if job.program == Program::List { "list" } else { "replay" };
-        let program = jobs::run(&paths.second, &[word], &job.input);
+        let program = jobs::run(&paths.second, &[job.program.word()], &job.input, job.program);
         findings.judge(job, "the program SECOND", program, "second", &second);
         findings.sampled += 1;
     }
-    let path = if job.program == Program::List { &paths.list } else { &paths.replay };
-    let ours = jobs::run(path, &[], &job.input);
-    findings.judge(job, "ours", ours, "second", &second);
-    findings.compared += 1;
+    if let Some(path) = paths.ours(job.program) {
+        let ours = jobs::run(path, &[], &job.input, job.program);
+        findings.judge(job, "ours", ours, "second", &second);
+        findings.compared += 1;
+    }
 }
 
 impl Findings {
@@ -158,7 +178,7 @@ impl Findings {
     fn judge(&mut self, job: &Job, one: &str, output: Result<Vec<u8>, String>, two: &str, other: &[u8]) {
         let said = match output {
             Ok(output) if output == other => return,
-            Ok(output) => String::from_utf8_lossy(&output).into_owned(),
+            Ok(output) => shown(job.program, &output),
             Err(trouble) => format!("({trouble})\n"),
         };
         self.differences.push(format!(
@@ -166,7 +186,7 @@ impl Findings {
             job.kind,
             job.program,
             hex(&job.input),
-            String::from_utf8_lossy(other)
+            shown(job.program, other)
         ));
     }
 
@@ -228,6 +248,45 @@ impl Findings {
         }
     }
 
+    /// What rewriting prints. Written, it lists as the file did, and it is
+    /// written again as it is.
+    fn rewritten(&mut self, job: &Job) -> Vec<u8> {
+        let written = writing::rewrite(&job.input);
+        self.tally.count_rewriting(&written);
+        match written {
+            Ok(bytes) => {
+                let listed = listing::list(&bytes).text == listing::list(&job.input).text;
+                let again = writing::rewrite(&bytes).is_ok_and(|again| again == bytes);
+                self.hold_true(job, "the file written lists alike", listed);
+                self.hold_true(job, "a file written is written again as it is", again);
+                jobs::both(&bytes, b"")
+            }
+            Err(fault) => jobs::both(b"", listing::refusal_line(&fault).as_bytes()),
+        }
+    }
+
+    /// Where a store is listed and then written, what was written lists alike.
+    fn hold_written(&mut self, job: &Job, replies: &[script::Reply]) {
+        for two in replies.windows(2) {
+            if (two[0].call, two[1].call) == (Call::List, Call::Write) {
+                let listed = listing::list(&bytes_of_hex(&two[1].text)).text;
+                self.hold_true(job, "the file written by a script lists alike", listed == two[0].text.as_bytes());
+            }
+        }
+    }
+
+    /// Count a thing that has to be true, and note where it is not.
+    fn hold_true(&mut self, job: &Job, kind: &'static str, fine: bool) {
+        self.tally.count_kind(kind);
+        if !fine {
+            self.differences.push(format!(
+                "difference ({}): not so: {kind}; input as hex:\n{}",
+                job.kind,
+                hex(&job.input)
+            ));
+        }
+    }
+
     /// Keep the common end of a script of a group if all that was to be brought
     /// in was done or already held, and all to be withdrawn is not held.
     fn keep_end(&mut self, job: &Job, replies: &[script::Reply]) {
@@ -283,6 +342,18 @@ fn plain_text(reply: &script::Reply) -> String {
     }
 }
 
+/// An output as text; that of rewriting as hex.
+fn shown(program: Program, output: &[u8]) -> String {
+    if program == Program::Rewrite {
+        return hex(output) + "\n";
+    }
+    String::from_utf8_lossy(output).into_owned()
+}
+
+fn bytes_of_hex(text: &str) -> Vec<u8> {
+    text.split_whitespace().filter_map(|word| u8::from_str_radix(word, 16).ok()).collect()
+}
+
 fn fields_of(line: &[u8]) -> Vec<&[u8]> {
     line.split(|&byte| byte == b' ').filter(|field| !field.is_empty()).collect()
 }
@@ -303,8 +374,9 @@ fn report(seed: u64, jobs: &[Job], findings: &Findings) -> i32 {
     }
     let named = jobs.iter().filter(|job| job.expected.is_some()).count();
     let scripts = jobs.iter().filter(|job| job.expected.is_none() && job.program == Program::Replay).count();
-    let files = jobs.len() - named - scripts;
-    println!("seed {seed}: {named} named cases, {files} files, {scripts} scripts");
+    let rewritten = jobs.iter().filter(|job| job.expected.is_none() && job.program == Program::Rewrite).count();
+    let files = jobs.len() - named - scripts - rewritten;
+    println!("seed {seed}: {named} named cases, {files} files, {rewritten} of them to rewrite, {scripts} scripts");
     println!("{} inputs also went to the program SECOND", findings.sampled);
     println!("{} groups of scripts: the same justifications in several orders", findings.groups_compared("orders"));
     println!("{} pairs of scripts: a season, and its items added one by one", findings.groups_compared("season"));

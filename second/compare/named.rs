@@ -1,13 +1,13 @@
 //! The named cases, each with its reply written out from the documents.
 
 use crate::cases::{number, Case};
-use crate::jobs::Program;
+use crate::jobs::{both, Program};
 
 pub struct Named {
     pub name: &'static str,
     pub program: Program,
     pub input: Vec<u8>,
-    pub expected: String,
+    pub expected: Vec<u8>,
 }
 
 pub fn all() -> Vec<Named> {
@@ -25,15 +25,20 @@ pub fn all() -> Vec<Named> {
     cases.extend(third_word());
     cases.extend(seasons());
     cases.extend(plain_path());
+    cases.extend(written());
     cases
 }
 
 fn file(name: &'static str, input: Vec<u8>, expected: &str) -> Named {
-    Named { name, program: Program::List, input, expected: expected.to_string() }
+    Named { name, program: Program::List, input, expected: expected.as_bytes().to_vec() }
 }
 
 fn script(name: &'static str, input: String, expected: String) -> Named {
-    Named { name, program: Program::Replay, input: input.into_bytes(), expected }
+    Named { name, program: Program::Replay, input: input.into_bytes(), expected: expected.into_bytes() }
+}
+
+fn rewriting(name: &'static str, input: Vec<u8>, output: &[u8], errors: &str) -> Named {
+    Named { name, program: Program::Rewrite, input, expected: both(output, errors.as_bytes()) }
 }
 
 /// The listing line of each of the first `last` assumptions, alone.
@@ -368,5 +373,34 @@ fn plain_path() -> Vec<Named> {
                 .to_string(),
             "refused 17\nrefused 17\nrefused 3\nrefused 6\nrefused 5\nrefused 4\nsupported\n".to_string(),
         ),
+    ]
+}
+
+/// Case files written by us: in order, each once, in the shortest form.
+fn written() -> Vec<Named> {
+    let listed = vec![3, 2, 4, 4, 1, 1, 4, 2, 2, 3, 5, 2, 2, 4, 0, 2, 1, 2];
+    let ordered = vec![3, 2, 4, 0, 2, 1, 2, 4, 1, 1, 4, 2, 2, 3, 5, 2, 2, 4];
+    vec![
+        script(
+            "the listed case, written",
+            "load 03 02 04 04 01 01 04 02 02 03 05 02 02 04 00 02 01 02\nwrite\nwithdraw 4 1\nwrite\nwrite 1\n".to_string(),
+            "done\n03 02 04 00 02 01 02 04 01 01 04 02 02 03 05 02 02 04\ndone\n03 02 03 00 02 01 02 04 02 02 03 05 02 02 04\nbad line 5\n"
+                .to_string(),
+        ),
+        script(
+            "written in order, 127 and 128 in their shortest form",
+            "write\nopen 32 96\nwrite\nadd 128 127\nadd 127 5 3 4 3\nadd 127 32 1\nadd 127 31 2\nadd 127 128\nadd 127\nadd 128 127 127\nwrite\n".to_string(),
+            "00 00 00\ndone\n20 60 00\ndone\ndone\ndone\ndone\ndone\ndone\nalready held\n\
+             20 60 06 7f 00 7f 01 80 01 7f 02 01 20 7f 02 02 1f 7f 03 03 04 05 80 01 01 7f\n"
+                .to_string(),
+        ),
+        rewriting("the listed case, rewritten", listed, &ordered, ""),
+        rewriting("a canonical file, rewritten", ordered.clone(), &ordered, ""),
+        rewriting("repeated records and supports, rewritten", vec![2, 1, 3, 3, 2, 2, 1, 3, 3, 1, 2, 1, 3, 0], &[2, 1, 2, 3, 0, 3, 2, 1, 2], ""),
+        rewriting("nothing held, rewritten", vec![0, 0, 0], &[0, 0, 0], ""),
+        rewriting("empty input, rewritten", vec![], &[], "refused 11 0\n"),
+        rewriting("its own reason, rewritten", vec![1, 1, 2, 2, 1, 1, 2, 1, 2], &[], "refused 17 2\n"),
+        rewriting("thirteen singles, rewritten", singles_case(1, 13, &[]), &[], "refused 8 13\n"),
+        rewriting("4,097 bytes, rewritten", vec![0; 4097], &[], "refused 14 0\n"),
     ]
 }

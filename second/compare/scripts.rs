@@ -325,6 +325,7 @@ fn thirty_six_pairs() -> Case {
 fn common_end(r: &mut Random, case: &Case) -> Lines {
     let mut lines = Lines::default();
     lines.plain("list");
+    lines.plain("write");
     for _ in 0..r.from_to(1, 5) {
         telling(r, case.a, case.m, &mut lines);
     }
@@ -346,7 +347,7 @@ fn common_end(r: &mut Random, case: &Case) -> Lines {
 fn one_season(r: &mut Random, number: usize, scripts: &mut Vec<Script>) {
     let (case, items) = season_items(r);
     let start = season_start(r, &case);
-    let rounds = *r.pick(&[1, 1, 2, 3]);
+    let rounds = *r.pick(&[1, 2, 2, 3]);
     let end = common_end(r, &case);
     for at_once in [true, false] {
         let mut lines = Lines::default();
@@ -473,6 +474,7 @@ fn bare(r: &mut Random) -> Script {
         }
     }
     lines.line(r, "list");
+    lines.line(r, "write");
     Script { kind: "bare", bytes: lines.bytes(r), group: None, bare: Some(Bare { bringing, pairs }) }
 }
 
@@ -556,12 +558,13 @@ fn odd_bare_call(r: &mut Random, case: &Case, lines: &mut Lines) {
 fn telling(r: &mut Random, a: u32, m: u32, lines: &mut Lines) {
     let n = random_number(r, a + m);
     let set = random_set(r, a);
-    let line = match r.from_to(0, 10) {
+    let line = match r.from_to(0, 11) {
         0..=2 => words("ask", &[&[n][..], &set].concat()),
         3..=4 => words("context", &set),
         5..=7 => words("member", &[n, *r.pick(&[0, 0, 0, 1, 1, 2, 3, 11, 12, 31, 32, 300, u32::MAX])]),
         8 => words("line", &[n]),
         9 => words("stages", &set),
+        10 => "write".to_string(),
         _ => "list".to_string(),
     };
     lines.line(r, &line);
@@ -791,14 +794,15 @@ fn withdrawing_to_a_limit(r: &mut Random) -> Vec<u8> {
     lines.bytes(r)
 }
 
-/// From just below 256 held to full: held ones, new ones and faulty ones, and
+/// Mostly from just below 256 held to full: held ones, new ones and faulty ones, and
 /// new ones in the place of one withdrawn.
 fn held_256(r: &mut Random) -> Vec<u8> {
     let mut lines = Lines::default();
-    let count = *r.pick(&[252, 254, 255, 256, 256, 256]);
+    let count = *r.pick(&[127, 128, 254, 255, 256, 256, 256, 256]);
     let case = cases::many_records(r, count);
     let line = load_line(r, &case.bytes());
     lines.line(r, &line);
+    lines.line(r, "write");
     for _ in 0..12 {
         let record = match r.from_to(0, 3) {
             0 => r.pick(&case.records).clone(),
@@ -810,12 +814,14 @@ fn held_256(r: &mut Random) -> Vec<u8> {
     for _ in 0..6 {
         let out = r.pick(&case.records).clone();
         let line = withdraw_line(&cases::respelled(r, &out));
-        for record in [cases::floating(r, case.a, case.m), cases::floating(r, case.a, case.m)] {
-            lines.line(r, &add_line(&record));
-        }
+        let (one, other) = (cases::floating(r, case.a, case.m), cases::floating(r, case.a, case.m));
+        lines.line(r, &add_line(&one));
+        lines.line(r, "write");
+        lines.line(r, &add_line(&other));
         lines.line(r, &line);
     }
     lines.line(r, "list");
+    lines.line(r, "write");
     lines.bytes(r)
 }
 
@@ -843,6 +849,7 @@ const BAD_LINES: &[&str] = &[
     "barestages 1 1 0", "barestages 1 4294967296", "bare 1 1",
     "member", "member 1", "member 1 2 3", "member x 0", "member 0 x", "member 0 4294967296",
     "line", "line 1 2", "line x", "line 4294967296", "line -0",
+    "write 1", "write x", "writes", "Write", "write #",
     "list 1", "list list", "list #", "listing", "list\t", "\tlist", "list\r", "\r",
 ];
 

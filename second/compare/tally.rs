@@ -1,5 +1,6 @@
 //! How often each reply came, the table, and the quotas.
 
+use crate::program::case_file::Fault;
 use crate::program::listing::Listed;
 use crate::program::script::{Call, Reply};
 use std::collections::BTreeMap;
@@ -20,7 +21,8 @@ const WITHDRAWALS: usize = 3;
 const SEASONS: usize = 4;
 const PLAIN: usize = 5;
 const BARE: usize = 6;
-const COLUMNS: [Column; 7] = [
+const REWRITES: usize = 7;
+const COLUMNS: [Column; 8] = [
     Column { head: "files", replies: &[0, 3, 4, 5, 6, 7, 8, 9, 11, 12, 13, 14, 17] },
     Column { head: "loads", replies: &[0, 3, 4, 5, 6, 7, 8, 9, 11, 12, 13, 14, 17] },
     Column { head: "calls", replies: &[0, 1, 3, 4, 5, 6, 7, 8, 9, 16, 17] },
@@ -28,6 +30,7 @@ const COLUMNS: [Column; 7] = [
     Column { head: "season", replies: &[0, 1, 4, 5, 6, 7, 8, 9, 17] },
     Column { head: "plain", replies: &[0, 4] },
     Column { head: "bare", replies: &[0, 3, 4, 5, 6, 17] },
+    Column { head: "rewrite", replies: &[0, 3, 4, 5, 6, 7, 8, 9, 11, 12, 13, 14, 17] },
 ];
 
 const MEANINGS: [&str; 19] = [
@@ -98,6 +101,13 @@ const KINDS: &[&str] = &[
     "bareask held to ask",
     "barecontext held to context",
     "barestages held to stages",
+    "written: nothing held",
+    "written: a count of one byte",
+    "written: a count of two bytes",
+    "written: 256 held",
+    "the file written by a script lists alike",
+    "the file written lists alike",
+    "a file written is written again as it is",
 ];
 
 #[derive(Default)]
@@ -143,6 +153,11 @@ impl Tally {
         }
         replies.windows(4).for_each(|four| self.count_there_and_back(four));
         replies.windows(3).for_each(|three| self.count_freed_place(three));
+    }
+
+    pub fn count_rewriting(&mut self, written: &Result<Vec<u8>, Fault>) {
+        let number = written.as_ref().map_or_else(|fault| fault.refusal.number, |_| 0);
+        self.count(REWRITES, number, 0);
     }
 
     fn count(&mut self, column: usize, number: u32, stage: u32) {
@@ -223,8 +238,8 @@ impl Tally {
         };
         for (place, Column { head, replies }) in COLUMNS.iter().enumerate() {
             replies.iter().for_each(|&i| want(format!("reply {i} in {head}"), self.counts[place][i]));
-            // The stage behind an item's reply is not told.
-            for &i in replies.iter().filter(|&&i| (i == 8 || i == 9) && place != SEASONS) {
+            // The stage behind the replies of the later columns is not counted.
+            for &i in replies.iter().filter(|&&i| (i == 8 || i == 9) && place < SEASONS) {
                 want(format!("reply {i} above stage 1 in {head}"), self.late[place][i]);
             }
         }

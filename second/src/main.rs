@@ -2,6 +2,8 @@
 //!
 //!   second list      a case file on standard input, its listing on standard output
 //!   second replay    a script on standard input, the replies on standard output
+//!   second rewrite   a case file on standard input, the same in canonical form on
+//!                    standard output, or the refusal's line on standard error
 //!   second selftest  the two ways of finding the stages, one against the other
 //!
 //! Build: rustc -O --edition 2021 -o second src/main.rs
@@ -10,7 +12,7 @@
 #[allow(dead_code)]
 mod program;
 
-use program::{listing, script, selftest};
+use program::{listing, script, selftest, writing};
 use std::io::{Read, Write};
 
 fn main() {
@@ -19,12 +21,16 @@ fn main() {
         // One byte more than the limit is read, so that "too many" shows.
         Some("list") => tell(&listing::list(&input(listing::MOST_BYTES + 1)).text),
         Some("replay") => tell(&script::text_of(&script::replay(&input(script::MOST_BYTES + 1)))),
+        Some("rewrite") => match writing::rewrite(&input(listing::MOST_BYTES + 1)) {
+            Ok(bytes) => tell(&bytes),
+            Err(fault) => eprint!("{}", listing::refusal_line(&fault)),
+        },
         Some("selftest") => {
             let seed = words.get(1).and_then(|word| word.parse().ok()).unwrap_or(1);
             std::process::exit(if selftest::run(seed) { 0 } else { 1 });
         }
         _ => {
-            eprintln!("use: second list | replay | selftest [SEED]");
+            eprintln!("use: second list | replay | rewrite | selftest [SEED]");
             std::process::exit(2);
         }
     }

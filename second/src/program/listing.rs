@@ -29,10 +29,15 @@ pub fn list(input: &[u8]) -> Listed {
         }
         Err(fault) => {
             let Refusal { number, stage, .. } = fault.refusal;
-            let text = format!("refused {} {}\n", number, fault.record);
+            let text = refusal_line(&fault);
             Listed { text: text.into_bytes(), number, stage, depth: 0, consequents: 0, kinds: vec![] }
         }
     }
+}
+
+/// The line of a refused file.
+pub fn refusal_line(fault: &case_file::Fault) -> String {
+    format!("refused {} {}\n", fault.refusal.number, fault.record)
 }
 
 /// Loading with the program's own limit on the input's length before all else.

@@ -13,3 +13,4 @@ pub mod script;
 pub mod selftest;
 pub mod stages;
 pub mod store;
+pub mod writing;

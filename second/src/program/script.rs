@@ -5,6 +5,7 @@ use super::listing;
 use super::plain::{Plain, Word};
 use super::rule::{inside, single, Refusal, MOST_ASSUMPTIONS};
 use super::store::{Added, Answer, Item, Store};
+use super::writing;
 
 /// A longer script is not replayed at all.
 pub const MOST_BYTES: usize = 65_536;
@@ -36,6 +37,7 @@ pub enum Call {
     Member,
     Line,
     List,
+    Write,
     BadLine,
     TooLong,
 }
@@ -80,6 +82,7 @@ enum Command {
     Member(u32, u32),
     Line(u32),
     List,
+    Write,
 }
 
 /// All that was printed, in one piece.
@@ -145,6 +148,7 @@ fn read(name: &[u8], fields: &[&[u8]]) -> Option<Command> {
         (b"member", &[n, place]) => Some(Command::Member(n, place)),
         (b"line", &[n]) => Some(Command::Line(n)),
         (b"list", []) => Some(Command::List),
+        (b"write", []) => Some(Command::Write),
         _ => None,
     }
 }
@@ -230,6 +234,7 @@ fn run(desk: &mut Desk, line: usize, command: Command) -> Reply {
             return Reply { kind, ..reply(line, Call::Line, text) };
         }
         Command::List => (Call::List, Ok(listing::listing(store))),
+        Command::Write => return write(store, line),
     };
     reply(line, call, outcome)
 }
@@ -278,6 +283,18 @@ fn add(store: &mut Store, consequent: u32, supports: &[u32]) -> Result<String, R
         Added::Done => "done\n".to_string(),
         Added::AlreadyHeld => ALREADY_HELD.to_string(),
     })
+}
+
+/// The case file of the store in hex.
+fn write(store: &Store, line: usize) -> Reply {
+    let kind = match store.held_count() {
+        0 => "written: nothing held",
+        256 => "written: 256 held",
+        128.. => "written: a count of two bytes",
+        _ => "written: a count of one byte",
+    };
+    let text = writing::hex_text(&writing::file_of(store));
+    Reply { kind, ..reply(line, Call::Write, Ok(text)) }
 }
 
 /// The reply to a rule that the list in hand has no room for.

@@ -79,6 +79,13 @@ const BY_HAND: &[(&str, &str)] = &[
         "supported\nunsupported\n0 1 1 1\n0 1\n1 1 2\n2 1 2 3\n0\n\
          refused 3\nrefused 4\nrefused 4\nrefused 4\nbad line 13\nbad line 14\nrefused 4\nrefused 17\n",
     ),
+    // Written: in order, each once, supports rising; 128 is 80 01; a load of it is the same.
+    (
+        "write\nopen 32 96\nadd 128 127\nadd 3 2 1 2\nadd 3 9\nadd 0\nadd 3 9 9\nwrite\nload 20 60 04 00 00 03 01 09 03 02 01 02 80 01 01 7f\nwrite\n\
+         withdraw 0\nwrite\nwrite 1",
+        "00 00 00\ndone\ndone\ndone\ndone\ndone\nalready held\n20 60 04 00 00 03 01 09 03 02 01 02 80 01 01 7f\ndone\n\
+         20 60 04 00 00 03 01 09 03 02 01 02 80 01 01 7f\ndone\n20 60 03 03 01 09 03 02 01 02 80 01 01 7f\nbad line 13\n",
+    ),
     // Depth 2 with two consequents, 3 with falsity too; two more rules for them add no stage.
     (
         "open 1 2\nadd 2 1\nadd 3 2\nadd 3 1 2\nadd 2\nlist\nadd 0 3\nlist",

@@ -144,6 +144,11 @@ impl Store {
         self.a + self.m
     }
 
+    /// The justifications held, in their order.
+    pub fn rules(&self) -> impl Iterator<Item = &Rule> {
+        self.held.iter()
+    }
+
     pub fn held_count(&self) -> usize {
         self.held.len()
     }
