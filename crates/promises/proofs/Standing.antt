@@ -116,7 +116,6 @@ module _ (s : Store) (right : rightShape s ≡ true) where
       let p = passed _ _ _ w (λ z. omega arith) in
       let t : List ℕ = listingText s in
       ap (λ (x : Wrote). reads (listAll out) (x .answer) s (x .bytes)) (listing-stands out (test-off (ltb (length out) (length t)) (less-test (length out) (length t)) (p .0)))
-
   read-stands (plainly n E) w =
       let p = passed _ _ _ w (λ z. omega arith) in
       ap (λ (x : Plain). reads (plainly n E) x s []) (plain-stands n E (test-off (ltb N n || not (inRange A E)) (or-test (less-test N n) (outside-test s E)) (p .0)))
