@@ -1,5 +1,6 @@
 // Stores of the wrong shape, one for each clause, on every call: each must answer 2, hand the same store back and leave the lent bytes alone.
-// Then a store of right shape whose lists are untrue: questions read the lists, adding and withdrawing work from the justifications.
+// Then stores of right shape whose lists are untrue: questions read the lists, adding and withdrawing work from the justifications;
+// whether a label is empty is read from the list, whether its number is then contradicted from the justifications.
 mod spoil;
 
 use asking::Answer;
@@ -304,6 +305,30 @@ fn compared(base: Store) {
     say(b"\n");
 }
 
+// The listed case with an untrue label: none for 5.
+fn emptied(s: Store) -> Store {
+    let held = s.held;
+    let mut lists = s.lists;
+    lists.sizes[4] = 0;
+    lists.members[48] = 0;
+    Store { held, lists }
+}
+
+// The context of {3} and the line of 5, which follows from 2 and 4.
+fn unlisted(base: Store) {
+    let other = emptied(base);
+    let mut context = [7u8; 6];
+    asking::context(other, 4, &mut context);
+    say(b"an emptied label: byte 4 of {3} is ");
+    show(context[4]);
+    say(b", byte 5 is ");
+    show(context[5]);
+    say(b", the line ");
+    let mut bytes = [b'.'; 15];
+    lines::line(other, 5, &mut bytes);
+    say(&bytes);
+}
+
 fn main() {
     let base = listed();
     for k in 0..32 {
@@ -311,4 +336,5 @@ fn main() {
         calls(spoiled(base, k));
     }
     compared(base);
+    unlisted(base);
 }

@@ -82,6 +82,7 @@ from-all-means A J n = (
   λ h. (together A, together-low A, (length J, h)),
   λ r. ends J (r .2 .0) (together A) n (follows-more J (r .2 .0) (r .0) (together A) n (within-together A (r .0) (r .1)) (r .2 .1)),
 )
+
 -- so does every assumption
 pub from-all-own : (A : ℕ) (J : List Justification) (i : ℕ) → i < A → fromAll A J (suc i) ≡ true
 unfolding fromAll follows
