@@ -1,13 +1,13 @@
 -- Two programs that add a list otherwise than one by one are refuted: one that stops at the first refusal, one that judges the list at once. Assumes nothing.
-use mathlib.Core.Bool.{Bool, _&&_, true}
+use mathlib.Core.Bool.{Bool, true}
 use mathlib.Core.List.{List, [], _++_, _∷_, map}
 use mathlib.Core.Path.{_∙_, _≡_, ap, refl, subst, sym}
 use Prim.Native.Nat.{_+_, _≤_, ℕ}
 use native.Mathlib.Omega.{arith}
 use lib.Dec.{eqb, ltb}
-use lib.ListN.{drop, getD, length}
+use lib.ListN.{getD, length}
 use borrow.Author.Tests.{eqb-true}
-use Rattle.asking.specs.Asking.{Left, left}
+use Rattle.asking.specs.Asking.{Left}
 use Rattle.handed.specs.Supplied.{suppliedBy}
 use Rattle.handed.specs.declared.Handed.{Handed}
 use Rattle.promises.proofs.Form.{made-form}

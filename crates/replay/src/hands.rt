@@ -56,10 +56,10 @@ fn alone(rest: &[u8], number: u32) -> bool {
 
 // forget
 pub fn forget(rest: &[u8], number: u32, hand: Hand) -> Hand {
-    if alone(rest, number) {
-        return empty();
+    if !alone(rest, number) {
+        return hand;
     }
-    hand
+    empty()
 }
 
 // The first n bytes as numbers, a space before each.
@@ -74,23 +74,23 @@ fn numbers(bytes: [u8; 256], n: usize) {
 
 // season
 pub fn season(rest: &[u8], number: u32, store: Store, hand: Hand) -> Store {
-    if alone(rest, number) {
-        let n = hand.count;
-        if 256 < n {
-            return store;
-        }
-        let items = hand.items;
-        let mut bytes = [0u8; 256];
-        let out = season::add_some(store, items, n, &mut bytes[..n]);
-        let reply = out.reply;
-        if replies::number(reply) != 0 {
-            super::calls::refused(reply);
-            return store;
-        }
-        say(b"done");
-        numbers(bytes, n);
-        say(b"\n");
-        return out.store;
+    if !alone(rest, number) {
+        return store;
     }
-    store
+    let n = hand.count;
+    if 256 < n {
+        return store;
+    }
+    let items = hand.items;
+    let mut bytes = [0u8; 256];
+    let out = season::add_some(store, items, n, &mut bytes[..n]);
+    let reply = out.reply;
+    if replies::number(reply) != 0 {
+        super::calls::refused(reply);
+        return store;
+    }
+    say(b"done");
+    numbers(bytes, n);
+    say(b"\n");
+    out.store
 }

@@ -1,7 +1,7 @@
 -- A store of right shape keeps it, whatever is added. Assumes nothing.
 use mathlib.Core.Bool.{Bool, false, not, true}
 use mathlib.Core.List.{List}
-use mathlib.Core.Path.{_∙_, _≡_, ap, refl, subst, sym}
+use mathlib.Core.Path.{_≡_, refl, subst, sym}
 use Prim.Native.Nat.{_+_, ℕ}
 use native.Mathlib.Omega.{arith}
 use lib.Dec.{leb}
@@ -17,7 +17,7 @@ use Rattle.store.proofs.Judging.{larger-right, larger-said}
 use Rattle.store.proofs.Right.{settled-right}
 use Rattle.store.proofs.Shapes.{Fitting, shape-elim}
 use Rattle.store.specs.Calls.{addOf, answer, isDone, joinedBy, ofVerdict, storeOf}
-use Rattle.store.specs.Shape.{rightShape, top}
+use Rattle.store.specs.Shape.{rightShape}
 use Rattle.store.specs.declared.Outcome.{Outcome}
 use Rattle.store.specs.declared.Store.{Store}
 use Rattle.theory.specs.Judge.{Verdict, judge, labelOver, limits, nogoodsOver, settled}

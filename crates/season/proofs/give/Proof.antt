@@ -7,9 +7,6 @@ use borrow.Author.Needs.{needs}
 use Rattle.season.proofs.Folds.{supplied-few, give-many}
 use Rattle.season.proofs.give.Statement.{statement}
 use Rattle.season.proofs.give.Tie as tie
-use Rattle.season.proofs.give.Reads as reads
-use Rattle.season.proofs.give.Lts as lts
-use Rattle.store.proofs.Store.entering.Reads as entering-reads
 use Rattle.store.specs.Calls.{addOf}
 
 returns : tie.Need-returns

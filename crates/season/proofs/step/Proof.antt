@@ -1,15 +1,8 @@
 -- `season::step` meets its contract. Assumes nothing.
-use mathlib.Core.Path.{_≡_, _∙_, ap}
-use Prim.Native.Nat.{ℕ}
 use borrow.Author.Needs.{needs}
 use Rattle.season.proofs.Folds.{numbered}
-use Rattle.season.specs.Season.{numberedBy}
 use Rattle.season.proofs.step.Statement.{statement}
 use Rattle.season.proofs.step.Tie as tie
-use Rattle.season.proofs.step.Reads as reads
-use Rattle.season.proofs.step.Lts as lts
-use Rattle.replies.proofs.number.Reads as number-reads
-use Rattle.season.proofs.give.Reads as give-reads
 
 give-requires : tie.Need-give-requires
 give-requires c κs = c .pre

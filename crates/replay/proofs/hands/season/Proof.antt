@@ -12,6 +12,9 @@ alone-requires c κs = search needs
 returns : tie.Need-returns
 returns c = search needs
 
+returns-2 : tie.Need-returns-2
+returns-2 c = search needs
+
 array-borrow-prefix-bytes : tie.Need-array-borrow-prefix-bytes
 array-borrow-prefix-bytes c = search needs
 
@@ -27,8 +30,8 @@ number-requires c κs = search needs
 refused-requires : tie.Need-refused-requires
 refused-requires c κs = search needs
 
-returns-2 : tie.Need-returns-2
-returns-2 c = search needs
+returns-3 : tie.Need-returns-3
+returns-3 c = search needs
 
 slice-aggregate-say : tie.Need-slice-aggregate-say
 slice-aggregate-say c = search needs
@@ -45,9 +48,6 @@ slice-aggregate-say-2 c = search needs
 say-requires-2 : tie.Need-say-requires-2
 say-requires-2 c κs = search needs
 
-returns-3 : tie.Need-returns-3
-returns-3 c = search needs
-
 returns-4 : tie.Need-returns-4
 returns-4 c = search needs
 
@@ -57,16 +57,16 @@ season-spec =
     (tie.spec
     alone-requires
     returns
+    returns-2
     array-borrow-prefix-bytes
     slice-aggregate-add-some
     add-some-requires
     number-requires
     refused-requires
-    returns-2
+    returns-3
     slice-aggregate-say
     say-requires
     numbers-requires
     slice-aggregate-say-2
     say-requires-2
-    returns-3
     returns-4)

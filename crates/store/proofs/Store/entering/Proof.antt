@@ -15,12 +15,6 @@ use Rattle.store.specs.Calls.{answer, joinedBy}
 use Rattle.store.specs.Shape.{top}
 use Rattle.store.proofs.Store.entering.Statement.{statement}
 use Rattle.store.proofs.Store.entering.Tie as tie
-use Rattle.store.proofs.Store.entering.Reads as reads
-use Rattle.store.proofs.Store.entering.Lts as lts
-use Rattle.replies.proofs.number.Reads as number-reads
-use Rattle.rules.proofs.canonical.Reads as canonical-reads
-use Rattle.rules.proofs.fault.Reads as fault-reads
-use Rattle.store.proofs.Store.taking.Reads as taking-reads
 
 add-top : tie.Need-add-top
 add-top c = omega (arith, shape-elim (c .before .before .before .args .self) (c .before .before .before .pre) .0 .few, shape-elim (c .before .before .before .args .self) (c .before .before .before .pre) .0 .claims)
