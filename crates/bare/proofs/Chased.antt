@@ -123,13 +123,19 @@ module _ (q : Query) (l : List Handed) where
   unfolding faultsOf passOver sinceOf
   first-stand f [] e =
       ended (record {
-        free = f; reply = refl; assumptions = refl; top = refl;
+        free = f;
+        reply = refl;
+        assumptions = refl;
+        top = refl;
         sound = ap (faultsOf N) e;
         marks = sown-at J E ∙ ap (λ (x : List Handed). table 129 (upTo (barely N x) E 0)) e ∙ sym (ap (λ (x : List Handed). table 129 (sinceOf (barely N x) E)) e);
       }) (sym (ap length e))
   first-stand f (h ∷ m) e =
       runs (record {
-        free = f; reply = refl; assumptions = refl; top = refl;
+        free = f;
+        reply = refl;
+        assumptions = refl;
+        top = refl;
         more = subst (λ (x : List Handed). 0 < length x) (sym e) (omega arith);
         before = refl;
         all = inl refl;
@@ -184,7 +190,11 @@ module _ (q : Query) (l : List Handed) where
     halted f =
         let e : faultsOf N l ≡ faultOfItem N h = faults-at N l i (r .more) (r .before) f in
         record {
-          count = s .count; within = omega (arith, s .count); low = s .low; top = s .top; few = s .few;
+          count = s .count;
+          within = omega (arith, s .count);
+          low = s .low;
+          top = s .top;
+          few = s .few;
           stand = faulty (r .free) (sym e) (ap isDone e ∙ f) (s .count);
         }
 
@@ -206,7 +216,11 @@ module _ (q : Query) (l : List Handed) where
 
       next-runs : i + 1 < n → Stands next
       next-runs p = record {
-        count = s .count; within = omega arith; low = s .low; top = s .top; few = s .few;
+        count = s .count;
+        within = omega arith;
+        low = s .low;
+        top = s .top;
+        few = s .few;
         stand = runs (record { free = r .free; reply = r .reply; assumptions = r .assumptions; top = r .top; more = p; before = before-next; all = r .all; marks = marks-next; still = still-next });
       }
 
@@ -231,7 +245,11 @@ module _ (q : Query) (l : List Handed) where
 
         next-ended : m ≡ table 129 (sinceOf J E) → Stands next
         next-ended e = record {
-          count = s .count; within = omega (arith, is-last); low = s .low; top = s .top; few = s .few;
+          count = s .count;
+          within = omega (arith, is-last);
+          low = s .low;
+          top = s .top;
+          few = s .few;
           stand = ended (record { free = r .free; reply = r .reply; assumptions = r .assumptions; top = r .top; sound = sound; marks = e }) is-last;
         }
 
@@ -244,9 +262,16 @@ module _ (q : Query) (l : List Handed) where
         later-runs : k < 128 → Stands later
         unfolding faultsOf passOver
         later-runs p = record {
-          count = s .count; within = omega arith; low = omega arith; top = s .top; few = s .few;
+          count = s .count;
+          within = omega arith;
+          low = omega arith;
+          top = s .top;
+          few = s .few;
           stand = runs (record {
-            free = r .free; reply = r .reply; assumptions = r .assumptions; top = r .top;
+            free = r .free;
+            reply = r .reply;
+            assumptions = r .assumptions;
+            top = r .top;
             more = omega (arith, r .more);
             before = refl;
             all = inr sound;

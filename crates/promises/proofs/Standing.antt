@@ -126,7 +126,6 @@ module _ (s : Store) (right : rightShape s ≡ true) where
       let p = passed _ _ _ w (λ z. omega arith) in
       let t : List ℕ = fileOf (s .held) in
       ap (λ (x : Wrote). reads (file out) (x .answer) s (x .bytes)) (writing-stands out (test-off (ltb (length out) (length t)) (less-test (length out) (length t)) (p .0)))
-
   read-stands (plainly n E) w =
       let p = passed _ _ _ w (λ z. omega arith) in
       ap (λ (x : Plain). reads (plainly n E) x s []) (plain-stands n E (test-off (ltb N n || not (inRange A E)) (or-test (less-test N n) (outside-test s E)) (p .0)))

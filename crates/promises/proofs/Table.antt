@@ -317,7 +317,6 @@ module _ (s : Store) where
   read-told (caseLine out) = by-choice _ wrote (not (rightShape s)) (kept Shape out) (fitted (caseText s) out) (not-test (rightShape s)) refl (λ p. fitted-told (caseText s) out)
   read-told (listAll out) = by-choice _ wrote (not (rightShape s)) (kept Shape out) (fitted (listingText s) out) (not-test (rightShape s)) refl (λ p. fitted-told (listingText s) out)
   read-told (file out) = by-choice _ wrote (not (rightShape s)) (kept Shape out) (fitted (fileOf (s .held)) out) (not-test (rightShape s)) refl (λ p. fitted-told (fileOf (s .held)) out)
-
   read-told (plainly n E) =
       let out : Bool = ltb (top (s .held)) n || not (inRange (s .held .assumptions) E) in
       by-choice _ plainNumber (not (rightShape s)) (Unsaid Shape) (choose out (Unsaid Number) (plainBy (saidBy (s .held)) E n)) (not-test (rightShape s)) refl

@@ -167,7 +167,7 @@ fn ask(n: u32, set: &[u32], number: u32, store: Store) {
 }
 
 // The first n bytes as numbers, a space between two.
-fn values(bytes: [u8; 129], n: usize) {
+pub fn values(bytes: [u8; 129], n: usize) {
     for i in 0..n {
         if i < 129 {
             if 0 < i {
@@ -214,7 +214,7 @@ fn member(n: u32, place: u32, store: Store) {
 }
 
 // The text that a call wrote, or its refusal.
-fn told(answer: Written, text: &[u8]) {
+pub fn told(answer: Written, text: &[u8]) {
     match answer {
         Written::Length(length) => {
             if length <= text.len() {

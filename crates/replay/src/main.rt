@@ -1,6 +1,7 @@
 // Calls from a script on standard input, their replies to standard output.
 mod calls;
 mod hands;
+mod plains;
 
 use hands::Hand;
 use libc::STDIN_FILENO;
@@ -50,6 +51,10 @@ fn command(line: &[u8], number: u32, desk: Desk) -> Desk {
             hand,
         };
     }
+    if plains::of_hand(word) {
+        plains::bare(word, rest, number, hand);
+        return desk;
+    }
     Desk {
         store: called(word, rest, number, store),
         hand,
@@ -69,6 +74,10 @@ fn called(word: &[u8], rest: &[u8], number: u32, store: Store) -> Store {
     }
     if script::same(word, b"withdraw") {
         return calls::withdraw(rest, number, store);
+    }
+    if plains::of_store(word) {
+        plains::read(word, rest, number, store);
+        return store;
     }
     calls::read(word, rest, number, store);
     store

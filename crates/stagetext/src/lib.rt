@@ -15,6 +15,9 @@ ghost use Rattle.text.specs.Texts.{digits};
 ghost use Rattle.text.specs.Writing.{Put, Room};
 ghost use Rattle.stagetext.specs.Stagetext.{StagesLined, bodyOf, latest, partOf, rowOf, rowsIn, rowsOf};
 
+// No text of stages is longer.
+pub const LONGEST: usize = 53300;
+
 // The number of decimal digits of n.
 fn wide(n: u8) -> usize
     ensures { λ r. ⌜ r ≡ length (digits n) ⌝ }
