@@ -17,17 +17,21 @@ ghost use Rattle.labels.specs.Moved.{Hushed, Still, stirs};
 ghost use Rattle.labels.specs.Pool.{Barred, Gathered, Offered, Roomy, boundOf, filled, lateBy};
 ghost use Rattle.labels.specs.Promised.{Build, FirstWithin, builtOf};
 
+// The set of all assumptions that a set can have.
+const ALL: Set = 4294967295;
+
 // The place of the first member that lies within e, or the count of members.
 pub fn first_within(list: &[Set], e: Set) -> usize
     ensures { λ r. ⌜ FirstWithin (now (list .entry)) e r ⌝ }
 {
     let count = list.len();
+    let others = sets::without(ALL, e);
     let mut i = 0;
     let place = loop {
         if count <= i {
             break count;
         }
-        if sets::within(list[i], e) {
+        if sets::meet(list[i], others) == 0 {
             break i;
         }
         i += 1;
