@@ -60,7 +60,6 @@ claims t = (
 )
 
 module _ (t : ℕ) where
-
   barred-requires : gather-lts.Need-barred-requires (claims t) (gather-at t) gather.Post gather-Inv-loop gather-μ-loop
   barred-requires c κs = c .before .before .before .before .pre .1 .2 .fits
 

@@ -40,8 +40,7 @@ loop-less c = search needs
 loop-again : tie.Need-loop-again Inv-loop μ-loop
 loop-again c = let l = c .before .before .before .before .loop in
     let a = c .before .before .before .before .before .before .before .args in
-    let known = c .before .before .shared-slice-known2 .given (l .i) in
-    (
+    let known = c .before .before .shared-slice-known2 .given (l .i) in (
       l .inv .0,
       omega arith,
       first-on _ _ _ (l .inv .2) (omega arith) _

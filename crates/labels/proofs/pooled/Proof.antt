@@ -35,8 +35,7 @@ joined-requires c κs =
     let rules = s .args .rules .now in
     let e = entries-long rules in
     let h : l .j < s .args .hi = c .before .before .loop-test .taken in
-    let q = c .before .entry-at .ensures ∙ sym (entry-is rules (l .j) beyond (omega (arith, s .pre .2))) in
-    (
+    let q = c .before .entry-at .ensures ∙ sym (entry-is rules (l .j) beyond (omega (arith, s .pre .2))) in (
       s .pre .0,
       subst Few (sym q) (part-few (entriesOf rules) _ _ (l .j) beyond (s .pre .1) (l .inv .0) h (omega (arith, s .pre .2))),
       subst (λ (v : Entry). Ranged (meaning v .supports)) (sym q) (part-ranged (entriesOf rules) _ _ (l .j) beyond (s .pre .1) (l .inv .0) h (omega (arith, s .pre .2))),
@@ -57,8 +56,7 @@ loop-again c =
     let l = c .before .before .before .before .loop in
     let rules = s .args .rules .now in
     let e = entries-long rules in
-    let q = c .before .before .entry-at .ensures ∙ sym (entry-is rules (l .j) beyond (omega (arith, s .pre .2, c .before .before .before .loop-test .taken))) in
-    (
+    let q = c .before .before .entry-at .ensures ∙ sym (entry-is rules (l .j) beyond (omega (arith, s .pre .2, c .before .before .before .loop-test .taken))) in (
       omega (arith, l .inv .0),
       left-hushed _ _ _ _ _ _ _ _ _ (l .inv .1 .0) (joins-on (lying (s .args .members .now) (s .args .sizes .now)) _ (entriesOf rules) (l .j) (s .args .hi) beyond (omega (arith, s .pre .2)) (c .before .before .before .loop-test .taken)) _ (c .joined .result) (c .joined .ensures .1)
           (subst (λ (v : Entry). Offered (s .args .struck .now) (joinsFor (lying (s .args .members .now) (s .args .sizes .now)) (s .args .n) (meaning v ∷ [])) (l .pool) (l .now) (c .joined .last .1 .1 .1 .1 .1 .1 .0) (c .joined .result)) q (c .joined .ensures .0)) _ _ _ _ (l .inv .1 .1),
