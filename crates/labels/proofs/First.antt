@@ -2,9 +2,11 @@
 use mathlib.Core.Bool.{Bool, _&&_, _||_, false, not, true}
 use mathlib.Core.List.{List, [], _∷_}
 use mathlib.Core.Path.{_∙_, _≡_, ap, ap₂, refl, subst, sym}
-use Prim.Native.Nat.{_+_, _<_, _≤_, suc, ℕ}
+use Prim.Native.Nat.{_+_, _-_, _<_, _^_, _≤_, suc, ℕ}
+use native.Mathlib.Nat.{mod-eq-of-lt}
 use native.Mathlib.Numerals.{add-one}
 use native.Mathlib.Omega.{arith}
+use lib.Bits.{and-comm, and-le-l, and-mask, or-add-and}
 use lib.Dec.{ltb}
 use lib.ListN.{drop, drop-of-length-le, getD, length}
 use lib.Seq.{drop-cons}
@@ -12,10 +14,12 @@ use borrow.Author.Tests.{le-ltb, lt-ltb, ltb-true}
 use Rattle.labels.proofs.Selects.{at-mem}
 use Rattle.labels.specs.Promised.{firstWithin}
 use Rattle.theory.proofs.Label.{contains-intro}
-use Rattle.theory.proofs.Lists.{and-intro, same-test}
-use Rattle.theory.proofs.Sets.{within-refl}
+use Rattle.sets.proofs.Operations.{and-not}
+use Rattle.sets.specs.Promised.{meet}
+use Rattle.theory.proofs.Lists.{and-intro, not-so, same-test}
+use Rattle.theory.proofs.Sets.{or-within, within-or, within-refl}
 use Rattle.theory.specs.Lists.{choose, someOf}
-use Rattle.theory.specs.Sets.{contains, within}
+use Rattle.theory.specs.Sets.{contains, within, without}
 use Rattle.theory.specs.Step.{free}
 
 pub first-most : (l : List ℕ) (E : ℕ) → firstWithin l E ≤ length l
@@ -37,6 +41,19 @@ contains-first (F ∷ l) E = go (within F E) (contains-first l E)
     go true e = sym (lt-ltb 0 (suc (length l)) (omega arith))
     go false e = e ∙ same-test (λ t. lt-ltb (suc (firstWithin l E)) (suc (length l)) (omega (arith, ltb-true (firstWithin l E) (length l) t)))
         (λ t. lt-ltb (firstWithin l E) (length l) (omega (arith, ltb-true (suc (firstWithin l E)) (suc (length l)) t)))
+
+-- ---- the test of one place: nothing of a is among what e has not
+module _ (w a e : ℕ) (p : a < 2 ^ w) (q : e < 2 ^ w) where
+  out-is : meet a (without (2 ^ w - 1) e) ≡ a - meet a e
+  unfolding without
+  out-is =
+      ap (λ (x : ℕ). meet a ((2 ^ w - 1) - x)) (and-comm (2 ^ w - 1) e ∙ and-mask e w ∙ mod-eq-of-lt q) ∙ and-not w a e p q
+
+  pub none-out : meet a (without (2 ^ w - 1) e) ≡ 0 → true ≡ within a e
+  none-out z = sym (or-within a e (omega (arith, out-is, z, or-add-and a e, and-le-l a e)))
+
+  pub some-out : (meet a (without (2 ^ w - 1) e) ≡ 0 → ⊥) → false ≡ within a e
+  some-out z = sym (not-so (within a e) (λ t. z (omega (arith, out-is, within-or a e t, or-add-and a e, and-le-l a e))))
 
 -- ---- the search, place by place
 module _ (l : List ℕ) (E i : ℕ) (inv : firstWithin l E ≡ i + firstWithin (drop i l) E) where

@@ -7,7 +7,7 @@ use native.Mathlib.Omega.{arith}
 use lib.ListN.{drop, getD, length, length-drop, length-take, take}
 use lib.Seq.{getD-drop, getD-take}
 use Rattle.labels.proofs.Selects.{at-mem}
-use Rattle.labels.specs.Layout.{Few, Joinable, Ranged, between}
+use Rattle.labels.specs.Layout.{Few, Joinable, Ranged, between, entriesOf, entryAt}
 use Rattle.labels.specs.Moved.{Hushed}
 use Rattle.labels.specs.Pool.{Filled}
 use Rattle.rules.proofs.Entries.{Fits, fits-elim}
@@ -17,6 +17,7 @@ use Rattle.rules.proofs.Steps.{all-first}
 use Rattle.rules.specs.Held.{fitting, heldRight, meaning}
 use Rattle.rules.specs.declared.Entry.{Entry}
 use Rattle.rules.specs.declared.Held.{Held}
+use Rattle.theory.proofs.Places.{getD-table, length-table}
 use Rattle.theory.specs.Stages.{Justification}
 
 module _ (h : Held) (right : heldRight h ≡ true) (wide : h .assumptions + h .claims ≤ 128) (j : ℕ) (z : Entry) (low : j < h .count) where
@@ -89,3 +90,12 @@ module _ (l : List Entry) (lo hi j : ℕ) (z : Entry) (ok : Joinable (between l 
     long = h .long;
     refused = λ r m. h .refused r (subst (λ (i : Justification). Mem i (map meaning (between l lo hi))) (sym (List·Memᴰ·eq-of-singleton m)) part-mem);
   }
+
+-- ---- justifications that lie in six bytes each
+pub entries-long : (rules : List ℕ) → length (entriesOf rules) ≡ 256
+unfolding entriesOf
+entries-long rules = length-table 256 (entryAt rules)
+
+pub entry-is : (rules : List ℕ) (j : ℕ) (z : Entry) → j < 256 → getD (entriesOf rules) j z ≡ entryAt rules j
+unfolding entriesOf
+entry-is rules j z h = getD-table 256 (entryAt rules) j z h

@@ -1,10 +1,11 @@
 -- The labels as they lie: label n at its own twelve places 12 (n - 1) up, its size beside it. Assumes nothing.
-use mathlib.Core.List.{List, []}
+use mathlib.Core.List.{List, [], _∷_}
 use mathlib.Core.Path.{_≡_}
-use Prim.Native.Nat.{_*_, _-_, _<_, _≤_, suc, zero, ℕ}
+use Prim.Native.Nat.{_*_, _+_, _-_, _<_, _≤_, suc, zero, ℕ}
 use lib.ListN.{drop, getD, length, take}
 use Rattle.rules.specs.Held.{meaning}
 use Rattle.rules.specs.declared.Entry.{Entry}
+use Rattle.theory.specs.Places.{table}
 
 -- the label of n as it lies
 unfoldable pub lying : List ℕ → List ℕ → ℕ → List ℕ
@@ -24,6 +25,18 @@ pub record Ranged (supports : List ℕ) : Type 0 where
 -- at most four supports
 abbrev pub Few : Entry → Type 0
 Few e = e .count ≤ 4
+
+-- the justification at place j of those that lie in six bytes each: its consequent, its count, its supports
+abbrev pub entryAt : List ℕ → ℕ → Entry
+entryAt rules j = record {
+  consequent = getD rules (6 * j) 0;
+  count = getD rules (6 * j + 1) 0;
+  supports = getD rules (6 * j + 2) 0 ∷ getD rules (6 * j + 3) 0 ∷ getD rules (6 * j + 4) 0 ∷ getD rules (6 * j + 5) 0 ∷ [];
+}
+
+-- all 256
+unfoldable pub entriesOf : List ℕ → List Entry
+entriesOf rules = table 256 (entryAt rules)
 
 -- those from place lo to place hi
 abbrev pub between : List Entry → ℕ → ℕ → List Entry

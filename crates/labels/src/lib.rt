@@ -4,31 +4,34 @@ mod pool;
 
 use pool::Fill;
 use rules::Entry;
-use rules::Held;
 use sets::Set;
 ghost use mathlib.Core.Bool.{false};
 ghost use mathlib.Core.List.{[], _∷_, map};
 ghost use mathlib.Core.Path.{_≡_};
-ghost use Prim.Native.Nat.{_+_, _≤_};
+ghost use Prim.Native.Nat.{_+_, _<_, _≤_};
 ghost use lib.ListN.{length, take};
 ghost use Rattle.rules.specs.Held.{meaning};
 ghost use Rattle.theory.specs.Step.{joins, joinsFor};
-ghost use Rattle.labels.specs.Layout.{Few, Joinable, Layout, Ranged, between, lying};
+ghost use Rattle.labels.specs.Layout.{Few, Joinable, Layout, Ranged, between, entriesOf, entryAt, lying};
 ghost use Rattle.labels.specs.Moved.{Hushed, Still, stirs};
 ghost use Rattle.labels.specs.Pool.{Barred, Gathered, Offered, Roomy, boundOf, filled, lateBy};
 ghost use Rattle.labels.specs.Promised.{Build, FirstWithin, builtOf};
+
+// The set of all assumptions that a set can have.
+const ALL: Set = 4294967295;
 
 // The place of the first member that lies within e, or the count of members.
 pub fn first_within(list: &[Set], e: Set) -> usize
     ensures { λ r. ⌜ FirstWithin (now (list .entry)) e r ⌝ }
 {
     let count = list.len();
+    let others = sets::without(ALL, e);
     let mut i = 0;
     let place = loop {
         if count <= i {
             break count;
         }
-        if sets::within(list[i], e) {
+        if sets::meet(list[i], others) == 0 {
             break i;
         }
         i += 1;
@@ -42,16 +45,17 @@ enum Bar {
     By(u32),
 }
 
-// The first set struck that lies within e, else the first of the list.
-fn barred(struck: &[Set], list: &[Set], e: Set) -> Bar
-    ensures { λ r. ⌜ Barred (now (struck .entry)) (now (list .entry)) e r ⌝ }
+// The first set struck that lies within e, else the first of so many of the list.
+fn barred(struck: &[Set], list: &[Set], count: usize, e: Set) -> Bar
+    requires { ⌜ count ≤ length (now list) ⌝ }
+    ensures { λ r. ⌜ Barred (now (struck .entry)) (take count (now (list .entry))) e r ⌝ }
 {
     let i = first_within(struck, e);
     if i < struck.len() {
         return Bar::By(struck[i]);
     }
-    let k = first_within(list, e);
-    if k < list.len() {
+    let k = first_within(&list[..count], e);
+    if k < count {
         return Bar::By(list[k]);
     }
     Bar::Free
@@ -61,19 +65,19 @@ fn barred(struck: &[Set], list: &[Set], e: Set) -> Bar
 // why: each of these joins contains a set that is refused from now on and lies within why. So a later member whose joined set contains
 // the part within why of an earlier one has only joins that are refused, and is passed over: that part is spent.
 fn gather<'a>(
-    members: &'a [Set],
-    sizes: &'a [u8],
+    members: &'a [Set; 1536],
+    sizes: &'a [u8; 128],
     supports: &[u8],
     struck: &[Set],
     joined: Set,
-    pool: &mut [Set],
+    pool: &mut [Set; 33],
     fill: Fill,
 ) -> Fill
     requires { ⌜ Layout (now members) (now sizes) × Ranged (now supports) × Roomy (now pool) fill × (lateBy (boundOf fill) joined ≡ false) ⌝ }
-    ensures { λ r. ⌜ Gathered (now (struck .entry)) (joins (lying (now (members .entry)) (now (sizes .entry))) joined (now (supports .entry))) (now (pool .entry)) fill (now (pool .exit)) r ⌝ }
+    ensures { λ r. ⌜ Gathered (now (struck .entry)) (joins (lying (now (members .entry)) (now (sizes .entry))) joined (now (supports .entry))) (now (pool .entry)) fill (now (pool .exit)) r × (length (now (pool .exit)) ≡ length (now (pool .entry))) ⌝ }
 {
     let count = fill.count;
-    let bar = barred(struck, &pool[..count], joined);
+    let bar = barred(struck, pool, count, joined);
     if let Bar::By(t) = bar {
         return fill.because(t);
     }
@@ -110,16 +114,16 @@ fn gather<'a>(
 // Each set of the list offered to the pool.
 fn pour<'a>(
     list: &[Set],
-    members: &'a [Set],
-    sizes: &'a [u8],
+    members: &'a [Set; 1536],
+    sizes: &'a [u8; 128],
     struck: &[Set],
-    pool: &mut [Set],
+    pool: &mut [Set; 33],
     fill: Fill,
 ) -> Fill
     requires { ⌜ Layout (now members) (now sizes) × Roomy (now pool) fill ⌝ }
-    ensures { λ r. ⌜ Offered (now (struck .entry)) (now (list .entry)) (now (pool .entry)) fill (now (pool .exit)) r ⌝ }
+    ensures { λ r. ⌜ Offered (now (struck .entry)) (now (list .entry)) (now (pool .entry)) fill (now (pool .exit)) r × (length (now (pool .exit)) ≡ length (now (pool .entry))) ⌝ }
 {
-    let none = &sizes[..0];
+    let none = [0u8; 1];
     let mut now = fill;
     let mut i = 0;
     while i < list.len() {
@@ -128,7 +132,7 @@ fn pour<'a>(
         if pool::late(now, e) {
             continue;
         }
-        now = gather(members, sizes, none, struck, e, pool, now);
+        now = gather(members, sizes, &none[..0], struck, e, pool, now);
     }
     now
 }
@@ -158,15 +162,15 @@ pub fn stirred(entry: Entry, moved: &[u8]) -> bool
 fn joined<'a>(
     entry: Entry,
     n: u8,
-    members: &'a [Set],
-    sizes: &'a [u8],
+    members: &'a [Set; 1536],
+    sizes: &'a [u8; 128],
     struck: &[Set],
     moved: &[u8],
-    pool: &mut [Set],
+    pool: &mut [Set; 33],
     fill: Fill,
 ) -> Fill
     requires { ⌜ Layout (now members) (now sizes) × Few entry × Ranged (meaning entry .supports) × Roomy (now pool) fill × Hushed (lying (now members) (now sizes)) (meaning entry ∷ []) n (now struck) (now moved) (filled (now pool) fill) ⌝ }
-    ensures { λ r. ⌜ Offered (now (struck .entry)) (joinsFor (lying (now (members .entry)) (now (sizes .entry))) n (meaning entry ∷ [])) (now (pool .entry)) fill (now (pool .exit)) r ⌝ }
+    ensures { λ r. ⌜ Offered (now (struck .entry)) (joinsFor (lying (now (members .entry)) (now (sizes .entry))) n (meaning entry ∷ [])) (now (pool .entry)) fill (now (pool .exit)) r × (length (now (pool .exit)) ≡ length (now (pool .entry))) ⌝ }
 {
     if entry.consequent != n {
         return fill;
@@ -182,26 +186,40 @@ fn joined<'a>(
     gather(members, sizes, &supports[..most], struck, 0, pool, fill)
 }
 
+// The justification at a place, of those that lie in six bytes each.
+fn entry_at(rules: &[u8; 1536], j: usize) -> Entry
+    requires { ⌜ j < 256 ⌝ }
+    ensures { λ r. ⌜ r ≡ entryAt (now (rules .entry)) j ⌝ }
+{
+    let at = 6 * j;
+    let supports = [rules[at + 2], rules[at + 3], rules[at + 4], rules[at + 5]];
+    Entry {
+        consequent: rules[at],
+        count: rules[at + 1],
+        supports,
+    }
+}
+
 // The joins of the justifications of n from place lo to place hi offered to the pool.
 fn pooled<'a>(
-    held: Held,
+    rules: &[u8; 1536],
     lo: usize,
     hi: usize,
     n: u8,
-    members: &'a [Set],
-    sizes: &'a [u8],
+    members: &'a [Set; 1536],
+    sizes: &'a [u8; 128],
     struck: &[Set],
     moved: &[u8],
-    pool: &mut [Set],
+    pool: &mut [Set; 33],
     fill: Fill,
 ) -> Fill
-    requires { ⌜ Layout (now members) (now sizes) × Joinable (between (held .entries) lo hi) × (hi ≤ 256) × Roomy (now pool) fill × Hushed (lying (now members) (now sizes)) (map meaning (between (held .entries) lo hi)) n (now struck) (now moved) (filled (now pool) fill) ⌝ }
-    ensures { λ r. ⌜ Offered (now (struck .entry)) (joinsFor (lying (now (members .entry)) (now (sizes .entry))) n (map meaning (between (held .entries) lo hi))) (now (pool .entry)) fill (now (pool .exit)) r ⌝ }
+    requires { ⌜ Layout (now members) (now sizes) × Joinable (between (entriesOf (now rules)) lo hi) × (hi ≤ 256) × Roomy (now pool) fill × Hushed (lying (now members) (now sizes)) (map meaning (between (entriesOf (now rules)) lo hi)) n (now struck) (now moved) (filled (now pool) fill) ⌝ }
+    ensures { λ r. ⌜ Offered (now (struck .entry)) (joinsFor (lying (now (members .entry)) (now (sizes .entry))) n (map meaning (between (entriesOf (now (rules .entry))) lo hi))) (now (pool .entry)) fill (now (pool .exit)) r × (length (now (pool .exit)) ≡ length (now (pool .entry))) ⌝ }
 {
     let mut now = fill;
     let mut j = lo;
     while j < hi {
-        let entry = held.entries[j];
+        let entry = entry_at(rules, j);
         now = joined(entry, n, members, sizes, struck, moved, pool, now);
         j += 1;
     }
@@ -236,19 +254,19 @@ fn drawn(pool: &[Set], limit: usize) -> Built
 // The list of n at the next stage, from the labels as they lie, the old list of n and the sets struck; a justification that is not stirred adds nothing.
 // Where a set went out for want of room, what the pool holds is the beginning of the list, and another walk over the candidates begins with it and finds more.
 pub fn build<'a>(
-    held: Held,
+    rules: &[u8; 1536],
     lo: usize,
     hi: usize,
     n: u8,
-    members: &'a [Set],
-    sizes: &'a [u8],
+    members: &'a [Set; 1536],
+    sizes: &'a [u8; 128],
     old: &'a [Set],
     struck: &[Set],
     moved: &[u8],
     limit: usize,
 ) -> Built
-    requires { ⌜ Layout (now members) (now sizes) × Joinable (between (held .entries) lo hi) × (hi ≤ 256) × (limit ≤ 32) × Still (lying (now members) (now sizes)) (map meaning (between (held .entries) lo hi)) n (now old) (now struck) (now moved) ⌝ }
-    ensures { λ r. ⌜ Build (between (held .entries) lo hi) n (now (members .entry)) (now (sizes .entry)) (now (old .entry)) (now (struck .entry)) limit r ⌝ }
+    requires { ⌜ Layout (now members) (now sizes) × Joinable (between (entriesOf (now rules)) lo hi) × (hi ≤ 256) × (limit ≤ 32) × Still (lying (now members) (now sizes)) (map meaning (between (entriesOf (now rules)) lo hi)) n (now old) (now struck) (now moved) ⌝ }
+    ensures { λ r. ⌜ Build (between (entriesOf (now (rules .entry))) lo hi) n (now (members .entry)) (now (sizes .entry)) (now (old .entry)) (now (struck .entry)) limit r ⌝ }
 {
     let mut pool = [0u32; 33];
     let mut count = 0;
@@ -261,7 +279,7 @@ pub fn build<'a>(
         };
         let seen = pour(old, members, sizes, struck, &mut pool, begun);
         let all = pooled(
-            held,
+            rules,
             lo,
             hi,
             n,

@@ -103,9 +103,9 @@ pub(crate) fn late(fill: Fill, e: Set) -> bool
 }
 
 // e taken in, and those that contain it put out; where there is no room the last goes out.
-pub(crate) fn enter(pool: &mut [Set], fill: Fill, e: Set) -> Fill
+pub(crate) fn enter(pool: &mut [Set; 33], fill: Fill, e: Set) -> Fill
     requires { ⌜ Roomy (now pool) fill ⌝ }
-    ensures { λ r. ⌜ Entered (now (pool .entry)) fill e (now (pool .exit)) r ⌝ }
+    ensures { λ r. ⌜ Entered (now (pool .entry)) fill e (now (pool .exit)) r × (length (now (pool .exit)) ≡ length (now (pool .entry))) ⌝ }
 {
     let room = pool.len();
     let kept = purge(pool, fill.count, e);

@@ -100,11 +100,8 @@ impl Entry {
         }
         let n = count as usize;
         let supports = self.supports;
-        if lists::rises(&supports[..n], top) {
-            if lists::names(&supports[..n], self.consequent) {
-                return false;
-            }
-            return lists::zeros(&supports[n..]);
+        if lists::rises(&supports[..n], top, self.consequent) {
+            return lists::ends(supports[0], supports[1], supports[2], supports[3], count);
         }
         false
     }
@@ -120,7 +117,7 @@ impl Entry {
             return false;
         }
         let supports = self.supports;
-        lists::zeros(&supports)
+        lists::ends(supports[0], supports[1], supports[2], supports[3], 0)
     }
 
     // Whether self stands before t.

@@ -1,3 +1,4 @@
-pub mod Laws
+pub mod Runs
 pub mod Elim
+pub mod Laws
 pub mod Stage

@@ -1,13 +1,13 @@
 -- The right shape of lists, as document 01 has it. Assumes nothing.
 use mathlib.Core.Bool.{Bool, _&&_, not}
-use mathlib.Core.List.{List}
+use mathlib.Core.List.{List, [], _∷_}
 use mathlib.Core.Path.{_≡_}
 use Prim.Native.Nat.{_*_, ℕ}
 use lib.Dec.{eqb, leb}
 use lib.ListN.{drop, getD, length, take}
 use Rattle.stages.specs.declared.Lists.{Lists}
 use Rattle.theory.specs.Lists.{allOf, numbersBelow, sortedBy}
-use Rattle.theory.specs.Sets.{before, inRange, within}
+use Rattle.theory.specs.Sets.{before, inRange, union, within}
 
 -- two members of one list: in order, and none inside the other
 unfoldable pub apart : ℕ → ℕ → Bool
@@ -19,9 +19,22 @@ listed A count places =
     leb count (length places)
     && (sortedBy apart (take count places) && (allOf (inRange A) (take count places) && allOf (eqb 0) (drop count places)))
 
+-- the same apart from the assumptions
+unfoldable pub standing : ℕ → List ℕ → Bool
+standing count places = leb count (length places) && (sortedBy apart (take count places) && allOf (eqb 0) (drop count places))
+
+-- the assumptions of all the sets
+unfoldable pub unionOf : List ℕ → ℕ
+unionOf [] = 0
+unionOf (E ∷ l) = union E (unionOf l)
+
 -- the label of the number i + 1 in its own twelve places
 abbrev pub labelRight : ℕ → List ℕ → List ℕ → ℕ → Bool
 labelRight A sizes members i = listed A (getD sizes i 0) (take 12 (drop (12 * i) members))
+
+-- the same apart from the assumptions
+abbrev pub rowRight : List ℕ → List ℕ → ℕ → Bool
+rowRight sizes members i = standing (getD sizes i 0) (take 12 (drop (12 * i) members))
 
 -- every label; those of numbers above N are empty
 unfoldable pub labelsRight : ℕ → ℕ → List ℕ → List ℕ → Bool

@@ -1,138 +1,131 @@
 // The right shape of a store's lists.
+use sets::Set;
 use stages::Lists;
+ghost use mathlib.Core.Bool.{_&&_, _||_};
 ghost use mathlib.Core.Path.{_≡_};
 ghost use Prim.Native.Nat.{_≤_};
-ghost use lib.Dec.{eqb};
+ghost use lib.Dec.{eqb, ltb};
 ghost use lib.ListN.{length};
-ghost use Rattle.theory.specs.Lists.{allOf, sortedBy};
-ghost use Rattle.theory.specs.Sets.{inRange};
-ghost use Rattle.shape.specs.Shape.{apart, listed, labelsRight, ListsRight};
+ghost use Rattle.theory.specs.Lists.{allOf, choose, numbersBelow, sortedBy};
+ghost use Rattle.shape.specs.Shape.{apart, labelsRight, ListsRight, rowRight, standing, unionOf};
 
-// Whether f and e may stand so in one list.
-fn clear(f: u32, e: u32) -> bool
-    ensures { λ r. ⌜ r ≡ apart f e ⌝ }
+// Whether e, of n assumptions, stands after f, of m.
+fn after(f: Set, m: u32, e: Set, n: u32) -> bool
+    ensures { λ r. ⌜ r ≡ ltb m n || (eqb m n && ltb f e) ⌝ }
 {
-    if sets::before(f, e) {
-        if sets::within(f, e) {
-            return false;
-        }
-        if sets::within(e, f) {
-            return false;
-        }
-        return true;
-    }
-    false
+    m < n || (m == n && f < e)
 }
 
-// Whether x stands clear before each of the rest.
-fn leads(x: u32, rest: &[u32]) -> bool
-    ensures { λ r. ⌜ r ≡ allOf (apart x) (now (rest .entry)) ⌝ }
+// Where the sets of n assumptions begin: here, where the one before has m, fewer.
+fn begun(m: u32, n: u32, here: usize, from: usize) -> usize
+    ensures { λ r. ⌜ r ≡ choose (ltb m n) here from ⌝ }
 {
-    let mut i = 0;
-    while i < rest.len() {
-        if clear(x, rest[i]) {
-            i += 1;
-        } else {
-            return false;
-        }
-    }
-    true
+    if m < n { here } else { from }
 }
 
-// Whether each stands clear before all later ones.
-fn sorted(l: &[u32]) -> bool
+// Whether each stands clear before all later ones: before the next, and no set of fewer assumptions within a later one.
+fn sorted(l: &[Set]) -> bool
     ensures { λ r. ⌜ r ≡ sortedBy apart (now (l .entry)) ⌝ }
 {
-    let mut i = 0;
-    while i < l.len() {
-        let x = l[i];
-        i += 1;
-        if leads(x, &l[i..]) {} else {
-            return false;
-        }
+    if l.len() < 2 {
+        return true;
     }
-    true
-}
-
-// Whether no set has an assumption above a.
-fn low(l: &[u32], a: u8) -> bool
-    requires { ⌜ a ≤ 32 ⌝ }
-    ensures { λ r. ⌜ r ≡ allOf (inRange a) (now (l .entry)) ⌝ }
-{
-    let mut i = 0;
+    let mut last = l[0];
+    let mut ones = sets::ones(last);
+    let mut from = 0;
+    let mut i = 1;
     while i < l.len() {
-        if sets::low(l[i], a) {
-            i += 1;
-        } else {
+        let e = l[i];
+        let n = sets::ones(e);
+        if !after(last, ones, e, n) {
             return false;
         }
-    }
-    true
-}
-
-// Whether every place is zero.
-fn blank(l: &[u32]) -> bool
-    ensures { λ r. ⌜ r ≡ allOf (eqb 0) (now (l .entry)) ⌝ }
-{
-    let mut i = 0;
-    while i < l.len() {
-        if l[i] != 0 {
+        from = begun(ones, n, i, from);
+        if labels::first_within(&l[..from], e) < from {
             return false;
         }
+        last = e;
+        ones = n;
         i += 1;
     }
     true
 }
 
-// Whether every size is zero.
+// The assumptions of all the sets: one pass without an exit.
+fn all(l: &[Set]) -> Set
+    ensures { λ r. ⌜ r ≡ unionOf (now (l .entry)) ⌝ }
+{
+    let mut seen = 0;
+    let mut i = 0;
+    while i < l.len() {
+        seen = sets::union(seen, l[i]);
+        i += 1;
+    }
+    seen
+}
+
+// Whether every size is zero: one pass without an exit.
 fn zeros(l: &[u8]) -> bool
     ensures { λ r. ⌜ r ≡ allOf (eqb 0) (now (l .entry)) ⌝ }
 {
+    let mut seen = 0;
     let mut i = 0;
     while i < l.len() {
-        if l[i] != 0 {
-            return false;
-        }
+        seen |= l[i];
         i += 1;
     }
-    true
+    seen == 0
 }
 
-// Whether count sets stand rightly in their places.
-fn list(l: &[u32], count: usize, a: u8) -> bool
-    requires { ⌜ a ≤ 32 ⌝ }
-    ensures { λ r. ⌜ r ≡ listed a count (now (l .entry)) ⌝ }
+// Whether count sets stand in order in their places, and the other places are zero.
+fn list(l: &[Set], count: usize) -> bool
+    ensures { λ r. ⌜ r ≡ standing count (now (l .entry)) ⌝ }
 {
     if l.len() < count {
         return false;
     }
     if sorted(&l[..count]) {
-        if low(&l[..count], a) {
-            return blank(&l[count..]);
-        }
-        return false;
+        return all(&l[count..]) == 0;
     }
     false
 }
 
-// Whether every label stands rightly in its places.
-fn labels<'a>(members: &'a [u32], sizes: &'a [u8], top: u8, a: u8) -> bool
-    requires { ⌜ (a ≤ 32) × (top ≤ 128) × (length (now members) ≡ 1536) × (length (now sizes) ≡ 128) ⌝ }
-    ensures { λ r. ⌜ r ≡ labelsRight a top (now (sizes .entry)) (now (members .entry)) ⌝ }
+// Whether each of the first n labels stands so in its places.
+fn rows<'a>(members: &'a [Set], sizes: &'a [u8], n: usize) -> bool
+    requires { ⌜ (n ≤ 128) × (length (now members) ≡ 1536) × (length (now sizes) ≡ 128) ⌝ }
+    ensures { λ r. ⌜ r ≡ allOf (rowRight (now (sizes .entry)) (now (members .entry))) (numbersBelow n) ⌝ }
 {
     let mut i = 0;
-    while i < 128 {
+    while i < n {
         let from = 12 * i;
         let to = from + 12;
         let count = sizes[i] as usize;
-        if list(&members[from..to], count, a) {
+        if list(&members[from..to], count) {
             i += 1;
         } else {
             return false;
         }
     }
+    true
+}
+
+// Whether every label stands rightly in its places; those above top are empty.
+fn labels<'a>(members: &'a [Set], sizes: &'a [u8], top: u8, a: u8) -> bool
+    requires { ⌜ (a ≤ 32) × (top ≤ 128) × (length (now members) ≡ 1536) × (length (now sizes) ≡ 128) ⌝ }
+    ensures { λ r. ⌜ r ≡ labelsRight a top (now (sizes .entry)) (now (members .entry)) ⌝ }
+{
     let n = top as usize;
-    zeros(&sizes[n..])
+    if !zeros(&sizes[n..]) {
+        return false;
+    }
+    let end = 12 * n;
+    if all(&members[end..]) != 0 {
+        return false;
+    }
+    if sets::low(all(&members[..end]), a) {
+        return rows(members, sizes, n);
+    }
+    false
 }
 
 // Whether the lists of a assumptions and the numbers up to top have the right shape.
@@ -143,9 +136,11 @@ pub fn right(lists: Lists, a: u8, top: u8) -> bool
     if 129 < lists.depth {
         return false;
     }
-    if labels(&lists.members, &lists.sizes, top, a) {
-        let count = lists.count;
-        return list(&lists.nogoods, count, a);
+    if !sets::low(all(&lists.nogoods), a) {
+        return false;
+    }
+    if list(&lists.nogoods, lists.count) {
+        return labels(&lists.members, &lists.sizes, top, a);
     }
     false
 }

@@ -9,3 +9,4 @@ pub mod Compares
 pub mod Marks
 pub mod Relabels
 pub mod Walk
+pub mod Sixes

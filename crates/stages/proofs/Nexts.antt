@@ -10,12 +10,13 @@ use native.Mathlib.Omega.{arith}
 use lib.ListN.{getD, length, length-take, take}
 use lib.Seq.{take-all}
 use borrow.Author.Tests.{le-ltb, lt-ltb}
-use Rattle.labels.specs.Layout.{between, lying}
+use Rattle.labels.specs.Layout.{between, entriesOf, lying}
 use Rattle.labels.specs.Promised.{Build, builtOf}
 use Rattle.labels.specs.declared.Built.{Built}
 use Rattle.replies.specs.declared.Reply.the-variants.{Done, Label, Nogoods}
 use Rattle.rules.proofs.Laws.{right-range}
 use Rattle.rules.specs.Held.{saidBy}
+use Rattle.rules.specs.declared.Entry.{Entry}
 use Rattle.rules.specs.declared.Held.{Held}
 use Rattle.stages.proofs.Parts.{below, first-candidates, part-candidates, tally-end, wide}
 use Rattle.stages.proofs.Stages.{lies, nogoods-lie}
@@ -90,12 +91,12 @@ module _ (h : Held) (l : Lists) (re : Reached h l) where
   at-next f = ap (λ (k : ℕ). f (stageBy h k)) (sym (add-one (l .depth)))
 
   module _ (tallies : List ℕ) (te : tallies ≡ tallied h) where
-    pub nogoods-built : (r : Built) → Build (between (h .entries) 0 (getD tallies 0 0)) 0 (l .members) (l .sizes) (take (l .count) (l .nogoods)) [] 32 r → r ≡ builtOf 32 (take (32 + 1) (new-stage .nogoods))
+    nogoods-built : (r : Built) → Build (between (h .entries) 0 (getD tallies 0 0)) 0 (l .members) (l .sizes) (take (l .count) (l .nogoods)) [] 32 r → r ≡ builtOf 32 (take (32 + 1) (new-stage .nogoods))
     nogoods-built r e =
         e ∙ ap (builtOf 32) (ap (picks 33 [] []) (first-candidates h (re .judgeable) tallies te (lying (l .members) (l .sizes)) (take (l .count) (l .nogoods)) ∙ cands (take (l .count) (l .nogoods)) (old-stage .nogoods) 0 (nogoods-lie (l .depth) old-stage (re .room) l (re .is)))
         ∙ next-nogoods (h .assumptions) N (saidBy h) upto (l .depth) 33 ∙ at-next (λ s. take 33 (s .nogoods)))
 
-    pub label-built : (struck : List ℕ) → struck ≡ new-stage .nogoods → (i lo : ℕ) → i < N → lo ≡ below (saidBy h) (i + 1) → (old : List ℕ) → old ≡ lying (l .members) (l .sizes) (i + 1)
+    label-built : (struck : List ℕ) → struck ≡ new-stage .nogoods → (i lo : ℕ) → i < N → lo ≡ below (saidBy h) (i + 1) → (old : List ℕ) → old ≡ lying (l .members) (l .sizes) (i + 1)
         → (r : Built) → Build (between (h .entries) lo (lo + getD tallies (i + 1) 0)) (i + 1) (l .members) (l .sizes) old struck 12 r → r ≡ builtOf 12 (take (12 + 1) (getD (new-stage .labels) i []))
     unfolding labelIn
     label-built struck se i lo low le old oe r e =
@@ -105,6 +106,16 @@ module _ (h : Held) (l : Lists) (re : Reached h l) where
         let p = part-candidates h (re .judgeable) (i + 1) lo (lo + getD tallies (i + 1) 0) le (tally-end h (re .judgeable) tallies te (i + 1) lo top le) (lying (l .members) (l .sizes)) old in
         e ∙ ap (builtOf 12) (ap₂ (λ (b c : List ℕ). picks 13 b [] c) (se ∙ sym (at-next (λ s. s .nogoods))) (p ∙ cands old (labelIn (old-stage .labels) (i + 1)) (i + 1) o)
         ∙ next-label (h .assumptions) N (saidBy h) upto (l .depth) 13 (i + 1) (omega arith) ∙ at-next (λ s. take 13 (labelIn (s .labels) (i + 1))) ∙ ap (λ (n : ℕ). take 13 (labelIn (new-stage .labels) n)) a)
+
+    -- of the justifications as they lie in six bytes each
+    module _ (rules : List ℕ) (laid : entriesOf rules ≡ h .entries) where
+      pub nogoods-laid : (end : ℕ) → end ≡ getD tallies 0 0 → (r : Built) → Build (between (entriesOf rules) 0 end) 0 (l .members) (l .sizes) (take (l .count) (l .nogoods)) [] 32 r → r ≡ builtOf 32 (take (32 + 1) (new-stage .nogoods))
+      nogoods-laid end q r e = nogoods-built r (subst (λ (x : List Entry). Build (between x 0 (getD tallies 0 0)) 0 (l .members) (l .sizes) (take (l .count) (l .nogoods)) [] 32 r) laid
+          (subst (λ (v : ℕ). Build (between (entriesOf rules) 0 v) 0 (l .members) (l .sizes) (take (l .count) (l .nogoods)) [] 32 r) q e))
+
+      pub label-laid : (struck : List ℕ) → struck ≡ new-stage .nogoods → (i lo : ℕ) → i < N → lo ≡ below (saidBy h) (i + 1) → (old : List ℕ) → old ≡ lying (l .members) (l .sizes) (i + 1)
+          → (r : Built) → Build (between (entriesOf rules) lo (lo + getD tallies (i + 1) 0)) (i + 1) (l .members) (l .sizes) old struck 12 r → r ≡ builtOf 12 (take (12 + 1) (getD (new-stage .labels) i []))
+      label-laid struck se i lo low le old oe r e = label-built struck se i lo low le old oe r (subst (λ (x : List Entry). Build (between x lo (lo + getD tallies (i + 1) 0)) (i + 1) (l .members) (l .sizes) old struck 12 r) laid e)
 
 -- ---- what the next stage says
 

@@ -2,7 +2,7 @@
 use mathlib.Core.Bool.{Bool, false, true}
 use mathlib.Core.List.{List, List·Memᴰ as Mem, [], _++_, _∷_, map, List·Memᴰ·head as here, List·Memᴰ·tail as there}
 use mathlib.Core.Logic.{⊎-elim}
-use mathlib.Core.Path.{_∙_, _≡_, ap, ap₂, refl, sym}
+use mathlib.Core.Path.{_∙_, _≡_, ap, ap₂, refl, subst, sym}
 use Prim.Native.Nat.{_+_, _-_, _<_, _≤_, suc, zero, ℕ}
 use native.Mathlib.Decide.{decLt}
 use native.Mathlib.Numerals.{add-one}
@@ -12,7 +12,7 @@ use lib.ListN.{List·getD-map, drop, drop-of-length-le, getD, getD-replicate, le
 use lib.Seq.{drop-cons, ext-getD, getD-drop, getD-set-other, getD-set-same, getD-take}
 use borrow.Author.Tests.{eq-eqb, eqb-false, eqb-true, le-ltb, lt-ltb, ltb-true, ne-eqb}
 use Rattle.labels.proofs.Ranges.{held-joinable, held-low, joinable-part, part-few, part-ranged}
-use Rattle.labels.specs.Layout.{Few, Joinable, Ranged, between}
+use Rattle.labels.specs.Layout.{Few, Joinable, Ranged, between, entriesOf}
 use Rattle.rules.proofs.Order.{ordered-head, ordered-tail}
 use Rattle.rules.proofs.Scan.{right-elim, right-inside, said-length}
 use Rattle.rules.specs.Held.{meaning, ordered, saidBy, vacant}
@@ -226,3 +226,11 @@ module _ (h : Held) (ok : Judgeable h) where
       is-table t 129 (manyOf (saidBy h)) 0 long (λ n q.
       let z : manyOf (drop j (saidBy h)) n ≡ 0 = ap (λ (l : List Justification). manyOf l n) (drop-of-length-le (saidBy h) {i = j} (omega (arith, held-long h ok))) in
       omega (arith, inv n (omega arith)))
+
+-- ---- justifications that lie in six bytes each
+module _ (rules : List ℕ) (h : Held) (e : entriesOf rules ≡ h .entries) where
+  pub part-laid : Judgeable h → (lo hi : ℕ) → hi ≤ h .count → Joinable (between (entriesOf rules) lo hi)
+  part-laid ok lo hi p = subst (λ (l : List Entry). Joinable (between l lo hi)) (sym e) (part-joinable h ok lo hi p)
+
+  pub meant-laid : (lo hi : ℕ) → map meaning (between (entriesOf rules) lo hi) ≡ map meaning (between (h .entries) lo hi)
+  meant-laid lo hi = ap (λ (l : List Entry). map meaning (between l lo hi)) e

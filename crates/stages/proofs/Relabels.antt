@@ -5,6 +5,7 @@ use mathlib.Core.Path.{_∙_, _≡_, ap, ap₂, refl, sym}
 use Prim.Native.Nat.{_*_, _+_, _<_, _≤_, ℕ}
 use native.Mathlib.Numerals.{add-one}
 use native.Mathlib.Omega.{arith}
+use lib.Dec.{eqb}
 use lib.ListN.{getD, getD-replicate, length, length-replicate, replicate, set, take}
 use lib.Seq.{paste}
 use Rattle.labels.specs.Layout.{lying}
@@ -15,14 +16,15 @@ use Rattle.stages.proofs.Nexts.{over-none, short-on}
 use Rattle.stages.proofs.Parts.{below, wide}
 use Rattle.stages.proofs.Stages.{lies, listed-taken}
 use Rattle.stages.proofs.Writing.{marks-kept, marks-written, member, members-kept, members-placed, members-written, mixed, mixed-all, size, sizes-kept, sizes-placed, sizes-written}
-use Rattle.stages.specs.Steps.{Put, Reached, Relabelled, Stepped, fitted, markOf, stageBy}
+use Rattle.stages.specs.Steps.{Put, Reached, Relabelled, Step, Stepped, fitted, lists, markOf, stageBy, stepOf}
+use Rattle.stages.specs.declared.Turn.{Turn}
+use Rattle.replies.specs.Replies.{numberOf}
 use Rattle.replies.specs.declared.Reply.{Reply}
 use Rattle.replies.specs.declared.Reply.the-variants.{Done, Label, Nogoods}
 use Rattle.stages.specs.Judged.{refusal}
 use Rattle.stages.specs.Lists.{noLists}
 use Rattle.stages.specs.declared.Judged.{Judged}
 use Rattle.stages.specs.declared.Lists.{Lists}
-use Rattle.stages.specs.declared.Step.{Step}
 use Rattle.theory.proofs.Judgement.{same-elim, same-refl, stage-length}
 use Rattle.theory.proofs.Places.{is-table, length-table}
 use Rattle.theory.specs.Judge.{sameSets}
@@ -140,6 +142,13 @@ module _ (h : Held) (k : ℕ) (r : Step) where
   pub step-stopped : (reply : Reply) → (reply ≡ Done → ⊥) → refusal reply ≡ fitted (k + 1) (stageBy h (k + 1)) → (r .reply ≡ reply) × (r .lists ≡ noLists) → Stepped h k r
   unfolding made
   step-stopped reply n e p = record { answer = ap₂ made (p .0) (p .1) ∙ e; fresh = λ z. absurd (n (sym (p .0) ∙ z)); agrees = λ z. absurd (n (sym (p .0) ∙ z)) }
+
+-- a refusal that is handed back
+pub turn-stopped : (h : Held) (k : ℕ) (t : Turn) (members sizes marks : List ℕ) (reply : Reply) → (reply ≡ Done → ⊥) → eqb (numberOf reply) 0 ≡ false → refusal reply ≡ fitted (k + 1) (stageBy h (k + 1))
+    → t .reply ≡ reply → Stepped h k (stepOf t members sizes marks k)
+turn-stopped h k t members sizes marks reply n z e q =
+    let l : Lists = lists members sizes (t .count) (t .nogoods) (k + 1) in
+    step-stopped h k (stepOf t members sizes marks k) reply n e (q, ap (λ (x : Reply). choose (eqb (numberOf x) 0) l noLists) q ∙ ap (λ (b : Bool). choose b l noLists) z)
 
 pub over-not-done : Nogoods ≡ Done → ⊥
 over-not-done e = let z : _≡_ {A = ℕ} 0 1 = cc in omega arith

@@ -115,11 +115,11 @@ pub listed-taken : (X : List ℕ) (count : ℕ) (places : List ℕ) → Listed X
 listed-taken X count places n = ap₂ (λ (c : ℕ) (l : List ℕ). take c l) (n .counted) (n .lie) ∙ unpadded 0 32 X (omega (arith, n .counted, n .few))
 
 -- the part of the members that label i + 1 takes
-pub part-lies : (members sizes : List ℕ) (i : ℕ) → take (12 * i + getD sizes i 0 - 12 * i) (drop (12 * i) members) ≡ lying members sizes (i + 1)
+pub olds-lie : (olds members sizes : List ℕ) (i : ℕ) → olds ≡ members → take (12 * i + getD sizes i 0 - 12 * i) (drop (12 * i) olds) ≡ lying members sizes (i + 1)
 unfolding lying
-part-lies members sizes i =
+olds-lie olds members sizes i same =
     let e : 12 * i + getD sizes i 0 - 12 * i ≡ getD sizes i 0 = omega arith in
-    ap (λ (n : ℕ). take n (drop (12 * i) members)) e ∙ ap (lying members sizes) (sym (add-one i))
+    ap₂ (λ (n : ℕ) (l : List ℕ). take n (drop (12 * i) l)) e same ∙ ap (lying members sizes) (sym (add-one i))
 
 -- ---- no lists
 

@@ -1,6 +1,6 @@
 -- The walk over the stages, turn by turn, over plain variables. Assumes nothing.
 use mathlib.Core.Bool.{Bool, false, true}
-use mathlib.Core.List.{[]}
+use mathlib.Core.List.{List, []}
 use mathlib.Core.Logic.{⊎-elim}
 use mathlib.Core.Path.{_∙_, _≡_, ap, ap₂, refl, subst, sym}
 use Prim.Native.Nat.{_+_, _-_, _<_, _≤_, suc, zero, ℕ}
@@ -8,7 +8,7 @@ use native.Mathlib.Decide.{decLt}
 use native.Mathlib.Numerals.{add-one}
 use native.Mathlib.Omega.{arith}
 use lib.ListN.{getD, length}
-use borrow.Author.Tests.{le-ltb}
+use borrow.Author.Tests.{eq-eqb, le-ltb}
 use Rattle.replies.specs.Replies.{numberOf}
 use Rattle.replies.specs.declared.Reply.the-variants.{Done}
 use Rattle.rules.proofs.Laws.{right-range}
@@ -18,15 +18,17 @@ use Rattle.stages.proofs.Nexts.{lowest-none}
 use Rattle.stages.proofs.Parts.{wide}
 use Rattle.stages.proofs.Stages.{start-is}
 use Rattle.stages.specs.Judged.{Judgeable, judgedBy, refusal}
-use Rattle.stages.specs.Lists.{firstStage, listsOf}
-use Rattle.stages.specs.Steps.{Reached, Room, fitted, fittedBy, stageBy}
+use Rattle.stages.specs.Lists.{firstStage, listsOf, noLists}
+use Rattle.stages.specs.Steps.{Fresh, Reached, Room, Stepped, fitted, fittedBy, lists, stageBy, stepOf}
 use Rattle.stages.specs.declared.Judged.{Judged}
 use Rattle.stages.specs.declared.Lists.{Lists}
+use Rattle.stages.specs.declared.Turn.{Turn}
 use Rattle.theory.proofs.Depth.{consequents-few}
 use Rattle.theory.proofs.Judgement.{agree-at-last, agree-elim, course-turn, stage-label, stage-length, stage-nogoods}
 use Rattle.theory.proofs.Lists.{clash, either}
 use Rattle.theory.proofs.Start.{label-zero, label-zero-above, nogoods-zero}
 use Rattle.theory.specs.Judge.{Stage, Verdict, agree, consequents, course, judge, labelLong, labelOver, limits, nogoodsLong, nogoodsOver, settled}
+use Rattle.theory.specs.Lists.{choose}
 use Rattle.theory.specs.Stages.{labelAt}
 
 -- what the next stage answers: done, with its lists, exactly when it has room
@@ -50,7 +52,7 @@ module _ (k : ℕ) (s : Stage) (r : Judged) (is : r ≡ fitted k s) (n : ℕ) (n
 
 -- a refusal has no lists, and what is no refusal is done
 module _ (k : ℕ) (s : Stage) (r : Judged) (is : r ≡ fitted k s) where
-  pub refused-is : (numberOf (r .reply) ≡ 0 → ⊥) → refusal (r .reply) ≡ r
+  refused-is : (numberOf (r .reply) ≡ 0 → ⊥) → refusal (r .reply) ≡ r
   unfolding fitted
   refused-is n = go (nogoodsLong limits s) (labelLong limits s) is
     where
@@ -59,7 +61,7 @@ module _ (k : ℕ) (s : Stage) (r : Judged) (is : r ≡ fitted k s) where
       go false (suc m) e = ap (λ (x : Judged). refusal (x .reply)) e ∙ sym e
       go false zero e = absurd (n (ap (λ (x : Judged). numberOf (x .reply)) e))
 
-  pub done-is : numberOf (r .reply) ≡ 0 → r .reply ≡ Done
+  done-is : numberOf (r .reply) ≡ 0 → r .reply ≡ Done
   unfolding fitted
   done-is z = go (nogoodsLong limits s) (labelLong limits s) is
     where
@@ -175,29 +177,29 @@ module _ (h : Held) (l : Lists) (re : Reached h l) (v : Verdict) (so : v ≡ fro
   last : (k : ℕ) → most h ≤ k → agree (stageBy h k) (stageBy h (suc k)) ≡ true
   last k = agree-at-last (h .assumptions) N (saidBy h) k
 
-  pub judge-refused : (n ≡ 0 → ⊥) → r ≡ judgedBy v
+  judge-refused : (n ≡ 0 → ⊥) → r ≡ judgedBy v
   judge-refused = turn-refused (stageBy h) N (wide h (re .judgeable)) long (most h) last (l .depth) l (re .is) (re .room) v so r made n number
 
   module _ (z : n ≡ 0) where
     lists-is : r .lists ≡ listsOf (l .depth + 1) (stageBy h (l .depth + 1))
     lists-is = step-lists (l .depth + 1) (stageBy h (l .depth + 1)) r made n number z
 
-    pub depth-is : r .lists .depth ≡ l .depth + 1
+    depth-is : r .lists .depth ≡ l .depth + 1
     unfolding listsOf
     depth-is = ap (λ (x : Lists). x .depth) lists-is
 
     module _ (b : Bool) (same : b ≡ agree (stageBy h (l .depth)) (stageBy h (l .depth + 1))) where
-      pub judge-settled : b ≡ true → _≡_ {A = Judged} (record { reply = Done; lists = l }) (judgedBy v)
+      judge-settled : b ≡ true → _≡_ {A = Judged} (record { reply = Done; lists = l }) (judgedBy v)
       judge-settled = turn-settled (stageBy h) N (wide h (re .judgeable)) long (most h) last (l .depth) l (re .is) (re .room) v so r made n number z b same
 
       module _ (differs : b ≡ false) where
         low : l .depth < most h
         low = turn-low (stageBy h) N (wide h (re .judgeable)) long (most h) last (l .depth) l (re .is) (re .room) v so r made n number z b same differs
 
-        pub judge-less : most h - r .lists .depth < most h - l .depth
+        judge-less : most h - r .lists .depth < most h - l .depth
         judge-less = omega (arith, depth-is, low)
 
-        pub judge-next : Reached h (r .lists)
+        judge-next : Reached h (r .lists)
         judge-next = record {
           judgeable = re .judgeable;
           is = lists-is ∙ ap (λ (k : ℕ). listsOf k (stageBy h k)) (sym depth-is);
@@ -205,5 +207,36 @@ module _ (h : Held) (l : Lists) (re : Reached h l) (v : Verdict) (so : v ≡ fro
           low = omega (arith, depth-is, low, most-few h (re .judgeable));
         }
 
-        pub judge-on : v ≡ fromStage h (r .lists .depth)
+        judge-on : v ≡ fromStage h (r .lists .depth)
         judge-on = turn-on (stageBy h) N (wide h (re .judgeable)) long (most h) last (l .depth) l (re .is) (re .room) v so r made n number z b same differs ∙ ap (fromStage h) (sym depth-is)
+
+-- ---- one step as it is handed back
+turned-lists : (t : Turn) (members sizes marks : List ℕ) (k : ℕ) → numberOf (t .reply) ≡ 0 → stepOf t members sizes marks k .lists ≡ lists members sizes (t .count) (t .nogoods) (k + 1)
+turned-lists t members sizes marks k z = ap (λ (b : Bool). choose b (lists members sizes (t .count) (t .nogoods) (k + 1)) noLists) (eq-eqb (numberOf (t .reply)) 0 z)
+
+module _ (h : Held) (l : Lists) (re : Reached h l) (v : Verdict) (so : v ≡ fromStage h (l .depth)) (t : Turn) (members sizes marks : List ℕ) (st : Stepped h (l .depth) (stepOf t members sizes marks (l .depth))) (n : ℕ) (number : n ≡ numberOf (t .reply)) where
+  abbrev told : Judged
+  told = record { reply = t .reply; lists = stepOf t members sizes marks (l .depth) .lists }
+
+  pub walk-refused : (n ≡ 0 → ⊥) → refusal (t .reply) ≡ judgedBy v
+  walk-refused z = refused-is (l .depth + 1) (stageBy h (l .depth + 1)) told (st .answer) (λ e. z (number ∙ e)) ∙ judge-refused h l re v so told (st .answer) n number z
+
+  module _ (z : n ≡ 0) where
+    done : t .reply ≡ Done
+    done = done-is (l .depth + 1) (stageBy h (l .depth + 1)) told (st .answer) (sym number ∙ z)
+
+    pub walk-settled : t .same ≡ true → _≡_ {A = Judged} (record { reply = Done; lists = l }) (judgedBy v)
+    walk-settled = judge-settled h l re v so told (st .answer) n number z (t .same) (st .agrees done)
+
+    pub walk-fresh : Fresh h (l .depth + 1) marks
+    walk-fresh = st .fresh done
+
+    module _ (differs : t .same ≡ false) where
+      pub walk-less : most h - (l .depth + 1) < most h - l .depth
+      walk-less = omega (arith, judge-less h l re v so told (st .answer) n number z (t .same) (st .agrees done) differs, depth-is h l re v so told (st .answer) n number z)
+
+      pub walk-next : Reached h (lists members sizes (t .count) (t .nogoods) (l .depth + 1))
+      walk-next = subst (Reached h) (turned-lists t members sizes marks (l .depth) (sym number ∙ z)) (judge-next h l re v so told (st .answer) n number z (t .same) (st .agrees done) differs)
+
+      pub walk-on : v ≡ fromStage h (l .depth + 1)
+      walk-on = judge-on h l re v so told (st .answer) n number z (t .same) (st .agrees done) differs ∙ ap (fromStage h) (depth-is h l re v so told (st .answer) n number z)

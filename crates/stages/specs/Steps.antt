@@ -8,14 +8,16 @@ use lib.ListN.{getD, length, set}
 use lib.Seq.{paste}
 use Rattle.labels.specs.Moved.{stirs}
 use Rattle.labels.specs.declared.Built.{Built}
+use Rattle.replies.specs.Replies.{numberOf}
+use Rattle.replies.specs.declared.Reply.{Reply}
 use Rattle.replies.specs.declared.Reply.the-variants.{Done, Label, Nogoods}
 use Rattle.rules.specs.Held.{saidBy}
 use Rattle.rules.specs.declared.Held.{Held}
 use Rattle.stages.specs.Judged.{Judgeable, refusal}
-use Rattle.stages.specs.Lists.{listsOf}
+use Rattle.stages.specs.Lists.{listsOf, noLists}
 use Rattle.stages.specs.declared.Judged.{Judged}
 use Rattle.stages.specs.declared.Lists.{Lists}
-use Rattle.stages.specs.declared.Step.{Step}
+use Rattle.stages.specs.declared.Turn.{Turn}
 use Rattle.theory.specs.Lists.{choose, those}
 use Rattle.theory.specs.Places.{padded, table}
 use Rattle.theory.specs.Sets.{contains}
@@ -118,6 +120,22 @@ sparedOf struck l = those (λ E. not (contains struck E)) l
 abbrev pub Put : Bool → ℕ → Built → List ℕ → List ℕ → List ℕ → List ℕ → List ℕ → List ℕ → Type 0
 Put same at label later counts marks later′ counts′ marks′ =
     (later′ ≡ choose same later (paste later (12 * at) (label .sets) 12)) × (counts′ ≡ choose same counts (set counts at (label .count))) × (marks′ ≡ choose same marks (set marks (at + 1) 1))
+
+-- a step: done or the refusal, the lists, a mark for each label that changed in it, and whether no list did
+pub record Step : Type 0 where
+  pub reply : Reply
+  pub lists : Lists
+  pub moved : List ℕ
+  pub same : Bool
+
+-- what is handed back of a step from stage k, with what was written; a refusal has no lists
+abbrev pub stepOf : Turn → List ℕ → List ℕ → List ℕ → ℕ → Step
+stepOf t members sizes marks k = record {
+  reply = t .reply;
+  lists = choose (eqb (numberOf (t .reply)) 0) (lists members sizes (t .count) (t .nogoods) (k + 1)) noLists;
+  moved = marks;
+  same = t .same;
+}
 
 -- r is the step from stage k to the next
 pub record Stepped (h : Held) (k : ℕ) (r : Step) : Type 0 where

@@ -11,13 +11,12 @@ ghost use lib.ListN.{getD, length, replicate, take};
 ghost use lib.Seq.{paste};
 ghost use Rattle.theory.specs.Lists.{allOf, choose};
 ghost use Rattle.rules.specs.Held.{meaning, saidBy};
-ghost use Rattle.labels.specs.Layout.{Few, Ranged};
+ghost use Rattle.labels.specs.Layout.{Few, Ranged, entriesOf};
 ghost use Rattle.labels.specs.Moved.{stirs};
 ghost use Rattle.labels.specs.Promised.{builtOf};
 ghost use Rattle.theory.specs.Judge.{sameSets};
 ghost use Rattle.stages.specs.Judged.{Judge, Judgeable, Start, refusal};
-ghost use Rattle.stages.specs.Lists.{noLists};
-ghost use Rattle.stages.specs.Steps.{Fresh, LabelsLie, Put, Reached, Relabelled, Stale, Steady, Stepped, Told, Touched, lists, sparedOf, stageBy, tallied};
+ghost use Rattle.stages.specs.Steps.{Fresh, LabelsLie, Put, Reached, Relabelled, Stale, Steady, Stepped, Told, Touched, lists, sparedOf, stageBy, stepOf, tallied};
 
 // The labels and nogoods of a stage: label n at its own twelve places 12 (n - 1) up, its size beside it; unused places zero.
 pub struct Lists {
@@ -55,123 +54,122 @@ pub fn start(assumptions: u8) -> Lists
     requires { ⌜ assumptions ≤ 32 ⌝ }
     ensures { λ r. ⌜ Start assumptions r ⌝ }
 {
-    let nogoods = [0u32; 32];
-    let mut sizes = [0u8; 128];
-    let mut members = [0u32; 1536];
+    let mut lists = Lists {
+        sizes: [0u8; 128],
+        members: [0u32; 1536],
+        count: 0,
+        nogoods: [0u32; 32],
+        depth: 0,
+    };
     let mut i = 0u8;
     while i < assumptions {
         let at = i as usize;
-        sizes[at] = 1;
-        members[12 * at] = sets::only(i as u32 + 1);
+        lists.sizes[at] = 1;
+        lists.members[12 * at] = sets::only(i as u32 + 1);
         i += 1;
     }
-    Lists {
-        sizes,
-        members,
-        count: 0,
-        nogoods,
-        depth: 0,
-    }
+    lists
 }
 
-// A step to the next stage: its lists or the refusal, a mark for each label that changed in it, and whether no list did.
-struct Step {
+// A step to the next stage: done or the refusal, the nogoods there, and whether no list changed in it.
+struct Turn {
     reply: Reply,
-    lists: Lists,
-    moved: [u8; 129],
+    count: usize,
+    nogoods: [u32; 32],
     same: bool,
 }
 
-// A refusal, with no lists.
-fn stopped(reply: Reply) -> Step
-    ensures { λ r. ⌜ (r .reply ≡ reply) × (r .lists ≡ noLists) ⌝ }
+// A refusal, with no nogoods.
+fn stopped(reply: Reply) -> Turn
+    ensures { λ r. ⌜ r .reply ≡ reply ⌝ }
 {
-    let none = refused(reply);
-    let lists = none.lists;
-    Step {
+    Turn {
         reply,
-        lists,
-        moved: [0u8; 129],
+        count: 0,
+        nogoods: [0u32; 32],
         same: false,
     }
 }
 
-impl Lists {
-    // The lists of the next stage, or the refusal: its nogoods first, then every label with those nogoods.
-    fn next(self, held: Held, tallies: [u16; 129], moved: [u8; 129]) -> Step
-        requires { ⌜ Reached held self × (tallies ≡ tallied held) × Fresh held (self .depth) moved ⌝ }
-        ensures { λ r. ⌜ Stepped held (self .depth) r ⌝ }
-    {
-        let before = self.count;
-        let nogoods = self.nogoods;
-        let depth = self.depth;
-        let stale = touched(held, &moved);
-        let built = refuted(
-            held,
-            tallies[0] as usize,
-            depth,
-            &self.members,
-            &self.sizes,
-            nogoods,
-            before,
-            stale[0],
-            &moved,
-        );
-        let count = built.count;
-        if 32 < count {
-            return stopped(Reply::Nogoods);
-        }
-        let struck = built.sets;
-        let news = differs(built, &nogoods[..before]);
-        let mut members = self.members;
-        let mut sizes = self.sizes;
-        let mut marks = [0u8; 129];
-        let over = relabel(
-            held,
-            tallies,
-            stale,
-            &moved,
-            news,
-            depth,
-            &self.members,
-            &self.sizes,
-            &struck[..count],
-            &mut members,
-            &mut sizes,
-            &mut marks,
-        );
-        if over != 0 {
-            return stopped(Reply::Label(over));
-        }
-        let same = still(news, &marks);
-        Step {
-            reply: Reply::Done,
-            lists: Lists {
-                sizes,
-                members,
-                count,
-                nogoods: struck,
-                depth: depth + 1,
-            },
-            moved: marks,
-            same,
-        }
+// The step to the next stage: its nogoods first, then every label with those nogoods, written over the old ones, and a mark for each that changed.
+fn next<'a>(
+    held: Held,
+    rules: &[u8; 1536],
+    tallies: [u16; 129],
+    moved: &[u8],
+    depth: u8,
+    members: &'a [u32; 1536],
+    sizes: &'a [u8; 128],
+    nogoods: [u32; 32],
+    many: usize,
+    later: &mut [u32],
+    counts: &mut [u8],
+    marks: &mut [u8],
+) -> Turn
+    requires { ⌜ Reached held (lists (now members) (now sizes) many nogoods depth) × (tallies ≡ tallied held) × Fresh held depth (now moved) × (entriesOf (now rules) ≡ held .entries) × (now later ≡ now members) × (now counts ≡ now sizes) × (now marks ≡ replicate 129 0) ⌝ }
+    ensures { λ r. ⌜ Stepped held depth (stepOf r (now (later .exit)) (now (counts .exit)) (now (marks .exit)) depth) ⌝ }
+{
+    let stale = touched(held, moved);
+    let built = refuted(
+        held,
+        rules,
+        tallies[0] as usize,
+        depth,
+        members,
+        sizes,
+        nogoods,
+        many,
+        stale[0],
+        moved,
+    );
+    let count = built.count;
+    if 32 < count {
+        return stopped(Reply::Nogoods);
+    }
+    let struck = built.sets;
+    let news = differs(built, &nogoods[..many]);
+    let over = relabel(
+        held,
+        rules,
+        tallies,
+        stale,
+        moved,
+        news,
+        depth,
+        members,
+        sizes,
+        members,
+        &struck[..count],
+        later,
+        counts,
+        marks,
+    );
+    if over != 0 {
+        return stopped(Reply::Label(over));
+    }
+    let same = still(news, marks);
+    Turn {
+        reply: Reply::Done,
+        count,
+        nogoods: struck,
+        same,
     }
 }
 
 // The nogoods of the next stage, built where they are stale: full at 33.
 fn refuted<'a>(
     held: Held,
+    rules: &[u8; 1536],
     end: usize,
     depth: u8,
-    members: &'a [u32],
-    sizes: &'a [u8],
+    members: &'a [u32; 1536],
+    sizes: &'a [u8; 128],
     old: [u32; 32],
     count: usize,
     stale: u8,
     moved: &[u8],
 ) -> Built
-    requires { ⌜ Reached held (lists (now members) (now sizes) count old depth) × (end ≡ getD (tallied held) 0 0) × (stale ≡ 0 → Steady held depth 0) × Fresh held depth (now moved) ⌝ }
+    requires { ⌜ Reached held (lists (now members) (now sizes) count old depth) × (end ≡ getD (tallied held) 0 0) × (stale ≡ 0 → Steady held depth 0) × Fresh held depth (now moved) × (entriesOf (now rules) ≡ held .entries) ⌝ }
     ensures { λ r. ⌜ r ≡ builtOf 32 (take (32 + 1) (stageBy held (depth + 1) .nogoods)) ⌝ }
 {
     if stale == 0 {
@@ -179,7 +177,7 @@ fn refuted<'a>(
     }
     let none = [0u32; 1];
     labels::build(
-        held,
+        rules,
         0,
         end,
         0,
@@ -195,34 +193,35 @@ fn refuted<'a>(
 // The labels of the next stage over the old ones, a mark for each that changed: those that are stale built, of the others what the nogoods leave where they changed. The lowest number whose label is over, or 0.
 fn relabel<'a>(
     held: Held,
+    rules: &[u8; 1536],
     tallies: [u16; 129],
     stale: [u8; 129],
     moved: &[u8],
     news: bool,
     depth: u8,
-    members: &'a [u32],
-    sizes: &'a [u8],
+    members: &'a [u32; 1536],
+    sizes: &'a [u8; 128],
+    olds: &'a [u32],
     struck: &'a [u32],
     later: &mut [u32],
     counts: &mut [u8],
     marks: &mut [u8],
 ) -> u8
-    requires { ⌜ LabelsLie held depth (now members) (now sizes) × (tallies ≡ tallied held) × (now struck ≡ stageBy held (depth + 1) .nogoods) × Stale held depth stale × Fresh held depth (now moved) × Told held depth news × (now later ≡ now members) × (now counts ≡ now sizes) × (now marks ≡ replicate 129 0) ⌝ }
+    requires { ⌜ LabelsLie held depth (now members) (now sizes) × (tallies ≡ tallied held) × (now struck ≡ stageBy held (depth + 1) .nogoods) × Stale held depth stale × Fresh held depth (now moved) × Told held depth news × (now later ≡ now members) × (now counts ≡ now sizes) × (now marks ≡ replicate 129 0) × (entriesOf (now rules) ≡ held .entries) × (now olds ≡ now members) ⌝ }
     ensures { λ r. ⌜ Relabelled held depth (now (later .exit)) (now (counts .exit)) (now (marks .exit)) r ⌝ }
 {
-    let top = held.assumptions + held.claims;
     let mut hi = tallies[0] as usize;
     let mut i = 0u8;
-    while i < top {
+    while i < held.assumptions + held.claims {
         let at = i as usize;
         let lo = hi;
         hi = lo + tallies[at + 1] as usize;
         i += 1;
         let from = 12 * at;
         let end = from + sizes[at] as usize;
-        let old = &members[from..end];
+        let old = &olds[from..end];
         if stale[at + 1] != 0 {
-            let label = labels::build(held, lo, hi, i, members, sizes, old, struck, moved, 12);
+            let label = labels::build(rules, lo, hi, i, members, sizes, old, struck, moved, 12);
             if 12 < label.count {
                 return i;
             }
@@ -337,6 +336,28 @@ fn tally(held: Held) -> [u16; 129]
     tallies
 }
 
+// The justifications held, in six bytes each.
+fn laid(held: Held) -> [u8; 1536]
+    requires { ⌜ Judgeable held ⌝ }
+    ensures { λ r. ⌜ entriesOf r ≡ held .entries ⌝ }
+{
+    let mut rules = [0u8; 1536];
+    let mut j = 0;
+    while j < 256 {
+        let entry = held.entries[j];
+        let supports = entry.supports;
+        let at = 6 * j;
+        rules[at] = entry.consequent;
+        rules[at + 1] = entry.count;
+        rules[at + 2] = supports[0];
+        rules[at + 3] = supports[1];
+        rules[at + 4] = supports[2];
+        rules[at + 5] = supports[3];
+        j += 1;
+    }
+    rules
+}
+
 // The mark of the consequent after one justification of it more: 1 where it is stirred.
 fn marked(entry: Entry, mark: u8, moved: &[u8]) -> u8
     requires { ⌜ Few entry × Ranged (meaning entry .supports) × (length (now moved) ≡ 129) ⌝ }
@@ -373,23 +394,48 @@ pub fn judge(held: Held) -> Judged
     ensures { λ r. ⌜ Judge held r ⌝ }
 {
     let tallies = tally(held);
+    let rules = laid(held);
     let mut lists = start(held.assumptions);
+    let mut later = lists.members;
+    let mut counts = lists.sizes;
     let mut moved = [1u8; 129];
     loop {
-        let step = lists.next(held, tallies, moved);
-        let reply = step.reply;
+        let many = lists.count;
+        let nogoods = lists.nogoods;
+        let depth = lists.depth;
+        let mut marks = [0u8; 129];
+        let turn = next(
+            held,
+            &rules,
+            tallies,
+            &moved,
+            depth,
+            &lists.members,
+            &lists.sizes,
+            nogoods,
+            many,
+            &mut later,
+            &mut counts,
+            &mut marks,
+        );
+        let reply = turn.reply;
         if replies::number(reply) != 0 {
             return refused(reply);
         }
-        if step.same {
+        if turn.same {
             return Judged {
                 reply: Reply::Done,
                 lists,
             };
         }
-        let marks = step.moved;
+        let struck = turn.nogoods;
+        lists = Lists {
+            sizes: counts,
+            members: later,
+            count: turn.count,
+            nogoods: struck,
+            depth: depth + 1,
+        };
         moved = marks;
-        let later = step.lists;
-        lists = later;
     }
 }

@@ -1,5 +1,5 @@
 -- `labels::gather` meets its contract: its measure is the number of supports left. Assumes nothing.
-use mathlib.Core.Path.{_∙_, sym}
+use mathlib.Core.Path.{_∙_, refl, sym}
 use Prim.Native.Nat.{_-_, _<_, ℕ}
 use native.Mathlib.Omega.{arith}
 use lib.ListN.{getD, length}
@@ -60,14 +60,8 @@ claims t = (
 )
 
 module _ (t : ℕ) where
-  slice-reshare-prefix-barred : gather-lts.Need-slice-reshare-prefix-barred (claims t) (gather-at t) gather.Post gather-Inv-loop gather-μ-loop
-  slice-reshare-prefix-barred c = omega (arith, c .before .before .before .before .before .pre .1 .2 .fits)
-
-  slice-aggregate-barred : gather-lts.Need-slice-aggregate-barred (claims t) (gather-at t) gather.Post gather-Inv-loop gather-μ-loop
-  slice-aggregate-barred c = sym (length-take-le _ _ (c .before .before .before .before .before .before .pre .1 .2 .fits))
-
   barred-requires : gather-lts.Need-barred-requires (claims t) (gather-at t) gather.Post gather-Inv-loop gather-μ-loop
-  barred-requires c κs = search needs
+  barred-requires c κs = c .before .before .before .before .pre .1 .2 .fits
 
   enum-known-bar : gather-lts.Need-enum-known-bar (claims t) (gather-at t) gather.Post gather-Inv-loop gather-μ-loop
   enum-known-bar c = search needs
@@ -75,45 +69,36 @@ module _ (t : ℕ) where
   because-requires : gather-lts.Need-because-requires (claims t) (gather-at t) gather.Post gather-Inv-loop gather-μ-loop
   because-requires c κs = search needs
 
-  same-length : gather-lts.Need-same-length (claims t) (gather-at t) gather.Post gather-Inv-loop gather-μ-loop
-  same-length c = search needs
-
   returns : gather-lts.Need-returns (claims t) (gather-at t) gather.Post gather-Inv-loop gather-μ-loop
   returns c =
-      let s = c .before .before .before .before .before .before .before .before .before .before .before in
-      gather-barred _ _ (s .args .supports .now) (s .args .joined) (s .args .pool .now) (s .args .fill) (s .pre .1 .2 .fits) _ (c .before .before .before .before .barred .ensures) _ (c .before .before .bar .given .1) _ (c .because .ensures)
+      let s = c .before .before .before .before .before .before .before .before .before in
+      (gather-barred _ _ (s .args .supports .now) (s .args .joined) (s .args .pool .now) (s .args .fill) (s .pre .1 .2 .fits) _ (c .before .before .before .before .barred .ensures) _ (c .before .before .bar .given .1) _ (c .because .ensures), refl)
 
   enum-told : gather-lts.Need-enum-told (claims t) (gather-at t) gather.Post gather-Inv-loop gather-μ-loop
   enum-told c = search needs
 
   enter-requires : gather-lts.Need-enter-requires (claims t) (gather-at t) gather.Post gather-Inv-loop gather-μ-loop
-  enter-requires c κs = c .before .before .before .before .before .before .before .before .before .before .before .pre .1 .2
-
-  same-length-2 : gather-lts.Need-same-length-2 (claims t) (gather-at t) gather.Post gather-Inv-loop gather-μ-loop
-  same-length-2 c = search needs
+  enter-requires c κs = c .before .before .before .before .before .before .before .before .before .pre .1 .2
 
   returns-2 : gather-lts.Need-returns-2 (claims t) (gather-at t) gather.Post gather-Inv-loop gather-μ-loop
   returns-2 c =
-      let s = c .before .before .before .before .before .before .before .before .before .before .before .before .before .before in
-      gather-end _ _ (s .args .supports .now) (s .args .joined) (s .args .pool .now) (s .args .fill) (s .pre .1 .2 .fits) _ (c .before .before .before .before .before .before .before .barred .ensures) (c .before .before .before .before .before .enum-told .given .1) (s .pre .1 .2 .well) (s .pre .1 .3) (c .before .before .before .before .if1 .taken) _ (c .before .before .enter .result) (c .before .before .enter .ensures)
+      let s = c .before .before .before .before .before .before .before .before .before .before in
+      (gather-end _ _ (s .args .supports .now) (s .args .joined) (s .args .pool .now) (s .args .fill) (s .pre .1 .2 .fits) _ (c .before .before .before .before .before .barred .ensures) (c .before .before .before .enum-told .given .1) (s .pre .1 .2 .well) (s .pre .1 .3) (c .before .before .if1 .taken) _ (c .enter .result) (c .enter .ensures .0), c .enter .ensures .1)
 
   shared-slice-read-i : gather-lts.Need-shared-slice-read-i (claims t) (gather-at t) gather.Post gather-Inv-loop gather-μ-loop
   shared-slice-read-i c = omega arith
 
   cast-i : gather-lts.Need-cast-i (claims t) (gather-at t) gather.Post gather-Inv-loop gather-μ-loop
-  cast-i c = omega (arith, c .before .before .before .before .before .before .before .before .before .before .before .pre .1 .1 .range 0 (c .before .if1 .left) .1)
+  cast-i c = omega (arith, c .before .before .before .before .before .before .before .before .before .pre .1 .1 .range 0 (c .before .if1 .left) .1)
 
   sub-i : gather-lts.Need-sub-i (claims t) (gather-at t) gather.Post gather-Inv-loop gather-μ-loop
-  sub-i c = omega (arith, c .before .before .before .before .before .before .before .before .before .before .before .pre .1 .1 .range 0 (c .before .if1 .left) .0)
-
-  shared-slice-read-size : gather-lts.Need-shared-slice-read-size (claims t) (gather-at t) gather.Post gather-Inv-loop gather-μ-loop
-  shared-slice-read-size c = let s = c .before .before .before .before .before .before .before .before .before .before .before .before in omega (arith, s .pre .1 .1 .range 0 (c .before .before .if1 .left) .1, s .pre .1 .1 .range 0 (c .before .before .if1 .left) .0, s .pre .1 .0 .sizes-length)
+  sub-i c = omega (arith, c .before .before .before .before .before .before .before .before .before .pre .1 .1 .range 0 (c .before .if1 .left) .0)
 
   cast-size : gather-lts.Need-cast-size (claims t) (gather-at t) gather.Post gather-Inv-loop gather-μ-loop
-  cast-size c = let s = c .before .before .before .before .before .before .before .before .before .before .before .before in omega (arith, s .pre .1 .0 .sizes-small (getD (s .args .supports .now) 0 0 - 1))
+  cast-size c = let s = c .before .before .before .before .before .before .before .before .before .before in omega (arith, s .pre .1 .0 .sizes-small (getD (s .args .supports .now) 0 0 - 1))
 
   mul-from : gather-lts.Need-mul-from (claims t) (gather-at t) gather.Post gather-Inv-loop gather-μ-loop
-  mul-from c = omega (arith, c .before .before .before .before .before .before .before .before .before .before .before .before .pre .1 .1 .range 0 (c .before .before .if1 .left) .1)
+  mul-from c = omega (arith, c .before .before .before .before .before .before .before .before .before .before .pre .1 .1 .range 0 (c .before .before .if1 .left) .1)
 
   sub-left : gather-lts.Need-sub-left (claims t) (gather-at t) gather.Post gather-Inv-loop gather-μ-loop
   sub-left c = search needs
@@ -125,22 +110,19 @@ module _ (t : ℕ) where
   part-left-end c = search needs
 
   loop-holds : gather-lts.Need-loop-holds (claims t) (gather-at t) gather.Post gather-Inv-loop gather-μ-loop
-  loop-holds c = turning-none _ _ _ _ _ _ _ (c .before .before .before .before .before .before .before .before .before .before .before .before .before .pre .1 .2) _
+  loop-holds c = turning-none _ _ _ _ _ _ _ (c .before .before .before .before .before .before .before .before .before .before .before .pre .1 .2) _
 
   add-union : gather-lts.Need-add-union (claims t) (gather-at t) gather.Post gather-Inv-loop gather-μ-loop
-  add-union c = let s = c .before .before .before .before .before .before .before .before .before .before .before .before .before .before .before in omega (arith, s .pre .1 .1 .range 0 (c .before .before .before .before .before .if1 .left) .1, s .pre .1 .0 .sizes-small (getD (s .args .supports .now) 0 0 - 1), c .loop-test .taken)
+  add-union c = let s = c .before .before .before .before .before .before .before .before .before .before .before .before .before in omega (arith, s .pre .1 .1 .range 0 (c .before .before .before .before .before .if1 .left) .1, s .pre .1 .0 .sizes-small (getD (s .args .supports .now) 0 0 - 1), c .loop-test .taken)
 
   mul-union : gather-lts.Need-mul-union (claims t) (gather-at t) gather.Post gather-Inv-loop gather-μ-loop
-  mul-union c = let s = c .before .before .before .before .before .before .before .before .before .before .before .before .before .before .before in omega (arith, s .pre .1 .1 .range 0 (c .before .before .before .before .before .if1 .left) .1, s .pre .1 .0 .sizes-small (getD (s .args .supports .now) 0 0 - 1), c .loop-test .taken)
-
-  shared-slice-read-union : gather-lts.Need-shared-slice-read-union (claims t) (gather-at t) gather.Post gather-Inv-loop gather-μ-loop
-  shared-slice-read-union c = let s = c .before .before .before .before .before .before .before .before .before .before .before .before .before .before .before .before in omega (arith, s .pre .1 .1 .range 0 (c .before .before .before .before .before .before .if1 .left) .1, s .pre .1 .1 .range 0 (c .before .before .before .before .before .before .if1 .left) .0, s .pre .1 .0 .sizes-small (getD (s .args .supports .now) 0 0 - 1), s .pre .1 .0 .members-length, c .before .loop-test .taken)
+  mul-union c = let s = c .before .before .before .before .before .before .before .before .before .before .before .before .before in omega (arith, s .pre .1 .1 .range 0 (c .before .before .before .before .before .if1 .left) .1, s .pre .1 .0 .sizes-small (getD (s .args .supports .now) 0 0 - 1), c .loop-test .taken)
 
   union-requires : gather-lts.Need-union-requires (claims t) (gather-at t) gather.Post gather-Inv-loop gather-μ-loop
   union-requires c κs = search needs
 
   add-k : gather-lts.Need-add-k (claims t) (gather-at t) gather.Post gather-Inv-loop gather-μ-loop
-  add-k c = let s = c .before .before .before .before .before .before .before .before .before .before .before .before .before .before .before .before .before in omega (arith, s .pre .1 .0 .sizes-small (getD (s .args .supports .now) 0 0 - 1), c .before .before .loop-test .taken)
+  add-k c = let s = c .before .before .before .before .before .before .before .before .before .before .before .before .before .before .before in omega (arith, s .pre .1 .0 .sizes-small (getD (s .args .supports .now) 0 0 - 1), c .before .before .loop-test .taken)
 
   late-requires : gather-lts.Need-late-requires (claims t) (gather-at t) gather.Post gather-Inv-loop gather-μ-loop
   late-requires c κs = search needs
@@ -153,15 +135,15 @@ module _ (t : ℕ) where
 
   loop-again : gather-lts.Need-loop-again (claims t) (gather-at t) gather.Post gather-Inv-loop gather-μ-loop
   loop-again c =
-      let s = c .before .before .before .before .before .before .before .before .before .before .before .before .before .before .before .before .before .before .before .before in
+      let s = c .before .before .before .before .before .before .before .before .before .before .before .before .before .before .before .before .before .before in
       let l = c .before .before .before .before .before .before .loop in
       turn-late _ _ _ _ _ _ _ (s .pre .1 .0) (s .pre .1 .1) (c .before .before .before .before .before .before .before .before .before .before .if1 .left) _ _ _ _ _ (l .k) (l .inv) (c .before .before .before .before .before .loop-test .taken) _ (c .before .before .before .union .ensures) _ (c .before .before .late .ensures) (c .before .if2 .taken) _ (c .union2 .ensures)
 
   array-share-prefix-spent : gather-lts.Need-array-share-prefix-spent (claims t) (gather-at t) gather.Post gather-Inv-loop gather-μ-loop
-  array-share-prefix-spent c = let s = c .before .before .before .before .before .before .before .before .before .before .before .before .before .before .before .before .before .before .before in let l = c .before .before .before .before .before .loop in omega (arith, l .inv .few, l .inv .low, l .inv .long, s .pre .1 .0 .sizes-small (getD (s .args .supports .now) 0 0 - 1))
+  array-share-prefix-spent c = let s = c .before .before .before .before .before .before .before .before .before .before .before .before .before .before .before .before .before in let l = c .before .before .before .before .before .loop in omega (arith, l .inv .few, l .inv .low, l .inv .long, s .pre .1 .0 .sizes-small (getD (s .args .supports .now) 0 0 - 1))
 
   slice-aggregate-first-within : gather-lts.Need-slice-aggregate-first-within (claims t) (gather-at t) gather.Post gather-Inv-loop gather-μ-loop
-  slice-aggregate-first-within c = let s = c .before .before .before .before .before .before .before .before .before .before .before .before .before .before .before .before .before .before .before .before in let l = c .before .before .before .before .before .before .loop in sym (length-take-le (l .n) (l .spent) (omega (arith, l .inv .few, l .inv .low, l .inv .long, s .pre .1 .0 .sizes-small (getD (s .args .supports .now) 0 0 - 1))))
+  slice-aggregate-first-within c = let s = c .before .before .before .before .before .before .before .before .before .before .before .before .before .before .before .before .before .before in let l = c .before .before .before .before .before .before .loop in sym (length-take-le (l .n) (l .spent) (omega (arith, l .inv .few, l .inv .low, l .inv .long, s .pre .1 .0 .sizes-small (getD (s .args .supports .now) 0 0 - 1))))
 
   first-within-requires : gather-lts.Need-first-within-requires (claims t) (gather-at t) gather.Post gather-Inv-loop gather-μ-loop
   first-within-requires c κs = search needs
@@ -171,13 +153,13 @@ module _ (t : ℕ) where
 
   loop-again-2 : gather-lts.Need-loop-again-2 (claims t) (gather-at t) gather.Post gather-Inv-loop gather-μ-loop
   loop-again-2 c =
-      let s = c .before .before .before .before .before .before .before .before .before .before .before .before .before .before .before .before .before .before .before .before .before .before in
+      let s = c .before .before .before .before .before .before .before .before .before .before .before .before .before .before .before .before .before .before .before .before in
       let l = c .before .before .before .before .before .before .before .before .loop in
       turn-passed _ _ _ _ _ _ _ (s .pre .1 .0) (s .pre .1 .1) (c .before .before .before .before .before .before .before .before .before .before .before .before .if1 .left) _ _ _ _ _ (l .k) (l .inv) (c .before .before .before .before .before .before .before .loop-test .taken) _ (c .before .before .before .before .before .union .ensures) _ (c .before .first-within .ensures) (c .if3 .taken) (omega (arith, l .inv .few, l .inv .low, s .pre .1 .0 .sizes-small (getD (s .args .supports .now) 0 0 - 1)))
 
   gather-requires : gather-lts.Need-gather-requires (claims t) (gather-at t) gather.Post gather-Inv-loop gather-μ-loop
   gather-requires c κs =
-      let s = c .before .before .before .before .before .before .before .before .before .before .before .before .before .before .before .before .before .before .before .before .before .before .before in
+      let s = c .before .before .before .before .before .before .before .before .before .before .before .before .before .before .before .before .before .before .before .before .before in
       let l = c .before .before .before .before .before .before .before .before .before .loop in
       (omega (arith, s .pre .0, left-fewer (s .args .supports .now) (c .before .before .before .before .before .before .before .before .before .before .before .before .before .if1 .left)), (s .pre .1 .0, left-ranged _ (s .pre .1 .1), turning-roomy _ _ _ _ _ _ _ _ _ _ _ _ _ (s .pre .1 .2) (l .inv), sym (c .before .before .before .before .before .late .ensures) ∙ c .before .before .before .before .if2 .left))
 
@@ -188,53 +170,52 @@ module _ (t : ℕ) where
   meet-requires c κs = search needs
 
   mul-spent : gather-lts.Need-mul-spent (claims t) (gather-at t) gather.Post gather-Inv-loop gather-μ-loop
-  mul-spent c = let s = c .before .before .before .before .before .before .before .before .before .before .before .before .before .before .before .before .before .before .before .before .before .before .before .before .before .before .before .before in let l = c .before .before .before .before .before .before .before .before .before .before .before .before .before .before .loop in omega (arith, l .inv .few, c .before .before .before .before .before .before .before .before .before .before .before .before .before .loop-test .taken, s .pre .1 .0 .sizes-small (getD (s .args .supports .now) 0 0 - 1))
+  mul-spent c = let s = c .before .before .before .before .before .before .before .before .before .before .before .before .before .before .before .before .before .before .before .before .before .before .before .before in let l = c .before .before .before .before .before .before .before .before .before .before .before .before .loop in omega (arith, l .inv .few, c .before .before .before .before .before .before .before .before .before .before .before .loop-test .taken, s .pre .1 .0 .sizes-small (getD (s .args .supports .now) 0 0 - 1))
 
   array-write-spent : gather-lts.Need-array-write-spent (claims t) (gather-at t) gather.Post gather-Inv-loop gather-μ-loop
-  array-write-spent c = let s = c .before .before .before .before .before .before .before .before .before .before .before .before .before .before .before .before .before .before .before .before .before .before .before .before .before .before .before .before in let l = c .before .before .before .before .before .before .before .before .before .before .before .before .before .before .loop in omega (arith, l .inv .few, l .inv .long, c .before .before .before .before .before .before .before .before .before .before .before .before .before .loop-test .taken, s .pre .1 .0 .sizes-small (getD (s .args .supports .now) 0 0 - 1))
+  array-write-spent c = let s = c .before .before .before .before .before .before .before .before .before .before .before .before .before .before .before .before .before .before .before .before .before .before .before .before in let l = c .before .before .before .before .before .before .before .before .before .before .before .before .loop in omega (arith, l .inv .few, l .inv .long, c .before .before .before .before .before .before .before .before .before .before .before .loop-test .taken, s .pre .1 .0 .sizes-small (getD (s .args .supports .now) 0 0 - 1))
 
   add-n : gather-lts.Need-add-n (claims t) (gather-at t) gather.Post gather-Inv-loop gather-μ-loop
-  add-n c = let s = c .before .before .before .before .before .before .before .before .before .before .before .before .before .before .before .before .before .before .before .before .before .before .before .before .before .before .before .before in let l = c .before .before .before .before .before .before .before .before .before .before .before .before .before .before .loop in omega (arith, l .inv .few, c .before .before .before .before .before .before .before .before .before .before .before .before .before .loop-test .taken, s .pre .1 .0 .sizes-small (getD (s .args .supports .now) 0 0 - 1))
+  add-n c = let s = c .before .before .before .before .before .before .before .before .before .before .before .before .before .before .before .before .before .before .before .before .before .before .before .before in let l = c .before .before .before .before .before .before .before .before .before .before .before .before .loop in omega (arith, l .inv .few, c .before .before .before .before .before .before .before .before .before .before .before .loop-test .taken, s .pre .1 .0 .sizes-small (getD (s .args .supports .now) 0 0 - 1))
 
   loop-less-3 : gather-lts.Need-loop-less-3 (claims t) (gather-at t) gather.Post gather-Inv-loop gather-μ-loop
-  loop-less-3 c = omega (arith, c .before .before .before .before .before .before .before .before .before .before .before .before .before .loop-test .taken)
+  loop-less-3 c = omega (arith, c .before .before .before .before .before .before .before .before .before .before .before .loop-test .taken)
 
   loop-again-3 : gather-lts.Need-loop-again-3 (claims t) (gather-at t) gather.Post gather-Inv-loop gather-μ-loop
   loop-again-3 c =
-      let s = c .before .before .before .before .before .before .before .before .before .before .before .before .before .before .before .before .before .before .before .before .before .before .before .before .before .before .before .before in
-      let l = c .before .before .before .before .before .before .before .before .before .before .before .before .before .before .loop in
-      turn-visited _ _ _ _ _ _ _ (s .pre .1 .0) (s .pre .1 .1) (c .before .before .before .before .before .before .before .before .before .before .before .before .before .before .before .before .before .before .if1 .left) _ _ _ _ _ (l .k) (l .inv) (c .before .before .before .before .before .before .before .before .before .before .before .before .before .loop-test .taken) _ (c .before .before .before .before .before .before .before .before .before .before .before .union .ensures) (omega (arith, l .inv .few, c .before .before .before .before .before .before .before .before .before .before .before .before .before .loop-test .taken, s .pre .1 .0 .sizes-small (getD (s .args .supports .now) 0 0 - 1))) _ _ (c .before .before .before .before .gather .kept .1 .1 .1 .1 .1 .0) (c .before .before .before .before .gather .ensures) _ (c .before .union3 .ensures) _ (c .meet .ensures)
+      let s = c .before .before .before .before .before .before .before .before .before .before .before .before .before .before .before .before .before .before .before .before .before .before .before .before in
+      let l = c .before .before .before .before .before .before .before .before .before .before .before .before .loop in
+      turn-visited _ _ _ _ _ _ _ (s .pre .1 .0) (s .pre .1 .1) (c .before .before .before .before .before .before .before .before .before .before .before .before .before .before .before .before .if1 .left) _ _ _ _ _ (l .k) (l .inv) (c .before .before .before .before .before .before .before .before .before .before .before .loop-test .taken) _ (c .before .before .before .before .before .before .before .before .before .union .ensures) (omega (arith, l .inv .few, c .before .before .before .before .before .before .before .before .before .before .before .loop-test .taken, s .pre .1 .0 .sizes-small (getD (s .args .supports .now) 0 0 - 1))) _ _ (c .before .before .gather .ensures .1) (c .before .before .gather .ensures .0) _ (c .before .union3 .ensures) _ (c .meet .ensures)
 
   because-requires-2 : gather-lts.Need-because-requires-2 (claims t) (gather-at t) gather.Post gather-Inv-loop gather-μ-loop
   because-requires-2 c κs = search needs
 
-  same-length-3 : gather-lts.Need-same-length-3 (claims t) (gather-at t) gather.Post gather-Inv-loop gather-μ-loop
-  same-length-3 c = c .before .before .loop .inv .same
-
   returns-3 : gather-lts.Need-returns-3 (claims t) (gather-at t) gather.Post gather-Inv-loop gather-μ-loop
   returns-3 c =
-      let s = c .before .before .before .before .before .before .before .before .before .before .before .before .before .before .before .before in
+      let s = c .before .before .before .before .before .before .before .before .before .before .before .before .before .before in
       let l = c .before .before .loop in
-      turning-end _ _ _ _ _ _ _ (s .pre .1 .0) (s .pre .1 .1) (c .before .before .before .before .before .before .if1 .left) _ _ _ _ _ (l .k) (l .inv) (c .before .loop-test .left) _ (c .because2 .ensures)
+      (turning-end _ _ _ _ _ _ _ (s .pre .1 .0) (s .pre .1 .1) (c .before .before .before .before .before .before .if1 .left) _ _ _ _ _ (l .k) (l .inv) (c .before .loop-test .left) _ (c .because2 .ensures), l .inv .same)
+
+  element-copy-out-size : gather-lts.Need-element-copy-out-size (claims t) (gather-at t) gather.Post gather-Inv-loop gather-μ-loop
+  element-copy-out-size c = omega (arith, c .before .before .before .before .before .before .before .before .before .pre .1 .1 .range 0 (c .before .if1 .left) .1, c .before .before .before .before .before .before .before .before .before .pre .1 .1 .range 0 (c .before .if1 .left) .0)
+
+  element-copy-out-union : gather-lts.Need-element-copy-out-union (claims t) (gather-at t) gather.Post gather-Inv-loop gather-μ-loop
+  element-copy-out-union c = omega (arith, c .before .before .before .before .before .before .before .before .before .before .before .before .before .pre .1 .1 .range 0 (c .before .before .before .before .before .if1 .left) .1, c .before .before .before .before .before .before .before .before .before .before .before .before .before .pre .1 .1 .range 0 (c .before .before .before .before .before .if1 .left) .0, c .before .before .before .before .before .before .before .before .before .before .before .before .before .pre .1 .0 .sizes-small (getD (c .before .before .before .before .before .before .before .before .before .before .before .before .before .args .supports .now) 0 0 - 1), c .loop-test .taken)
 
 pub +gather-spec : {M : Type 1} → statement M
 +gather-spec =
     close μ-gather (λ t. gather-lts.spec (claims t) (gather-at t) gather.Post gather-Inv-loop gather-μ-loop
-    (slice-reshare-prefix-barred t)
-    (slice-aggregate-barred t)
     (barred-requires t)
     (enum-known-bar t)
     (because-requires t)
-    (same-length t)
     (returns t)
     (enum-told t)
     (enter-requires t)
-    (same-length-2 t)
     (returns-2 t)
     (shared-slice-read-i t)
     (cast-i t)
     (sub-i t)
-    (shared-slice-read-size t)
+    (element-copy-out-size t)
     (cast-size t)
     (mul-from t)
     (sub-left t)
@@ -243,7 +224,7 @@ pub +gather-spec : {M : Type 1} → statement M
     (loop-holds t)
     (add-union t)
     (mul-union t)
-    (shared-slice-read-union t)
+    (element-copy-out-union t)
     (union-requires t)
     (add-k t)
     (late-requires t)
@@ -264,5 +245,4 @@ pub +gather-spec : {M : Type 1} → statement M
     (loop-less-3 t)
     (loop-again-3 t)
     (because-requires-2 t)
-    (same-length-3 t)
     (returns-3 t))

@@ -1,4 +1,12 @@
 -- `labels::barred` meets its contract. Assumes nothing.
+use mathlib.Core.Bool.{false, true}
+use mathlib.Core.Path.{_≡_, subst, sym}
+use Prim.Native.Nat.{ℕ}
+use native.Mathlib.Omega.{arith}
+use lib.ListN.{take}
+use lib.Seq.{getD-take, length-take-le}
+use Rattle.theory.specs.Sets.{within}
+use Rattle.theory.specs.Step.{free}
 use Rattle.labels.proofs.First.{bar-list, bar-none, bar-struck}
 use borrow.Author.Needs.{needs}
 use Rattle.labels.proofs.barred.Statement.{statement}
@@ -7,40 +15,49 @@ use Rattle.labels.proofs.barred.Tie as tie
 first-within-requires : tie.Need-first-within-requires
 first-within-requires c κs = search needs
 
-mul-t8 : tie.Need-mul-t8
-mul-t8 c = search needs
-
-shared-slice-read-t10 : tie.Need-shared-slice-read-t10
-shared-slice-read-t10 c = search needs
-
 returns : tie.Need-returns
 returns c = bar-struck _ _ (c .before .before .before .before .before .args .e) _ (c .before .before .first-within .ensures) (c .before .if1 .taken)
 
 first-within-requires-2 : tie.Need-first-within-requires-2
 first-within-requires-2 c κs = search needs
 
-mul-t11 : tie.Need-mul-t11
-mul-t11 c = search needs
-
-shared-slice-read-t13 : tie.Need-shared-slice-read-t13
-shared-slice-read-t13 c = search needs
-
 returns-2 : tie.Need-returns-2
-returns-2 c = bar-list _ _ (c .before .before .before .before .before .before .before .args .e) _ (c .before .before .before .before .first-within .ensures) _ (c .before .before .first-within2 .ensures) (c .before .if2 .taken)
+returns-2 c =
+    let a = c .before .before .before .before .before .before .before .before .args in
+    subst (λ (v : ℕ). (free (a .struck .now) (take (a .count) (a .list .now)) v ≡ false) × (within v (a .e) ≡ true)) (getD-take (a .count) (a .list .now) _ 0 (c .before .if2 .taken))
+    (bar-list _ _ (a .e) _ (c .before .before .before .before .before .first-within .ensures) _ (c .before .before .first-within2 .ensures) (omega (arith, length-take-le (a .count) (a .list .now) (c .before .before .before .before .before .before .before .before .pre), c .before .if2 .taken)))
 
 returns-3 : tie.Need-returns-3
-returns-3 c = bar-none _ _ (c .before .before .before .before .before .before .args .e) _ (c .before .before .before .first-within .ensures) _ (c .before .first-within2 .ensures) (c .before .before .if1 .left) (c .if2 .left)
+returns-3 c =
+    let a = c .before .before .before .before .before .before .before .args in
+    bar-none _ _ (a .e) _ (c .before .before .before .before .first-within .ensures) _ (c .before .first-within2 .ensures) (c .before .before .before .if1 .left) (omega (arith, length-take-le (a .count) (a .list .now) (c .before .before .before .before .before .before .before .pre), c .if2 .left))
+
+mul-t9 : tie.Need-mul-t9
+mul-t9 c = search needs
+
+shared-slice-read-t11 : tie.Need-shared-slice-read-t11
+shared-slice-read-t11 c = search needs
+
+slice-aggregate-first-within : tie.Need-slice-aggregate-first-within
+slice-aggregate-first-within c = sym (length-take-le _ _ (omega arith))
+
+mul-t14 : tie.Need-mul-t14
+mul-t14 c = search needs
+
+shared-slice-read-t16 : tie.Need-shared-slice-read-t16
+shared-slice-read-t16 c = search needs
 
 pub barred-spec : {M : Type 1} → statement M
 barred-spec =
     tie.close
     (tie.spec
     first-within-requires
-    mul-t8
-    shared-slice-read-t10
+    mul-t9
+    shared-slice-read-t11
     returns
+    slice-aggregate-first-within
     first-within-requires-2
-    mul-t11
-    shared-slice-read-t13
+    mul-t14
+    shared-slice-read-t16
     returns-2
     returns-3)

@@ -6,72 +6,66 @@ use native.Mathlib.Omega.{arith}
 use lib.Seq.{length-take-le}
 use borrow.Author.Tests.{not-false, not-true}
 use Rattle.labels.proofs.Rounds.{Rounding, half-hushed, half-roomy, rounding-done, rounding-full, rounding-more, rounding-none, rounding-on, rounding-roomy}
-use Rattle.labels.specs.Layout.{between, lying}
+use Rattle.labels.specs.Layout.{between, entriesOf, lying}
 use Rattle.rules.specs.Held.{meaning}
 use Rattle.theory.specs.Step.{candidates, joinsFor}
 use Rattle.labels.proofs.build.Statement.{statement}
 use Rattle.labels.proofs.build.Tie as tie
 
 abbrev Inv-loop : tie.InvT-loop
-Inv-loop held lo hi n members sizes old struck moved limit pool₀ count₀ pool count = Rounding struck old (joinsFor (lying members sizes) n (map meaning (between (held .entries) lo hi))) limit pool count
+Inv-loop rules lo hi n members sizes old struck moved limit pool₀ count₀ pool count = Rounding struck old (joinsFor (lying members sizes) n (map meaning (between (entriesOf rules) lo hi))) limit pool count
 
 abbrev μ-loop : tie.MeasureT-loop
-μ-loop held lo hi n members sizes old struck moved limit pool₀ count₀ pool count = limit - count
+μ-loop rules lo hi n members sizes old struck moved limit pool₀ count₀ pool count = limit - count
 
 loop-holds : tie.Need-loop-holds Inv-loop μ-loop
 loop-holds c = rounding-none _ _ _ _
 
-slice-aggregate-pour : tie.Need-slice-aggregate-pour Inv-loop μ-loop
-slice-aggregate-pour c = sym (c .before .loop .inv .long)
-
 pour-requires : tie.Need-pour-requires Inv-loop μ-loop
-pour-requires c κs = let s = c .before .before .before .before .before .before .before in (s .pre .0, rounding-roomy _ (s .args .old .now) (joinsFor (lying (s .args .members .now) (s .args .sizes .now)) (s .args .n) (map meaning (between (s .args .held .entries) (s .args .lo) (s .args .hi)))) (s .args .limit) (s .pre .3) (c .before .loop .pool) (c .before .loop .count) (c .before .loop .inv))
-
-slice-aggregate-pooled : tie.Need-slice-aggregate-pooled Inv-loop μ-loop
-slice-aggregate-pooled c = sym (c .before .before .pour .kept .1 .1 .1 .1 .0 ∙ c .before .before .before .before .loop .inv .long)
+pour-requires c κs = let s = c .before .before .before .before .before in (s .pre .0, rounding-roomy _ (s .args .old .now) (joinsFor (lying (s .args .members .now) (s .args .sizes .now)) (s .args .n) (map meaning (between (entriesOf (s .args .rules .now)) (s .args .lo) (s .args .hi)))) (s .args .limit) (s .pre .3) (c .before .loop .pool) (c .before .loop .count) (c .before .loop .inv))
 
 pooled-requires : tie.Need-pooled-requires Inv-loop μ-loop
 pooled-requires c κs =
-    let s = c .before .before .before .before .before .before .before .before .before .before in
-    (s .pre .0, s .pre .1, s .pre .2, half-roomy _ (s .args .old .now) (joinsFor (lying (s .args .members .now) (s .args .sizes .now)) (s .args .n) (map meaning (between (s .args .held .entries) (s .args .lo) (s .args .hi)))) (s .args .limit) (s .pre .3) (c .before .before .before .before .loop .pool) (c .before .before .before .before .loop .count) (c .before .before .before .before .loop .inv) _ (c .before .before .pour .result) (c .before .before .pour .kept .1 .1 .1 .1 .0) (c .before .before .pour .ensures), half-hushed _ (s .args .old .now) (joinsFor (lying (s .args .members .now) (s .args .sizes .now)) (s .args .n) (map meaning (between (s .args .held .entries) (s .args .lo) (s .args .hi)))) (s .args .limit) (s .pre .3) (c .before .before .before .before .loop .pool) (c .before .before .before .before .loop .count) (c .before .before .before .before .loop .inv) _ (c .before .before .pour .result) (c .before .before .pour .kept .1 .1 .1 .1 .0) (c .before .before .pour .ensures) _ _ _ _ (s .pre .4))
+    let s = c .before .before .before .before .before .before .before in
+    (s .pre .0, s .pre .1, s .pre .2, half-roomy _ (s .args .old .now) (joinsFor (lying (s .args .members .now) (s .args .sizes .now)) (s .args .n) (map meaning (between (entriesOf (s .args .rules .now)) (s .args .lo) (s .args .hi)))) (s .args .limit) (s .pre .3) (c .before .before .before .loop .pool) (c .before .before .before .loop .count) (c .before .before .before .loop .inv) _ (c .before .pour .result) (c .before .pour .ensures .1) (c .before .pour .ensures .0), half-hushed _ (s .args .old .now) (joinsFor (lying (s .args .members .now) (s .args .sizes .now)) (s .args .n) (map meaning (between (entriesOf (s .args .rules .now)) (s .args .lo) (s .args .hi)))) (s .args .limit) (s .pre .3) (c .before .before .before .loop .pool) (c .before .before .before .loop .count) (c .before .before .before .loop .inv) _ (c .before .pour .result) (c .before .pour .ensures .1) (c .before .pour .ensures .0) _ _ _ _ (s .pre .4))
 
 array-share-prefix-pool : tie.Need-array-share-prefix-pool Inv-loop μ-loop
-array-share-prefix-pool c = omega (arith, c .before .before .before .pooled .ensures .1, c .before .before .before .pooled .kept .1 .1 .1 .1 .1 .1 .1 .1 .0, c .before .before .before .before .before .before .pour .kept .1 .1 .1 .1 .0, c .before .before .before .before .before .before .before .before .loop .inv .long)
+array-share-prefix-pool c = omega (arith, c .before .before .pooled .ensures .0 .1, c .before .before .pooled .ensures .1, c .before .before .before .before .pour .ensures .1, c .before .before .before .before .before .before .loop .inv .long)
 
 slice-aggregate-drawn : tie.Need-slice-aggregate-drawn Inv-loop μ-loop
-slice-aggregate-drawn c = sym (length-take-le _ _ (omega (arith, c .before .before .before .before .pooled .ensures .1, c .before .before .before .before .pooled .kept .1 .1 .1 .1 .1 .1 .1 .1 .0, c .before .before .before .before .before .before .before .pour .kept .1 .1 .1 .1 .0, c .before .before .before .before .before .before .before .before .before .loop .inv .long)))
+slice-aggregate-drawn c = sym (length-take-le _ _ (omega (arith, c .before .before .before .pooled .ensures .0 .1, c .before .before .before .pooled .ensures .1, c .before .before .before .before .before .pour .ensures .1, c .before .before .before .before .before .before .before .loop .inv .long)))
 
 drawn-requires : tie.Need-drawn-requires Inv-loop μ-loop
-drawn-requires c κs = c .before .before .before .before .before .before .before .before .before .before .before .before .before .before .before .pre .3
+drawn-requires c κs = c .before .before .before .before .before .before .before .before .before .before .before .pre .3
 
 returns : tie.Need-returns Inv-loop μ-loop
 unfolding candidates
 returns c =
-    let s = c .before .before .before .before .before .before .before .before .before .before .before .before .before .before .before .before in
-    rounding-done _ (s .args .old .now) (joinsFor (lying (s .args .members .now) (s .args .sizes .now)) (s .args .n) (map meaning (between (s .args .held .entries) (s .args .lo) (s .args .hi)))) (s .args .limit) (s .pre .3) (c .before .before .before .before .before .before .before .before .before .before .loop .pool) (c .before .before .before .before .before .before .before .before .before .before .loop .count) (c .before .before .before .before .before .before .before .before .before .before .loop .inv) _ (c .before .before .before .before .before .before .before .before .pour .result) (c .before .before .before .before .before .before .before .before .pour .kept .1 .1 .1 .1 .0) (c .before .before .before .before .before .before .before .before .pour .ensures) _ (c .before .before .before .before .before .pooled .result) (c .before .before .before .before .before .pooled .kept .1 .1 .1 .1 .1 .1 .1 .1 .0) (c .before .before .before .before .before .pooled .ensures) (not-true _ (c .before .before .if1 .taken)) _ (c .drawn .ensures)
+    let s = c .before .before .before .before .before .before .before .before .before .before .before .before in
+    rounding-done _ (s .args .old .now) (joinsFor (lying (s .args .members .now) (s .args .sizes .now)) (s .args .n) (map meaning (between (entriesOf (s .args .rules .now)) (s .args .lo) (s .args .hi)))) (s .args .limit) (s .pre .3) (c .before .before .before .before .before .before .before .before .loop .pool) (c .before .before .before .before .before .before .before .before .loop .count) (c .before .before .before .before .before .before .before .before .loop .inv) _ (c .before .before .before .before .before .before .pour .result) (c .before .before .before .before .before .before .pour .ensures .1) (c .before .before .before .before .before .before .pour .ensures .0) _ (c .before .before .before .before .pooled .result) (c .before .before .before .before .pooled .ensures .1) (c .before .before .before .before .pooled .ensures .0) (not-true _ (c .before .before .if1 .taken)) _ (c .drawn .ensures)
 
 array-share-prefix-pool-2 : tie.Need-array-share-prefix-pool-2 Inv-loop μ-loop
-array-share-prefix-pool-2 c = omega (arith, c .before .before .before .before .pooled .ensures .1, c .before .before .before .before .pooled .kept .1 .1 .1 .1 .1 .1 .1 .1 .0, c .before .before .before .before .before .before .before .pour .kept .1 .1 .1 .1 .0, c .before .before .before .before .before .before .before .before .before .loop .inv .long)
+array-share-prefix-pool-2 c = omega (arith, c .before .before .before .pooled .ensures .0 .1, c .before .before .before .pooled .ensures .1, c .before .before .before .before .before .pour .ensures .1, c .before .before .before .before .before .before .before .loop .inv .long)
 
 slice-aggregate-drawn-2 : tie.Need-slice-aggregate-drawn-2 Inv-loop μ-loop
-slice-aggregate-drawn-2 c = sym (length-take-le _ _ (omega (arith, c .before .before .before .before .before .pooled .ensures .1, c .before .before .before .before .before .pooled .kept .1 .1 .1 .1 .1 .1 .1 .1 .0, c .before .before .before .before .before .before .before .before .pour .kept .1 .1 .1 .1 .0, c .before .before .before .before .before .before .before .before .before .before .loop .inv .long)))
+slice-aggregate-drawn-2 c = sym (length-take-le _ _ (omega (arith, c .before .before .before .before .pooled .ensures .0 .1, c .before .before .before .before .pooled .ensures .1, c .before .before .before .before .before .before .pour .ensures .1, c .before .before .before .before .before .before .before .before .loop .inv .long)))
 
 drawn-requires-2 : tie.Need-drawn-requires-2 Inv-loop μ-loop
-drawn-requires-2 c κs = c .before .before .before .before .before .before .before .before .before .before .before .before .before .before .before .before .pre .3
+drawn-requires-2 c κs = c .before .before .before .before .before .before .before .before .before .before .before .before .pre .3
 
 returns-2 : tie.Need-returns-2 Inv-loop μ-loop
 unfolding candidates
 returns-2 c =
-    let s = c .before .before .before .before .before .before .before .before .before .before .before .before .before .before .before .before .before in
-    rounding-full _ (s .args .old .now) (joinsFor (lying (s .args .members .now) (s .args .sizes .now)) (s .args .n) (map meaning (between (s .args .held .entries) (s .args .lo) (s .args .hi)))) (s .args .limit) (s .pre .3) (c .before .before .before .before .before .before .before .before .before .before .before .loop .pool) (c .before .before .before .before .before .before .before .before .before .before .before .loop .count) (c .before .before .before .before .before .before .before .before .before .before .before .loop .inv) _ (c .before .before .before .before .before .before .before .before .before .pour .result) (c .before .before .before .before .before .before .before .before .before .pour .kept .1 .1 .1 .1 .0) (c .before .before .before .before .before .before .before .before .before .pour .ensures) _ (c .before .before .before .before .before .before .pooled .result) (c .before .before .before .before .before .before .pooled .kept .1 .1 .1 .1 .1 .1 .1 .1 .0) (c .before .before .before .before .before .before .pooled .ensures) (c .before .before .if2 .taken) _ (c .drawn2 .ensures)
+    let s = c .before .before .before .before .before .before .before .before .before .before .before .before .before in
+    rounding-full _ (s .args .old .now) (joinsFor (lying (s .args .members .now) (s .args .sizes .now)) (s .args .n) (map meaning (between (entriesOf (s .args .rules .now)) (s .args .lo) (s .args .hi)))) (s .args .limit) (s .pre .3) (c .before .before .before .before .before .before .before .before .before .loop .pool) (c .before .before .before .before .before .before .before .before .before .loop .count) (c .before .before .before .before .before .before .before .before .before .loop .inv) _ (c .before .before .before .before .before .before .before .pour .result) (c .before .before .before .before .before .before .before .pour .ensures .1) (c .before .before .before .before .before .before .before .pour .ensures .0) _ (c .before .before .before .before .before .pooled .result) (c .before .before .before .before .before .pooled .ensures .1) (c .before .before .before .before .before .pooled .ensures .0) (c .before .before .if2 .taken) _ (c .drawn2 .ensures)
 
 loop-less : tie.Need-loop-less Inv-loop μ-loop
-loop-less c = let s = c .before .before .before .before .before .before .before .before .before .before .before .before .before .before .before in omega (arith, c .if2 .left, rounding-more _ (s .args .old .now) (joinsFor (lying (s .args .members .now) (s .args .sizes .now)) (s .args .n) (map meaning (between (s .args .held .entries) (s .args .lo) (s .args .hi)))) (s .args .limit) (s .pre .3) (c .before .before .before .before .before .before .before .before .before .loop .pool) (c .before .before .before .before .before .before .before .before .before .loop .count) (c .before .before .before .before .before .before .before .before .before .loop .inv) _ (c .before .before .before .before .before .before .before .pour .result) (c .before .before .before .before .before .before .before .pour .kept .1 .1 .1 .1 .0) (c .before .before .before .before .before .before .before .pour .ensures) _ (c .before .before .before .before .pooled .result) (c .before .before .before .before .pooled .kept .1 .1 .1 .1 .1 .1 .1 .1 .0) (c .before .before .before .before .pooled .ensures) (not-false _ (c .before .if1 .left)))
+loop-less c = let s = c .before .before .before .before .before .before .before .before .before .before .before in omega (arith, c .if2 .left, rounding-more _ (s .args .old .now) (joinsFor (lying (s .args .members .now) (s .args .sizes .now)) (s .args .n) (map meaning (between (entriesOf (s .args .rules .now)) (s .args .lo) (s .args .hi)))) (s .args .limit) (s .pre .3) (c .before .before .before .before .before .before .before .loop .pool) (c .before .before .before .before .before .before .before .loop .count) (c .before .before .before .before .before .before .before .loop .inv) _ (c .before .before .before .before .before .pour .result) (c .before .before .before .before .before .pour .ensures .1) (c .before .before .before .before .before .pour .ensures .0) _ (c .before .before .before .pooled .result) (c .before .before .before .pooled .ensures .1) (c .before .before .before .pooled .ensures .0) (not-false _ (c .before .if1 .left)))
 
 loop-again : tie.Need-loop-again Inv-loop μ-loop
 loop-again c =
-    let s = c .before .before .before .before .before .before .before .before .before .before .before .before .before .before .before in
-    rounding-on _ (s .args .old .now) (joinsFor (lying (s .args .members .now) (s .args .sizes .now)) (s .args .n) (map meaning (between (s .args .held .entries) (s .args .lo) (s .args .hi)))) (s .args .limit) (s .pre .3) (c .before .before .before .before .before .before .before .before .before .loop .pool) (c .before .before .before .before .before .before .before .before .before .loop .count) (c .before .before .before .before .before .before .before .before .before .loop .inv) _ (c .before .before .before .before .before .before .before .pour .result) (c .before .before .before .before .before .before .before .pour .kept .1 .1 .1 .1 .0) (c .before .before .before .before .before .before .before .pour .ensures) _ (c .before .before .before .before .pooled .result) (c .before .before .before .before .pooled .kept .1 .1 .1 .1 .1 .1 .1 .1 .0) (c .before .before .before .before .pooled .ensures) (c .if2 .left)
+    let s = c .before .before .before .before .before .before .before .before .before .before .before in
+    rounding-on _ (s .args .old .now) (joinsFor (lying (s .args .members .now) (s .args .sizes .now)) (s .args .n) (map meaning (between (entriesOf (s .args .rules .now)) (s .args .lo) (s .args .hi)))) (s .args .limit) (s .pre .3) (c .before .before .before .before .before .before .before .loop .pool) (c .before .before .before .before .before .before .before .loop .count) (c .before .before .before .before .before .before .before .loop .inv) _ (c .before .before .before .before .before .pour .result) (c .before .before .before .before .before .pour .ensures .1) (c .before .before .before .before .before .pour .ensures .0) _ (c .before .before .before .pooled .result) (c .before .before .before .pooled .ensures .1) (c .before .before .before .pooled .ensures .0) (c .if2 .left)
 
 pub build-spec : {M : Type 1} → statement M
 build-spec =
@@ -80,9 +74,7 @@ build-spec =
     Inv-loop
     μ-loop
     loop-holds
-    slice-aggregate-pour
     pour-requires
-    slice-aggregate-pooled
     pooled-requires
     array-share-prefix-pool
     slice-aggregate-drawn

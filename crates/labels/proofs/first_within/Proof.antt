@@ -1,31 +1,35 @@
 -- `labels::first_within` meets its contract. Assumes nothing.
-use mathlib.Core.Path.{_∙_, _≡_, refl}
-use Prim.Native.Nat.{_+_, _-_, _≤_}
+use mathlib.Core.Path.{_∙_, _≡_, ap, refl, sym}
+use Prim.Native.Nat.{_+_, _-_, _≤_, ℕ}
 use native.Mathlib.Omega.{arith}
-use lib.ListN.{drop, length}
-use borrow.Author.Needs.{needs}
-use Rattle.labels.proofs.First.{first-here, first-none, first-on}
+use lib.ListN.{drop, getD, length}
+use Rattle.labels.proofs.First.{first-here, first-none, first-on, none-out, some-out}
 use Rattle.labels.specs.Promised.{firstWithin}
+use Rattle.sets.specs.Promised.{meet}
+use borrow.Author.Needs.{needs}
 use Rattle.labels.proofs.first_within.Statement.{statement}
 use Rattle.labels.proofs.first_within.Tie as tie
 
 abbrev Inv-loop : tie.InvT-loop
-Inv-loop list e count i₀ i = (count ≡ length list) × (i ≤ count) × (firstWithin list e ≡ i + firstWithin (drop i list) e)
+Inv-loop list e count others i₀ i = (count ≡ length list) × (i ≤ count) × (firstWithin list e ≡ i + firstWithin (drop i list) e)
 
 abbrev μ-loop : tie.MeasureT-loop
-μ-loop list e count i₀ i = count - i
+μ-loop list e count others i₀ i = count - i
+
+without-requires : tie.Need-without-requires Inv-loop μ-loop
+without-requires c κs = search needs
 
 loop-holds : tie.Need-loop-holds Inv-loop μ-loop
 loop-holds c = (refl, omega arith, omega arith)
 
-mul-within : tie.Need-mul-within Inv-loop μ-loop
-mul-within c = search needs
+mul-meet : tie.Need-mul-meet Inv-loop μ-loop
+mul-meet c = search needs
 
-shared-slice-read-within : tie.Need-shared-slice-read-within Inv-loop μ-loop
-shared-slice-read-within c = search needs
+shared-slice-read-meet : tie.Need-shared-slice-read-meet Inv-loop μ-loop
+shared-slice-read-meet c = search needs
 
-within-requires : tie.Need-within-requires Inv-loop μ-loop
-within-requires c κs = search needs
+meet-requires : tie.Need-meet-requires Inv-loop μ-loop
+meet-requires c κs = search needs
 
 add-i : tie.Need-add-i Inv-loop μ-loop
 add-i c = search needs
@@ -34,13 +38,24 @@ loop-less : tie.Need-loop-less Inv-loop μ-loop
 loop-less c = search needs
 
 loop-again : tie.Need-loop-again Inv-loop μ-loop
-loop-again c = (c .before .before .before .before .loop .inv .0, omega arith, first-on _ _ _ (c .before .before .before .before .loop .inv .2) (omega arith) _ (c .before .within .ensures) (c .if2 .left))
+loop-again c = let l = c .before .before .before .before .loop in
+    let a = c .before .before .before .before .before .before .before .args in
+    let known = c .before .before .shared-slice-known2 .given (l .i) in (
+      l .inv .0,
+      omega arith,
+      first-on _ _ _ (l .inv .2) (omega arith) _
+          (some-out 32 (getD (a .list .now) (l .i) 0) (a .e) (omega (arith, known)) (omega arith) (λ z. c .if2 .left (c .before .meet .ensures ∙ ap (meet (getD (a .list .now) (l .i) 0)) (c .before .before .before .before .before .without .ensures) ∙ z))) refl,
+    )
 
 returns : tie.Need-returns Inv-loop μ-loop
 returns c = c .before .loop .inv .0 ∙ first-none _ _ (c .before .loop .i) (c .before .loop .inv .2) (omega arith) (omega arith)
 
 returns-2 : tie.Need-returns-2 Inv-loop μ-loop
-returns-2 c = first-here _ _ (c .before .before .before .before .loop .i) (c .before .before .before .before .loop .inv .2) (omega arith) _ (c .before .within .ensures) (c .if2 .taken)
+returns-2 c = let l = c .before .before .before .before .loop in
+    let a = c .before .before .before .before .before .before .before .args in
+    let known = c .before .before .shared-slice-known2 .given (l .i) in
+    first-here _ _ (l .i) (l .inv .2) (omega arith) _
+    (none-out 32 (getD (a .list .now) (l .i) 0) (a .e) (omega (arith, known)) (omega arith) (sym (c .before .meet .ensures ∙ ap (meet (getD (a .list .now) (l .i) 0)) (c .before .before .before .before .before .without .ensures)) ∙ c .if2 .taken)) refl
 
 pub first-within-spec : {M : Type 1} → statement M
 first-within-spec =
@@ -48,10 +63,11 @@ first-within-spec =
     (tie.spec
     Inv-loop
     μ-loop
+    without-requires
     loop-holds
-    mul-within
-    shared-slice-read-within
-    within-requires
+    mul-meet
+    shared-slice-read-meet
+    meet-requires
     add-i
     loop-less
     loop-again

@@ -1,5 +1,5 @@
 -- `labels::joined` meets its contract. Assumes nothing.
-use mathlib.Core.Path.{_∙_, _≡_, sym}
+use mathlib.Core.Path.{_∙_, _≡_, refl, sym}
 use native.Mathlib.Omega.{arith}
 use lib.ListN.{length}
 use lib.Seq.{length-take-le}
@@ -13,37 +13,34 @@ use Rattle.labels.proofs.joined.Statement.{statement}
 use Rattle.labels.proofs.joined.Tie as tie
 
 returns : tie.Need-returns
-returns c = let s = c .before .before .before .before .before .before .before in none-offered _ _ (s .args .pool .now) (s .args .fill) (s .pre .3 .fits) (joins-not (lying (s .args .members .now) (s .args .sizes .now)) _ (meaning (s .args .entry)) (c .if1 .taken))
+returns c = let s = c .before .before .before .before in (none-offered _ _ (s .args .pool .now) (s .args .fill) (s .pre .3 .fits) (joins-not (lying (s .args .members .now) (s .args .sizes .now)) _ (meaning (s .args .entry)) (c .if1 .taken)), refl)
 
 stirred-requires : tie.Need-stirred-requires
-stirred-requires c κs = let s = c .before .before .before .before .before .before .before in (s .pre .1, s .pre .2, s .pre .4 .long)
+stirred-requires c κs = let s = c .before .before .before .before in (s .pre .1, s .pre .2, s .pre .4 .long)
 
 returns-2 : tie.Need-returns-2
-returns-2 c = let s = c .before .before .before .before .before .before .before .before .before in hushed-offered (lying (s .args .members .now) (s .args .sizes .now)) _ (meaning (s .args .entry)) _ _ (s .args .pool .now) (s .args .fill) (s .pre .3 .fits) (s .pre .4) (c .before .before .if1 .left) _ (c .before .stirred .ensures) (c .if2 .taken)
+returns-2 c = let s = c .before .before .before .before .before .before in (hushed-offered (lying (s .args .members .now) (s .args .sizes .now)) _ (meaning (s .args .entry)) _ _ (s .args .pool .now) (s .args .fill) (s .pre .3 .fits) (s .pre .4) (c .before .before .if1 .left) _ (c .before .stirred .ensures) (c .if2 .taken), refl)
 
 late-requires : tie.Need-late-requires
 late-requires c κs = search needs
 
 returns-3 : tie.Need-returns-3
-returns-3 c = let s = c .before .before .before .before .before .before .before .before .before .before .before in all-late _ _ (s .args .pool .now) (s .args .fill) (s .pre .3 .fits) _ (c .before .late .ensures) (c .if3 .taken)
+returns-3 c = let s = c .before .before .before .before .before .before .before .before in (all-late _ _ (s .args .pool .now) (s .args .fill) (s .pre .3 .fits) _ (c .before .late .ensures) (c .if3 .taken), refl)
 
 cast-most : tie.Need-cast-most
 cast-most c = search needs
 
 array-share-prefix-supports : tie.Need-array-share-prefix-supports
-array-share-prefix-supports c = let s = c .before .before .before .before .before .before .before .before .before .before .before .before .before in let e : length (s .args .entry .supports) ≡ 4 = search needs in omega (arith, s .pre .1)
+array-share-prefix-supports c = let s = c .before .before .before .before .before .before .before .before .before .before in let e : length (s .args .entry .supports) ≡ 4 = search needs in omega (arith, s .pre .1)
 
 slice-aggregate-gather : tie.Need-slice-aggregate-gather
-slice-aggregate-gather c = let s = c .before .before .before .before .before .before .before .before .before .before .before .before .before .before in let e : length (s .args .entry .supports) ≡ 4 = search needs in sym (length-take-le _ _ (omega (arith, s .pre .1)))
+slice-aggregate-gather c = let s = c .before .before .before .before .before .before .before .before .before .before .before in let e : length (s .args .entry .supports) ≡ 4 = search needs in sym (length-take-le _ _ (omega (arith, s .pre .1)))
 
 gather-requires : tie.Need-gather-requires
-gather-requires c κs = let s = c .before .before .before .before .before .before .before .before .before .before .before .before .before .before .before in (s .pre .0, s .pre .2, s .pre .3, sym (c .before .before .before .before .before .late .ensures) ∙ c .before .before .before .before .if3 .left)
-
-same-length : tie.Need-same-length
-same-length c = search needs
+gather-requires c κs = let s = c .before .before .before .before .before .before .before .before .before .before .before .before in (s .pre .0, s .pre .2, s .pre .3, sym (c .before .before .before .before .before .late .ensures) ∙ c .before .before .before .before .if3 .left)
 
 returns-4 : tie.Need-returns-4
-returns-4 c = let s = c .before .before .before .before .before .before .before .before .before .before .before .before .before .before .before .before .before .before in as-offered _ _ _ (s .args .pool .now) (s .args .fill) _ (c .before .before .gather .result) (joins-so (lying (s .args .members .now) (s .args .sizes .now)) _ (meaning (s .args .entry)) (c .before .before .before .before .before .before .before .before .before .before .before .if1 .left)) (c .before .before .gather .ensures .0)
+returns-4 c = let s = c .before .before .before .before .before .before .before .before .before .before .before .before .before in (as-offered _ _ _ (s .args .pool .now) (s .args .fill) _ (c .gather .result) (joins-so (lying (s .args .members .now) (s .args .sizes .now)) _ (meaning (s .args .entry)) (c .before .before .before .before .before .before .before .before .before .if1 .left)) (c .gather .ensures .0 .0), c .gather .ensures .1)
 
 pub joined-spec : {M : Type 1} → statement M
 joined-spec =
@@ -58,5 +55,4 @@ joined-spec =
     array-share-prefix-supports
     slice-aggregate-gather
     gather-requires
-    same-length
     returns-4)

@@ -1,117 +1,110 @@
-use mathlib.Core.Path.{_∙_, _≡_, ap, refl, sym}
-use Prim.Native.Nat.{_-_, _≤_}
+-- `labels` meets its contract: each part of the test in its order. Assumes nothing.
+use mathlib.Core.Path.{_∙_, _≡_, ap, sym}
+use Prim.Native.Nat.{_*_}
 use native.Mathlib.Omega.{arith}
 use lib.Dec.{eqb}
-use lib.ListN.{drop}
-use borrow.Author.Needs.{needs}
+use lib.ListN.{drop, take}
+use lib.Seq.{length-take-le}
+use borrow.Author.Tests.{eq-eqb, ne-eqb, not-false, not-true}
 use borrow.Rule.Slice.PartAt.{part-to-end}
-use Rattle.shape.proofs.Laws.{label-end, label-hit, label-miss, label-places, labels-no, labels-rest}
-use Rattle.shape.specs.Shape.{labelRight}
-use Rattle.theory.specs.Lists.{allOf, numbersBelow}
+use Rattle.shape.proofs.Laws.{all-low, all-zero, labels-blank, labels-high, labels-low, labels-spare}
+use Rattle.shape.specs.Shape.{unionOf}
+use Rattle.theory.specs.Lists.{allOf}
+use Rattle.theory.specs.Sets.{inRange}
+use borrow.Author.Needs.{needs}
 use Rattle.shape.proofs.labels.Statement.{statement}
 use Rattle.shape.proofs.labels.Tie as tie
 
-abbrev Inv-loop : tie.InvT-loop
-Inv-loop members sizes top a i₀ i = (i ≤ 128) × (allOf (labelRight a sizes members) (numbersBelow 128) ≡ allOf (labelRight a sizes members) (drop i (numbersBelow 128)))
-
-abbrev μ-loop : tie.MeasureT-loop
-μ-loop members sizes top a i₀ i = 128 - i
-
-loop-holds : tie.Need-loop-holds Inv-loop μ-loop
-loop-holds c = (omega arith, refl)
-
-mul-from : tie.Need-mul-from Inv-loop μ-loop
-mul-from c = search needs
-
-add-to : tie.Need-add-to Inv-loop μ-loop
-add-to c = search needs
-
-shared-slice-read-count : tie.Need-shared-slice-read-count Inv-loop μ-loop
-shared-slice-read-count c = search needs
-
-cast-count : tie.Need-cast-count Inv-loop μ-loop
-cast-count c = omega (arith, c .shared-slice-known3 .given (c .before .before .loop .i))
-
-mul-list : tie.Need-mul-list Inv-loop μ-loop
-mul-list c = search needs
-
-sub-list : tie.Need-sub-list Inv-loop μ-loop
-sub-list c = search needs
-
-part-list-start : tie.Need-part-list-start Inv-loop μ-loop
-part-list-start c = search needs
-
-part-list-end : tie.Need-part-list-end Inv-loop μ-loop
-part-list-end c = search needs
-
-list-requires : tie.Need-list-requires Inv-loop μ-loop
-list-requires c κs = search needs
-
-add-i : tie.Need-add-i Inv-loop μ-loop
-add-i c = search needs
-
-loop-less : tie.Need-loop-less Inv-loop μ-loop
-loop-less c = search needs
-
-loop-again : tie.Need-loop-again Inv-loop μ-loop
-loop-again c =
-    let l = c .before .before .before .before .before .loop in
-    let a = c .before .before .before .before .before .before .before .before .args in (
-      omega arith,
-      l .inv .1 ∙ label-hit (labelRight (a .a) (a .sizes .now) (a .members .now)) (l .i) (omega arith)
-          (sym (label-places (a .a) (a .top) (a .sizes .now) (a .members .now) (l .i) _ (c .before .list .ensures)) ∙ c .if1 .taken),
-    )
-
-returns : tie.Need-returns Inv-loop μ-loop
-returns c =
-    let l = c .before .before .before .before .before .loop in
-    let a = c .before .before .before .before .before .before .before .before .args in
-    labels-no (a .a) (a .top) (a .sizes .now) (a .members .now)
-    (l .inv .1 ∙ label-miss (labelRight (a .a) (a .sizes .now) (a .members .now)) (l .i) (omega arith)
-    (sym (label-places (a .a) (a .top) (a .sizes .now) (a .members .now) (l .i) _ (c .before .list .ensures)) ∙ c .if1 .left))
-
-sub-zeros : tie.Need-sub-zeros Inv-loop μ-loop
+sub-zeros : tie.Need-sub-zeros
 sub-zeros c = search needs
 
-part-zeros-start : tie.Need-part-zeros-start Inv-loop μ-loop
+part-zeros-start : tie.Need-part-zeros-start
 part-zeros-start c = search needs
 
-part-zeros-end : tie.Need-part-zeros-end Inv-loop μ-loop
+part-zeros-end : tie.Need-part-zeros-end
 part-zeros-end c = search needs
 
-zeros-requires : tie.Need-zeros-requires Inv-loop μ-loop
+zeros-requires : tie.Need-zeros-requires
 zeros-requires c κs = search needs
 
-returns-2 : tie.Need-returns-2 Inv-loop μ-loop
-returns-2 c =
-    let l = c .before .before .before .loop in
-    let a = c .before .before .before .before .before .before .args in
-    labels-rest (a .a) (a .top) (a .sizes .now) (a .members .now)
-    (l .inv .1 ∙ label-end (labelRight (a .a) (a .sizes .now) (a .members .now)) (l .i) (omega arith)) _
-    (c .zeros .ensures ∙ ap (allOf (eqb 0)) (part-to-end (a .sizes .now) (a .top)))
+returns : tie.Need-returns
+returns c = let a = c .before .before .before .before .before .args in
+    let p = c .before .before .before .before .before .pre in
+    labels-spare (a .a) (a .top) (a .sizes .now) (a .members .now) (p .1) (p .3) (p .2)
+    (ap (allOf (eqb 0)) (sym (part-to-end (a .sizes .now) (a .top))) ∙ sym (c .before .zeros .ensures) ∙ not-true _ (c .if1 .taken))
+
+mul-end : tie.Need-mul-end
+mul-end c = search needs
+
+mul-all : tie.Need-mul-all
+mul-all c = search needs
+
+sub-all : tie.Need-sub-all
+sub-all c = search needs
+
+part-all-start : tie.Need-part-all-start
+part-all-start c = search needs
+
+part-all-end : tie.Need-part-all-end
+part-all-end c = search needs
+
+all-requires : tie.Need-all-requires
+all-requires c κs = search needs
+
+returns-2 : tie.Need-returns-2
+returns-2 c = let a = c .before .before .before .before .before .before .before .before .args in
+    let p = c .before .before .before .before .before .before .before .before .pre in
+    labels-blank (a .a) (a .top) (a .sizes .now) (a .members .now) (p .1) (p .3) (p .2)
+    (ap (allOf (eqb 0)) (sym (part-to-end (a .sizes .now) (a .top))) ∙ sym (c .before .before .before .before .zeros .ensures) ∙ not-false _ (c .before .before .before .if1 .left))
+    (sym (all-zero (drop (12 * a .top) (a .members .now))) ∙ ne-eqb 0 _ (λ e. c .if2 .taken (c .before .all .ensures ∙ ap unionOf (part-to-end (a .members .now) (12 * a .top)) ∙ sym e)))
+
+slice-aggregate-all : tie.Need-slice-aggregate-all
+slice-aggregate-all c = sym (length-take-le _ _ (omega arith))
+
+all-requires-2 : tie.Need-all-requires-2
+all-requires-2 c κs = search needs
+
+low-requires : tie.Need-low-requires
+low-requires c κs = search needs
+
+rows-requires : tie.Need-rows-requires
+rows-requires c κs = search needs
+
+returns-3 : tie.Need-returns-3
+returns-3 c = let a = c .before .before .before .before .before .before .before .before .before .before .before .before .before .args in
+    let p = c .before .before .before .before .before .before .before .before .before .before .before .before .before .pre in
+    labels-low (a .a) (a .top) (a .sizes .now) (a .members .now) (p .1) (p .3) (p .2)
+    (ap (allOf (eqb 0)) (sym (part-to-end (a .sizes .now) (a .top))) ∙ sym (c .before .before .before .before .before .before .before .before .before .zeros .ensures) ∙ not-false _ (c .before .before .before .before .before .before .before .before .if1 .left))
+    (sym (all-zero (drop (12 * a .top) (a .members .now))) ∙ eq-eqb 0 _ (sym (c .before .before .before .before .before .if2 .left) ∙ c .before .before .before .before .before .before .all .ensures ∙ ap unionOf (part-to-end (a .members .now) (12 * a .top))))
+    (sym (all-low (a .a) (take (12 * a .top) (a .members .now))) ∙ ap (inRange (a .a)) (sym (c .before .before .before .all2 .ensures)) ∙ sym (c .before .before .low .ensures) ∙ c .before .if3 .taken) _ (c .rows .ensures)
+
+returns-4 : tie.Need-returns-4
+returns-4 c = let a = c .before .before .before .before .before .before .before .before .before .before .before .before .args in
+    let p = c .before .before .before .before .before .before .before .before .before .before .before .before .pre in
+    labels-high (a .a) (a .top) (a .sizes .now) (a .members .now) (p .1) (p .3) (p .2)
+    (ap (allOf (eqb 0)) (sym (part-to-end (a .sizes .now) (a .top))) ∙ sym (c .before .before .before .before .before .before .before .before .zeros .ensures) ∙ not-false _ (c .before .before .before .before .before .before .before .if1 .left))
+    (sym (all-zero (drop (12 * a .top) (a .members .now))) ∙ eq-eqb 0 _ (sym (c .before .before .before .before .if2 .left) ∙ c .before .before .before .before .before .all .ensures ∙ ap unionOf (part-to-end (a .members .now) (12 * a .top))))
+    (sym (all-low (a .a) (take (12 * a .top) (a .members .now))) ∙ ap (inRange (a .a)) (sym (c .before .before .all2 .ensures)) ∙ sym (c .before .low .ensures) ∙ c .if3 .left)
 
 pub labels-spec : {M : Type 1} → statement M
 labels-spec =
     tie.close
     (tie.spec
-    Inv-loop
-    μ-loop
-    loop-holds
-    mul-from
-    add-to
-    shared-slice-read-count
-    cast-count
-    mul-list
-    sub-list
-    part-list-start
-    part-list-end
-    list-requires
-    add-i
-    loop-less
-    loop-again
-    returns
     sub-zeros
     part-zeros-start
     part-zeros-end
     zeros-requires
-    returns-2)
+    returns
+    mul-end
+    mul-all
+    sub-all
+    part-all-start
+    part-all-end
+    all-requires
+    returns-2
+    slice-aggregate-all
+    all-requires-2
+    low-requires
+    rows-requires
+    returns-3
+    returns-4)

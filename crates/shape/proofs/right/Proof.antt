@@ -1,28 +1,57 @@
-use mathlib.Core.Path.{_∙_, sym}
+-- `right` meets its contract: each part of the test in its order. Assumes nothing.
+use mathlib.Core.Bool.{Bool, _&&_}
+use mathlib.Core.Path.{_∙_, ap, ap₂, sym}
 use native.Mathlib.Omega.{arith}
+use borrow.Author.Tests.{not-false, not-true}
+use Rattle.shape.proofs.Laws.{all-low, listed-by, shape-depth, shape-nogoods, shape-rest}
+use Rattle.shape.specs.Shape.{standing}
+use Rattle.theory.specs.Sets.{inRange}
 use borrow.Author.Needs.{needs}
-use Rattle.shape.proofs.Laws.{shape-depth, shape-labels, shape-rest}
 use Rattle.shape.proofs.right.Statement.{statement}
 use Rattle.shape.proofs.right.Tie as tie
 
 returns : tie.Need-returns
 returns c = shape-depth (c .before .args .t1) (c .before .args .a) (c .before .args .top) (c .if1 .taken)
 
-labels-requires : tie.Need-labels-requires
-labels-requires c κs = search needs
+all-requires : tie.Need-all-requires
+all-requires c κs = search needs
+
+low-requires : tie.Need-low-requires
+low-requires c κs = search needs
+
+returns-2 : tie.Need-returns-2
+returns-2 c = let s = c .before .before .before .before .before .before .before .args in
+    shape-nogoods (s .t1) (s .a) (s .top) (omega arith)
+    (sym (listed-by (s .a) (s .t1 .count) (s .t1 .nogoods))
+    ∙ ap (λ (b : Bool). b && standing (s .t1 .count) (s .t1 .nogoods)) (sym (all-low (s .a) (s .t1 .nogoods)) ∙ ap (inRange (s .a)) (sym (c .before .before .all .ensures)) ∙ sym (c .before .low .ensures) ∙ not-true _ (c .if2 .taken)))
 
 list-requires : tie.Need-list-requires
 list-requires c κs = search needs
 
-returns-2 : tie.Need-returns-2
-returns-2 c =
-    let s = c .before .before .before .before .before .before .before .before .before .before .before .before in
-    shape-rest (s .args .t1) (s .args .a) (s .args .top) (omega arith) (sym (c .before .before .before .before .before .labels .ensures) ∙ c .before .before .before .before .if2 .taken) _ (c .list .ensures)
+labels-requires : tie.Need-labels-requires
+labels-requires c κs = search needs
 
 returns-3 : tie.Need-returns-3
-returns-3 c =
-    let s = c .before .before .before .before .before .before .before .before in
-    shape-labels (s .args .t1) (s .args .a) (s .args .top) (omega arith) (sym (c .before .labels .ensures) ∙ c .if2 .left)
+returns-3 c = let s = c .before .before .before .before .before .before .before .before .before .before .before .before .before .before .before .before .before .before .args in
+    shape-rest (s .t1) (s .a) (s .top) (omega arith)
+    (sym (listed-by (s .a) (s .t1 .count) (s .t1 .nogoods))
+    ∙ ap₂ _&&_ (sym (all-low (s .a) (s .t1 .nogoods)) ∙ ap (inRange (s .a)) (sym (c .before .before .before .before .before .before .before .before .before .before .before .before .before .all .ensures)) ∙ sym (c .before .before .before .before .before .before .before .before .before .before .before .before .low .ensures) ∙ not-false _ (c .before .before .before .before .before .before .before .before .before .before .before .if2 .left)) (sym (c .before .before .before .before .before .before .before .list .ensures) ∙ c .before .before .before .before .before .before .if3 .taken)) _ (c .labels .ensures)
+
+returns-4 : tie.Need-returns-4
+returns-4 c = let s = c .before .before .before .before .before .before .before .before .before .before .before .before .args in
+    shape-nogoods (s .t1) (s .a) (s .top) (omega arith)
+    (sym (listed-by (s .a) (s .t1 .count) (s .t1 .nogoods))
+    ∙ ap₂ _&&_ (sym (all-low (s .a) (s .t1 .nogoods)) ∙ ap (inRange (s .a)) (sym (c .before .before .before .before .before .before .before .all .ensures)) ∙ sym (c .before .before .before .before .before .before .low .ensures) ∙ not-false _ (c .before .before .before .before .before .if2 .left)) (sym (c .before .list .ensures) ∙ c .if3 .left))
 
 pub right-spec : {M : Type 1} → statement M
-right-spec = tie.close (tie.spec returns labels-requires list-requires returns-2 returns-3)
+right-spec =
+    tie.close
+    (tie.spec
+    returns
+    all-requires
+    low-requires
+    returns-2
+    list-requires
+    labels-requires
+    returns-3
+    returns-4)

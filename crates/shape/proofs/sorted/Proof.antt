@@ -1,65 +1,83 @@
-use mathlib.Core.Path.{_∙_, _≡_, ap, refl, sym}
-use Prim.Native.Nat.{_+_, _-_, _≤_}
+-- `sorted` meets its contract. The loop: the sets so far stand clear, those from a place on with as many assumptions as the last. Assumes nothing.
+use mathlib.Core.Path.{_∙_, _≡_, ap₂, sym}
+use Prim.Native.Nat.{_-_, _<_, _≤_, ℕ}
 use native.Mathlib.Omega.{arith}
-use lib.ListN.{drop, getD, length}
+use lib.Count.{ones}
+use lib.Dec.{ltb}
+use lib.ListN.{getD, length}
+use lib.Seq.{length-take-le}
+use borrow.Author.Tests.{not-false, not-true}
+use Rattle.shape.proofs.Runs.{Run, after-before, begun-low, run-end, run-in, run-late, run-on, run-one, run-short}
+use Rattle.theory.specs.Lists.{choose}
 use borrow.Author.Needs.{needs}
-use borrow.Rule.Slice.PartAt.{part-to-end}
-use Rattle.shape.proofs.Laws.{sorted-end, sorted-hit, sorted-miss}
-use Rattle.shape.specs.Shape.{apart}
-use Rattle.theory.specs.Lists.{allOf, sortedBy}
 use Rattle.shape.proofs.sorted.Statement.{statement}
 use Rattle.shape.proofs.sorted.Tie as tie
 
 abbrev Inv-loop : tie.InvT-loop
-Inv-loop l i₀ i = (i ≤ length l) × (sortedBy apart l ≡ sortedBy apart (drop i l))
+Inv-loop l last₀ many₀ from₀ i₀ last many from i = (1 ≤ i) × (i ≤ length l) × (from < i) × (many ≡ ones last) × Run l i from last
 
 abbrev μ-loop : tie.MeasureT-loop
-μ-loop l i₀ i = length l - i
+μ-loop l last₀ many₀ from₀ i₀ last many from i = length l - i
+
+returns : tie.Need-returns Inv-loop μ-loop
+returns c = run-short _ (c .if1 .taken)
+
+shared-slice-read-last : tie.Need-shared-slice-read-last Inv-loop μ-loop
+shared-slice-read-last c = search needs
+
+ones-requires : tie.Need-ones-requires Inv-loop μ-loop
+ones-requires c κs = search needs
 
 loop-holds : tie.Need-loop-holds Inv-loop μ-loop
-loop-holds c = (omega arith, refl)
+loop-holds c = (omega arith, omega arith, omega arith, c .ones .ensures, run-one _)
 
-mul-x : tie.Need-mul-x Inv-loop μ-loop
-mul-x c = search needs
+mul-e : tie.Need-mul-e Inv-loop μ-loop
+mul-e c = search needs
 
-shared-slice-read-x : tie.Need-shared-slice-read-x Inv-loop μ-loop
-shared-slice-read-x c = search needs
+shared-slice-read-e : tie.Need-shared-slice-read-e Inv-loop μ-loop
+shared-slice-read-e c = search needs
+
+ones-requires-2 : tie.Need-ones-requires-2 Inv-loop μ-loop
+ones-requires-2 c κs = search needs
+
+after-requires : tie.Need-after-requires Inv-loop μ-loop
+after-requires c κs = search needs
+
+returns-2 : tie.Need-returns-2 Inv-loop μ-loop
+returns-2 c = let l = c .before .before .before .before .before .loop in
+    run-late _ (l .i) (l .from) (l .last) (l .inv .4) (l .inv .0) (c .before .before .before .before .loop-test .taken)
+    (sym (c .before .after .ensures ∙ after-before _ _ _ _ (l .inv .3) (c .before .before .ones2 .ensures)) ∙ not-true _ (c .if2 .taken))
+
+begun-requires : tie.Need-begun-requires Inv-loop μ-loop
+begun-requires c κs = search needs
+
+slice-aggregate-first-within : tie.Need-slice-aggregate-first-within Inv-loop μ-loop
+slice-aggregate-first-within c = let l = c .before .before .before .before .before .before .before .loop in sym (length-take-le _ _ (omega (arith, begun-low (l .ones) (c .before .before .before .before .ones2 .result) (c .before .begun .result) (l .i) (l .from) (c .before .begun .ensures) (omega arith))))
+
+first-within-requires : tie.Need-first-within-requires Inv-loop μ-loop
+first-within-requires c κs = search needs
+
+returns-3 : tie.Need-returns-3 Inv-loop μ-loop
+returns-3 c = let l = c .before .before .before .before .before .before .before .before .before .loop in
+    let m = c .before .before .before .before .before .before .before .before .before .before .before .before .before .before .args .l .now in
+    run-in m (l .i) (l .from) (l .last) (l .inv .4) (l .inv .0) (c .before .before .before .before .before .before .before .before .loop-test .taken) (c .before .before .before .begun .result) _ (begun-low (l .ones) (c .before .before .before .before .before .before .ones2 .result) (c .before .before .before .begun .result) (l .i) (l .from) (c .before .before .before .begun .ensures) (omega arith)) (c .before .first-within .ensures) (c .if3 .taken)
 
 add-i : tie.Need-add-i Inv-loop μ-loop
 add-i c = search needs
-
-mul-leads : tie.Need-mul-leads Inv-loop μ-loop
-mul-leads c = search needs
-
-sub-leads : tie.Need-sub-leads Inv-loop μ-loop
-sub-leads c = search needs
-
-part-leads-start : tie.Need-part-leads-start Inv-loop μ-loop
-part-leads-start c = search needs
-
-part-leads-end : tie.Need-part-leads-end Inv-loop μ-loop
-part-leads-end c = search needs
-
-leads-requires : tie.Need-leads-requires Inv-loop μ-loop
-leads-requires c κs = search needs
 
 loop-less : tie.Need-loop-less Inv-loop μ-loop
 loop-less c = search needs
 
 loop-again : tie.Need-loop-again Inv-loop μ-loop
-loop-again c =
-    let l = c .before .before .before .before .before .loop in
-    let xs = c .before .before .before .before .before .before .before .args .l .now in
-    (omega arith, l .inv .1 ∙ sorted-hit apart xs (l .i) (omega arith) (ap (allOf (apart (getD xs (l .i) 0))) (sym (part-to-end xs (l .i + 1))) ∙ sym (c .before .leads .ensures) ∙ c .if1 .taken))
+loop-again c = let l = c .before .before .before .before .before .before .before .before .before .loop in
+    let m = c .before .before .before .before .before .before .before .before .before .before .before .before .before .before .args .l .now in
+    let t = c .before .before .before .begun .ensures ∙ ap₂ (λ (x y : ℕ). choose (ltb x y) (l .i) (l .from)) (l .inv .3) (c .before .before .before .before .before .before .ones2 .ensures) in
+    let b = sym (c .before .before .before .before .before .after .ensures ∙ after-before _ _ _ _ (l .inv .3) (c .before .before .before .before .before .before .ones2 .ensures)) ∙ not-false _ (c .before .before .before .before .if2 .left) in
+    let q = run-on m (l .i) (l .from) (l .last) (l .inv .4) (l .inv .0) (c .before .before .before .before .before .before .before .before .loop-test .taken) (omega arith) b (c .before .before .before .begun .result) _ t (c .before .first-within .ensures) (c .if3 .left) in
+    (omega arith, omega arith, q .0, c .before .before .before .before .before .before .ones2 .ensures, q .1)
 
-returns : tie.Need-returns Inv-loop μ-loop
-returns c =
-    let l = c .before .before .before .before .before .loop in
-    let xs = c .before .before .before .before .before .before .before .args .l .now in
-    sym (l .inv .1 ∙ sorted-miss apart xs (l .i) (omega arith) (ap (allOf (apart (getD xs (l .i) 0))) (sym (part-to-end xs (l .i + 1))) ∙ sym (c .before .leads .ensures) ∙ c .if1 .left))
-
-returns-2 : tie.Need-returns-2 Inv-loop μ-loop
-returns-2 c = let l = c .before .loop in sym (l .inv .1 ∙ sorted-end apart (c .before .before .before .args .l .now) (l .i) (omega arith))
+returns-4 : tie.Need-returns-4 Inv-loop μ-loop
+returns-4 c = let l = c .before .loop in run-end _ (l .i) (l .from) (l .last) (l .inv .4) (c .loop-test .left)
 
 pub sorted-spec : {M : Type 1} → statement M
 sorted-spec =
@@ -67,16 +85,20 @@ sorted-spec =
     (tie.spec
     Inv-loop
     μ-loop
+    returns
+    shared-slice-read-last
+    ones-requires
     loop-holds
-    mul-x
-    shared-slice-read-x
+    mul-e
+    shared-slice-read-e
+    ones-requires-2
+    after-requires
+    returns-2
+    begun-requires
+    slice-aggregate-first-within
+    first-within-requires
+    returns-3
     add-i
-    mul-leads
-    sub-leads
-    part-leads-start
-    part-leads-end
-    leads-requires
     loop-less
     loop-again
-    returns
-    returns-2)
+    returns-4)

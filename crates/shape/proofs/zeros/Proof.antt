@@ -1,29 +1,27 @@
+-- `zeros` meets its contract. The loop: all are zero if what was seen and the rest are. Assumes nothing.
+use mathlib.Core.Bool.{_&&_}
 use mathlib.Core.Path.{_∙_, _≡_, refl, sym}
 use Prim.Native.Nat.{_-_, _≤_}
 use native.Mathlib.Omega.{arith}
 use lib.Dec.{eqb}
 use lib.ListN.{drop, length}
-use borrow.Author.Needs.{needs}
-use borrow.Author.Tests.{eq-eqb, ne-eqb}
-use Rattle.theory.proofs.Places.{all-end, all-hit, all-miss}
+use Rattle.shape.proofs.Laws.{zero-end, zero-on}
 use Rattle.theory.specs.Lists.{allOf}
+use borrow.Author.Needs.{needs}
 use Rattle.shape.proofs.zeros.Statement.{statement}
 use Rattle.shape.proofs.zeros.Tie as tie
 
 abbrev Inv-loop : tie.InvT-loop
-Inv-loop l i₀ i = (i ≤ length l) × (allOf (eqb 0) l ≡ allOf (eqb 0) (drop i l))
+Inv-loop l seen₀ i₀ seen i = (i ≤ length l) × (eqb 0 seen && allOf (eqb 0) (drop i l) ≡ allOf (eqb 0) l)
 
 abbrev μ-loop : tie.MeasureT-loop
-μ-loop l i₀ i = length l - i
+μ-loop l seen₀ i₀ seen i = length l - i
 
 loop-holds : tie.Need-loop-holds Inv-loop μ-loop
 loop-holds c = (omega arith, refl)
 
-shared-slice-read-if1 : tie.Need-shared-slice-read-if1 Inv-loop μ-loop
-shared-slice-read-if1 c = search needs
-
-returns : tie.Need-returns Inv-loop μ-loop
-returns c = let l = c .before .before .before .loop in let a = c .before .before .before .before .args in sym (l .inv .1 ∙ all-miss (eqb 0) (a .l .now) (l .i) 0 (omega arith) (ne-eqb 0 _ (λ e. c .if1 .taken (sym e))))
+shared-slice-read-seen : tie.Need-shared-slice-read-seen Inv-loop μ-loop
+shared-slice-read-seen c = search needs
 
 add-i : tie.Need-add-i Inv-loop μ-loop
 add-i c = search needs
@@ -32,21 +30,12 @@ loop-less : tie.Need-loop-less Inv-loop μ-loop
 loop-less c = search needs
 
 loop-again : tie.Need-loop-again Inv-loop μ-loop
-loop-again c = let l = c .before .before .before .loop in let a = c .before .before .before .before .args in (omega arith, l .inv .1 ∙ all-hit (eqb 0) (a .l .now) (l .i) 0 (omega arith) (eq-eqb 0 _ (sym (c .if1 .left))))
+loop-again c = let l = c .before .before .loop in (omega arith, zero-on _ (l .i) (l .seen) (l .inv .1) (omega arith))
 
-returns-2 : tie.Need-returns-2 Inv-loop μ-loop
-returns-2 c = let l = c .before .loop in let a = c .before .before .args in sym (l .inv .1 ∙ all-end (eqb 0) (a .l .now) (l .i) (omega arith))
+returns : tie.Need-returns Inv-loop μ-loop
+returns c = let l = c .before .loop in zero-end _ (l .i) (l .seen) (l .inv .1) (omega arith)
 
 pub zeros-spec : {M : Type 1} → statement M
 zeros-spec =
     tie.close
-    (tie.spec
-    Inv-loop
-    μ-loop
-    loop-holds
-    shared-slice-read-if1
-    returns
-    add-i
-    loop-less
-    loop-again
-    returns-2)
+    (tie.spec Inv-loop μ-loop loop-holds shared-slice-read-seen add-i loop-less loop-again returns)

@@ -1,34 +1,52 @@
 -- `stages::judge` meets its contract. Assumes nothing.
-use mathlib.Core.Path.{_∙_, _≡_, refl, subst, sym}
-use Prim.Native.Nat.{_+_, _-_, ℕ}
+use mathlib.Core.Path.{_∙_, _≡_, ap, refl, sym}
+use Prim.Native.Nat.{_+_, _-_}
 use native.Mathlib.Omega.{arith}
+use lib.ListN.{length}
 use borrow.Author.Needs.{needs}
 use Rattle.rules.specs.Held.{saidBy}
 use Rattle.stages.proofs.Keeps.{marked-all}
 use Rattle.stages.proofs.Marks.{fresh-start}
-use Rattle.stages.proofs.Walk.{depth-is, done-is, fromStage, judge-from, judge-less, judge-next, judge-on, judge-reached, judge-refused, judge-settled, most, refused-is}
+use Rattle.stages.proofs.Walk.{fromStage, judge-from, judge-reached, most, walk-fresh, walk-less, walk-next, walk-on, walk-refused, walk-settled}
+use Rattle.stages.proofs.Stages.{layout}
 use Rattle.stages.specs.Steps.{Fresh, Reached}
 use Rattle.theory.specs.Judge.{judge, limits}
 use Rattle.stages.proofs.judge.Statement.{statement}
 use Rattle.stages.proofs.judge.Tie as tie
 
 abbrev Inv-loop : tie.InvT-loop
-Inv-loop held tallies lists₀ moved₀ lists moved = Reached held lists × (judge limits (held .assumptions) (held .assumptions + held .claims) (saidBy held) ≡ fromStage held (lists .depth)) × Fresh held (lists .depth) moved
+Inv-loop held tallies rules lists₀ later₀ counts₀ moved₀ lists later counts moved =
+    Reached held lists × (judge limits (held .assumptions) (held .assumptions + held .claims) (saidBy held) ≡ fromStage held (lists .depth)) × Fresh held (lists .depth) moved × (later ≡ lists .members) × (counts ≡ lists .sizes)
 
 abbrev μ-loop : tie.MeasureT-loop
-μ-loop held tallies lists₀ moved₀ lists moved = most held - lists .depth
+μ-loop held tallies rules lists₀ later₀ counts₀ moved₀ lists later counts moved = most held - lists .depth
 
 tally-requires : tie.Need-tally-requires Inv-loop μ-loop
 tally-requires c κs = c .pre
 
+laid-requires : tie.Need-laid-requires Inv-loop μ-loop
+laid-requires c κs = c .before .pre
+
 start-requires : tie.Need-start-requires Inv-loop μ-loop
-start-requires c κs = c .before .pre .assumptions
+start-requires c κs = c .before .before .pre .assumptions
 
 loop-holds : tie.Need-loop-holds Inv-loop μ-loop
-loop-holds c = (judge-reached _ (c .before .before .pre) _ (c .start .ensures), judge-from _ (c .before .before .pre) _ (c .start .ensures), fresh-start _ _ _ refl (marked-all 0 (omega arith)))
+loop-holds c = (judge-reached _ (c .before .before .before .before .before .pre) _ (c .before .before .start .ensures), judge-from _ (c .before .before .before .before .before .pre) _ (c .before .before .start .ensures), fresh-start _ _ _ refl (marked-all 0 (omega arith)), refl, refl)
+
+slice-aggregate-next : tie.Need-slice-aggregate-next Inv-loop μ-loop
+slice-aggregate-next c = search needs
+
+slice-aggregate-next-2 : tie.Need-slice-aggregate-next-2 Inv-loop μ-loop
+slice-aggregate-next-2 c = let l = c .before .before .before .before .before .before .before .loop in sym (ap length (l .inv .3) ∙ layout _ _ (l .inv .0 .room) _ (l .inv .0 .is) .members-length)
+
+slice-aggregate-next-3 : tie.Need-slice-aggregate-next-3 Inv-loop μ-loop
+slice-aggregate-next-3 c = let l = c .before .before .before .before .before .before .before .before .loop in sym (ap length (l .inv .4) ∙ layout _ _ (l .inv .0 .room) _ (l .inv .0 .is) .sizes-length)
+
+slice-aggregate-next-4 : tie.Need-slice-aggregate-next-4 Inv-loop μ-loop
+slice-aggregate-next-4 c = search needs
 
 next-requires : tie.Need-next-requires Inv-loop μ-loop
-next-requires c κs = (c .loop .inv .0, c .before .before .tally .ensures, c .loop .inv .2)
+next-requires c κs = let l = c .before .before .before .before .before .before .before .before .before .loop in (l .inv .0, c .before .before .before .before .before .before .before .before .before .before .before .before .before .before .tally .ensures, l .inv .2, c .before .before .before .before .before .before .before .before .before .before .before .before .before .laid .ensures, l .inv .3, l .inv .4, refl)
 
 number-requires : tie.Need-number-requires Inv-loop μ-loop
 number-requires c κs = search needs
@@ -37,24 +55,26 @@ refused-requires : tie.Need-refused-requires Inv-loop μ-loop
 refused-requires c κs = search needs
 
 returns : tie.Need-returns Inv-loop μ-loop
-returns c =
-    let l = c .before .before .before .before .loop in
-    c .refused .ensures ∙ refused-is _ _ (record { reply = c .before .before .before .next .result .reply; lists = c .before .before .before .next .result .lists }) (c .before .before .before .next .ensures .answer) (λ z. c .before .if1 .taken (c .before .before .number .ensures ∙ z)) ∙ judge-refused _ (l .lists) (l .inv .0) _ (l .inv .1) (record { reply = c .before .before .before .next .result .reply; lists = c .before .before .before .next .result .lists }) (c .before .before .before .next .ensures .answer) _ (c .before .before .number .ensures) (c .before .if1 .taken)
+returns c = let l = c .before .before .before .before .before .before .before .before .before .before .before .before .before .before .before .before .loop in c .refused .ensures ∙ walk-refused _ (l .lists) (l .inv .0) _ (l .inv .1) _ _ _ _ (c .before .before .before .before .before .before .next .ensures) _ (c .before .before .number .ensures) (c .before .if1 .taken)
 
 returns-2 : tie.Need-returns-2 Inv-loop μ-loop
-returns-2 c =
-    let l = c .before .before .before .before .loop in
-    judge-settled _ (l .lists) (l .inv .0) _ (l .inv .1) (record { reply = c .before .before .before .next .result .reply; lists = c .before .before .before .next .result .lists }) (c .before .before .before .next .ensures .answer) _ (c .before .before .number .ensures) (c .before .if1 .left) _ (c .before .before .before .next .ensures .agrees (done-is _ _ (record { reply = c .before .before .before .next .result .reply; lists = c .before .before .before .next .result .lists }) (c .before .before .before .next .ensures .answer) (sym (c .before .before .number .ensures) ∙ c .before .if1 .left))) (c .if2 .taken)
+returns-2 c = let l = c .before .before .before .before .before .before .before .before .before .before .before .before .before .before .before .before .loop in walk-settled _ (l .lists) (l .inv .0) _ (l .inv .1) _ _ _ _ (c .before .before .before .before .before .before .next .ensures) _ (c .before .before .number .ensures) (c .before .if1 .left) (c .if2 .taken)
+
+add-t30 : tie.Need-add-t30 Inv-loop μ-loop
+add-t30 c = omega (arith, c .before .before .before .before .before .before .before .before .before .before .before .before .before .before .before .before .before .loop .inv .0 .low)
 
 loop-less : tie.Need-loop-less Inv-loop μ-loop
-loop-less c =
-    let l = c .before .before .before .before .before .before .loop in
-    judge-less _ (l .lists) (l .inv .0) _ (l .inv .1) (record { reply = c .before .before .before .before .before .next .result .reply; lists = c .before .before .before .before .before .next .result .lists }) (c .before .before .before .before .before .next .ensures .answer) _ (c .before .before .before .before .number .ensures) (c .before .before .before .if1 .left) _ (c .before .before .before .before .before .next .ensures .agrees (done-is _ _ (record { reply = c .before .before .before .before .before .next .result .reply; lists = c .before .before .before .before .before .next .result .lists }) (c .before .before .before .before .before .next .ensures .answer) (sym (c .before .before .before .before .number .ensures) ∙ c .before .before .before .if1 .left))) (c .before .before .if2 .left)
+loop-less c = let l = c .before .before .before .before .before .before .before .before .before .before .before .before .before .before .before .before .before .loop in walk-less _ (l .lists) (l .inv .0) _ (l .inv .1) _ _ _ _ (c .before .before .before .before .before .before .before .next .ensures) _ (c .before .before .before .number .ensures) (c .before .before .if1 .left) (c .before .if2 .left)
 
 loop-again : tie.Need-loop-again Inv-loop μ-loop
 loop-again c =
-    let l = c .before .before .before .before .before .before .loop in
-    (judge-next _ (l .lists) (l .inv .0) _ (l .inv .1) (record { reply = c .before .before .before .before .before .next .result .reply; lists = c .before .before .before .before .before .next .result .lists }) (c .before .before .before .before .before .next .ensures .answer) _ (c .before .before .before .before .number .ensures) (c .before .before .before .if1 .left) _ (c .before .before .before .before .before .next .ensures .agrees (done-is _ _ (record { reply = c .before .before .before .before .before .next .result .reply; lists = c .before .before .before .before .before .next .result .lists }) (c .before .before .before .before .before .next .ensures .answer) (sym (c .before .before .before .before .number .ensures) ∙ c .before .before .before .if1 .left))) (c .before .before .if2 .left), judge-on _ (l .lists) (l .inv .0) _ (l .inv .1) (record { reply = c .before .before .before .before .before .next .result .reply; lists = c .before .before .before .before .before .next .result .lists }) (c .before .before .before .before .before .next .ensures .answer) _ (c .before .before .before .before .number .ensures) (c .before .before .before .if1 .left) _ (c .before .before .before .before .before .next .ensures .agrees (done-is _ _ (record { reply = c .before .before .before .before .before .next .result .reply; lists = c .before .before .before .before .before .next .result .lists }) (c .before .before .before .before .before .next .ensures .answer) (sym (c .before .before .before .before .number .ensures) ∙ c .before .before .before .if1 .left))) (c .before .before .if2 .left), subst (λ (k : ℕ). Fresh (c .before .before .before .before .before .before .before .before .before .args .held) k (c .before .before .before .before .before .next .result .moved)) (sym (depth-is _ (l .lists) (l .inv .0) _ (l .inv .1) (record { reply = c .before .before .before .before .before .next .result .reply; lists = c .before .before .before .before .before .next .result .lists }) (c .before .before .before .before .before .next .ensures .answer) _ (c .before .before .before .before .number .ensures) (c .before .before .before .if1 .left))) (c .before .before .before .before .before .next .ensures .fresh (done-is _ _ (record { reply = c .before .before .before .before .before .next .result .reply; lists = c .before .before .before .before .before .next .result .lists }) (c .before .before .before .before .before .next .ensures .answer) (sym (c .before .before .before .before .number .ensures) ∙ c .before .before .before .if1 .left))))
+    let l = c .before .before .before .before .before .before .before .before .before .before .before .before .before .before .before .before .before .loop in (
+      walk-next _ (l .lists) (l .inv .0) _ (l .inv .1) _ _ _ _ (c .before .before .before .before .before .before .before .next .ensures) _ (c .before .before .before .number .ensures) (c .before .before .if1 .left) (c .before .if2 .left),
+      walk-on _ (l .lists) (l .inv .0) _ (l .inv .1) _ _ _ _ (c .before .before .before .before .before .before .before .next .ensures) _ (c .before .before .before .number .ensures) (c .before .before .if1 .left) (c .before .if2 .left),
+      walk-fresh _ (l .lists) (l .inv .0) _ (l .inv .1) _ _ _ _ (c .before .before .before .before .before .before .before .next .ensures) _ (c .before .before .before .number .ensures) (c .before .before .if1 .left),
+      refl,
+      refl,
+    )
 
 pub judge-spec : {M : Type 1} → statement M
 judge-spec =
@@ -63,12 +83,18 @@ judge-spec =
     Inv-loop
     μ-loop
     tally-requires
+    laid-requires
     start-requires
     loop-holds
+    slice-aggregate-next
+    slice-aggregate-next-2
+    slice-aggregate-next-3
+    slice-aggregate-next-4
     next-requires
     number-requires
     refused-requires
     returns
     returns-2
+    add-t30
     loop-less
     loop-again)

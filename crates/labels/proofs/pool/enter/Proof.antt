@@ -1,6 +1,10 @@
 -- `labels::pool::enter` meets its contract. Assumes nothing.
-use mathlib.Core.Path.{_∙_}
-use lib.ListN.{length-set}
+use mathlib.Core.Bool.{true}
+use mathlib.Core.Path.{_∙_, _≡_, subst}
+use Prim.Native.Nat.{ℕ}
+use native.Mathlib.Omega.{arith}
+use lib.ListN.{length, length-set}
+use Rattle.labels.specs.Pool.{Entered}
 use Rattle.labels.proofs.Pools.{enter-full, enter-room, purge-sorted}
 use borrow.Author.Needs.{needs}
 use Rattle.labels.proofs.pool.enter.Statement.{statement}
@@ -10,32 +14,35 @@ purge-requires : tie.Need-purge-requires
 purge-requires c κs = search needs
 
 squeeze-requires : tie.Need-squeeze-requires
-squeeze-requires c κs = (search needs, purge-sorted (c .before .before .before .before .before .before .args .e) _ _ (c .before .before .before .purge .ensures .1) (c .before .before .before .before .before .before .pre .well .sorted))
-
-same-length : tie.Need-same-length
-same-length c = search needs
+squeeze-requires c κs = (search needs, purge-sorted (c .before .before .before .args .e) _ _ (c .before .purge .ensures .1) (c .before .before .before .pre .well .sorted))
 
 returns : tie.Need-returns
 returns c =
-    let s = c .before .before .before .before .before .before .before .before .before .before in
-    enter-full (s .args .pool .now) (c .before .before .before .before .before .before .before .purge .last .0) (c .before .before .before .squeeze .last .0) (s .args .fill) (s .args .e) (c .before .before .before .before .before .before .before .purge .result) (c .before .before .before .squeeze .result) (c .before .before .before .squeeze .kept .0 ∙ c .before .before .before .before .before .before .before .purge .kept .0) (s .pre .fits) (c .before .before .before .before .before .before .before .purge .ensures .0) (c .before .before .before .before .before .before .before .purge .ensures .1) (c .before .before .before .squeeze .ensures) (c .if1 .taken)
+    let s = c .before .before .before .before .before in
+    let e : length (s .args .pool .now) ≡ 33 = search needs in
+    let same = c .before .squeeze .kept .0 ∙ c .before .before .before .purge .kept .0 in (
+      subst (λ (v : ℕ). Entered (s .args .pool .now) (s .args .fill) (s .args .e) (c .before .squeeze .last .0) (record { count = v; out = true; bound = c .before .squeeze .result; why = s .args .e })) e
+          (enter-full (s .args .pool .now) (c .before .before .before .purge .last .0) (c .before .squeeze .last .0) (s .args .fill) (s .args .e) (c .before .before .before .purge .result) (c .before .squeeze .result) same (s .pre .fits) (c .before .before .before .purge .ensures .0) (c .before .before .before .purge .ensures .1) (c .before .squeeze .ensures) (omega (arith, e, c .if1 .taken))),
+      same,
+    )
 
 mul-pool : tie.Need-mul-pool
 mul-pool c = search needs
 
-slice-write-pool : tie.Need-slice-write-pool
-slice-write-pool c = search needs
-
 add-t12 : tie.Need-add-t12
 add-t12 c = search needs
 
-same-length-2 : tie.Need-same-length-2
-same-length-2 c = length-set (c .before .before .before .squeeze .last .0) _ _ ∙ c .before .before .before .squeeze .kept .0 ∙ c .before .before .before .before .before .before .before .purge .kept .0
-
 returns-2 : tie.Need-returns-2
 returns-2 c =
-    let s = c .before .before .before .before .before .before .before .before .before .before in
-    enter-room (s .args .pool .now) (c .before .before .before .before .before .before .before .purge .last .0) (c .before .before .before .squeeze .last .0) (s .args .fill) (s .args .e) (c .before .before .before .before .before .before .before .purge .result) (c .before .before .before .squeeze .result) (c .before .before .before .squeeze .kept .0 ∙ c .before .before .before .before .before .before .before .purge .kept .0) (s .pre .fits) (c .before .before .before .before .before .before .before .purge .ensures .0) (c .before .before .before .before .before .before .before .purge .ensures .1) (c .before .before .before .squeeze .ensures) (c .if1 .left)
+    let s = c .before .before .before .before .before in
+    let e : length (s .args .pool .now) ≡ 33 = search needs in
+    let same = c .before .squeeze .kept .0 ∙ c .before .before .before .purge .kept .0 in (
+      enter-room (s .args .pool .now) (c .before .before .before .purge .last .0) (c .before .squeeze .last .0) (s .args .fill) (s .args .e) (c .before .before .before .purge .result) (c .before .squeeze .result) same (s .pre .fits) (c .before .before .before .purge .ensures .0) (c .before .before .before .purge .ensures .1) (c .before .squeeze .ensures) (omega (arith, e, c .if1 .left)),
+      length-set (c .before .squeeze .last .0) _ _ ∙ same,
+    )
+
+element-write-pool : tie.Need-element-write-pool
+element-write-pool c = search needs
 
 pub enter-spec : {M : Type 1} → statement M
 enter-spec =
@@ -43,10 +50,8 @@ enter-spec =
     (tie.spec
     purge-requires
     squeeze-requires
-    same-length
     returns
     mul-pool
-    slice-write-pool
+    element-write-pool
     add-t12
-    same-length-2
     returns-2)
