@@ -37,6 +37,9 @@ loop-again c = search needs
 compared-requires : tie.Need-compared-requires Inv-loop μ-loop
 compared-requires c κs = search needs
 
+unlisted-requires : tie.Need-unlisted-requires Inv-loop μ-loop
+unlisted-requires c κs = search needs
+
 returns : tie.Need-returns Inv-loop μ-loop
 returns c = search needs
 
@@ -55,4 +58,5 @@ main-spec =
     loop-less
     loop-again
     compared-requires
+    unlisted-requires
     returns)
