@@ -25,6 +25,7 @@ pub mod Refusals
 pub mod Shaped
 pub mod Counting
 pub mod Models
+pub mod Last
 pub mod Meaning
 pub mod Words
 pub mod Truth

@@ -10,6 +10,7 @@ use native.Mathlib.Omega.{arith}
 use lib.ListN.{length}
 use borrow.Author.Tests.{lt-ltb, ltb-true}
 use Rattle.promises.proofs.Counting.{ones-members}
+use Rattle.promises.proofs.Last.{last-ends, last-new}
 use Rattle.promises.proofs.Models.{carries-models, contradicts-models}
 use Rattle.promises.proofs.Shaped.{shape-says}
 use Rattle.promises.specs.Demand2.{IsDepth}
@@ -79,4 +80,6 @@ meaning = record {
   label-step = λ A H k n E. let s = label-step A H k n E in let u = unrivalled _ E in (λ m. let r = s .0 m in (r .0, u .0 (r .1)), λ r. s .1 (r .0, u .1 (r .1)));
   depth-consequents = depth-consequents;
   consequents-same = λ H K f. omega (arith, consequents-less H K (λ j. f j .0), consequents-less K H (λ j. f j .1));
+  last-ends = last-ends;
+  last-new = last-new;
 }

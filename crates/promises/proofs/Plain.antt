@@ -300,6 +300,15 @@ bare-told q l out a m d h =
     ∙ ap (λ (r : Reply). choose (not (isDone r)) (answered (refusedAs (q .what) r) out) unless) d
     ∙ ap (λ (b : Bool). choose (not b) (answered (refusedAs (q .what) Number) out) told) (lt-ltb (q .set) (2 ^ (q .assumptions)) h)
 
+-- ---- bytes enough
+held-enough : (s : Store) → rightShape s ≡ true → (E : ℕ) → length (stageText (top (s .held)) (saidBy (s .held)) E) ≤ longest
+held-enough s r E =
+    let f = followable (s .held) (shape-fits s r) in
+    stages-length (saidBy (s .held)) (held-placed (s .held) f) E (top (s .held)) (f .low)
+
+bare-enough : (A M : ℕ) (l : List Handed) → A ≤ 32 → M ≤ 96 → faultsOf (A + M) l ≡ Done → (E : ℕ) → length (stageText (A + M) (barely (A + M) l) E) ≤ longest
+bare-enough A M l a m d E = let low : A + M ≤ 128 = omega arith in stages-length (barely (A + M) l) (bare-placed (A + M) low l d) E (A + M) low
+
 pub plain-path : PlainPath ours
 plain-path = record {
   replies = λ m n E. plain-question (made-form m) n E;
@@ -308,6 +317,8 @@ plain-path = record {
   says = λ m n E l h. plain-says (made-form m) n E l h;
   lines = λ m E out h k. plain-lines (made-form m) E out h k;
   enough = λ m E. plain-enough (made-form m) E;
+  enough-held = held-enough;
+  enough-bare = bare-enough;
   bare = bare-told;
   bare-question = λ m l d w n E out. bare-word (made-form m) l d w E out n;
   bare-context = λ m l d w E out. bare-bytes (made-form m) l d w E out;

@@ -1,7 +1,7 @@
 -- Demand 1 of our calls. Assumes nothing.
 use Rattle.promises.proofs.Coded.{coded}
 use Rattle.promises.proofs.Keeping.{add-keeps, all-bytes, all-keeps, bare-keeps, judge-keeps, load-keeps, open-keeps, printing-keeps, read-keeps, read-store, refusal-keeps, withdraw-keeps}
-use Rattle.promises.proofs.Table.{reply-table}
+use Rattle.promises.proofs.Table.{bare-kind, reply-table}
 use Rattle.promises.specs.Calls.{ours}
 use Rattle.promises.specs.Demand1.{Demand1, Refusals}
 
@@ -19,6 +19,7 @@ refusals = record {
   bytes = read-keeps;
   refusal-bytes = refusal-keeps;
   bare-bytes = bare-keeps;
+  bare-kind = bare-kind;
   printing-bytes = printing-keeps;
 }
 

@@ -12,9 +12,9 @@ use borrow.Author.Tests.{le-ltb, ltb-false, not-false, not-true}
 use Rattle.asking.specs.Asking.{answerNumber, contextReply, firstIn, memberAt, memberNumber, memberOf, questionOf, reasoned, standing}
 use Rattle.asking.specs.declared.Answer.the-variants.{Refused}
 use Rattle.asking.specs.declared.Found.the-variants.{Is, Not}
-use Rattle.bare.specs.Bare.{Answered, answered, askOf, barely, faultsOf, refusedAs, tellOf, toldNumber}
+use Rattle.bare.specs.Bare.{Answered, answered, askOf, barely, faultsOf, refusedAs, tellOf, toldNumber, wroteAs}
 use Rattle.bare.specs.declared.Query.{Query}
-use Rattle.bare.specs.declared.Told.the-variants.{Filled}
+use Rattle.bare.specs.declared.Told.the-variants.{Filled, Word}
 use Rattle.bare.specs.declared.What.{What}
 use Rattle.bare.specs.declared.What.the-variants.{Context, Number as Of, Stages}
 use Rattle.casefile.specs.Load.{loadOf}
@@ -405,6 +405,38 @@ module _ (q : Query) (l : List Handed) (out : List ℕ) where
 
   bare-one : One (BareRows q l out)
   bare-one = given-one _ _ _ (items-one Q (LastRows (q .what)) (given-one _ _ _ (given-one _ _ _ no-row-one)) l)
+
+  -- ---- a refusal is said in the kind of what is asked
+  abbrev Kind : What → Answered → Type 0
+  Kind w x = (toldNumber (x .answer) ≡ 0 → ⊥) → (r : Reply) × (x .answer ≡ refusedAs w r)
+
+  kind-choose : (w : What) (b : Bool) (r : Reply) (y : Answered) → Kind w y → Kind w (choose b (answered (refusedAs w r) out) y)
+  kind-choose w true r y k n = (r, refl)
+  kind-choose w false r y k n = k n
+
+  tell-kind : (w : What) → Kind w (tellOf Q (barely Q l) (q .set) w out)
+  unfolding fitted
+  tell-kind (Of n) = go (ltb Q n)
+    where
+      go : (b : Bool) → Kind (Of n) (answered (Word (choose b (Unsaid Number) (plainBy (barely Q l) (q .set) n))) out)
+      go true k = (Number, refl)
+      go false k = absurd (k (plain-zero (barely Q l) (q .set) n))
+  tell-kind Context = kind-choose Context (ltb (length out) (Q + 1)) Short _ (λ k. absurd (k refl))
+  tell-kind Stages = go (ltb (length out) (length t))
+    where
+      t : List ℕ
+      t = stageText Q (barely Q l) (q .set)
+
+      go : (b : Bool) → Kind Stages (wroteAs (choose b (kept Short out) (record { answer = Length (length t); bytes = t ++ drop (length t) out })))
+      go true k = (Short, refl)
+      go false k = absurd (k refl)
+
+  pub bare-kind : (toldNumber (askOf q l out .answer) ≡ 0 → ⊥) → (r : Reply) × (askOf q l out .answer ≡ refusedAs (q .what) r)
+  unfolding askOf
+  bare-kind =
+      let w : What = q .what in
+      kind-choose w (ltb 32 (q .assumptions) || ltb 96 (q .claims)) Counts _
+      (kind-choose w (not (isDone (faultsOf Q l))) (faultsOf Q l) _ (kind-choose w (not (inRange (q .assumptions) (q .set))) Number _ (tell-kind w)))
 
 -- ---- all of it
 

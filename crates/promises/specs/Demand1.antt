@@ -2,7 +2,7 @@
 use mathlib.Core.List.{List}
 use mathlib.Core.Path.{_≡_}
 use Prim.Native.Nat.{ℕ}
-use Rattle.bare.specs.Bare.{toldNumber}
+use Rattle.bare.specs.Bare.{refusedAs, toldNumber}
 use Rattle.bare.specs.declared.Query.{Query}
 use Rattle.handed.specs.declared.Handed.{Handed}
 use Rattle.lent.specs.Lent.{writtenNumber}
@@ -35,6 +35,8 @@ pub record Refusals (C : Calls) : Type 0 where
   pub bytes : (s : Store) (a : Ask) → (numberSaid a (C .reading s a .said) ≡ 0 → ⊥) → C .reading s a .bytes ≡ lentTo a
   pub refusal-bytes : (r : Reply) (k : ℕ) (out : List ℕ) → (writtenNumber (C .refusal r k out .answer) ≡ 0 → ⊥) → C .refusal r k out .bytes ≡ out
   pub bare-bytes : (q : Query) (l : List Handed) (out : List ℕ) → (toldNumber (C .bare q l out .answer) ≡ 0 → ⊥) → C .bare q l out .bytes ≡ out
+  -- a refusal of a bare list is said as the call of a store says it: a word, the reply of the context, or that of the lines
+  pub bare-kind : (q : Query) (l : List Handed) (out : List ℕ) → (toldNumber (C .bare q l out .answer) ≡ 0 → ⊥) → (r : Reply) × (C .bare q l out .answer ≡ refusedAs (q .what) r)
   pub printing-bytes : (bytes out : List ℕ) → (writtenNumber (C .printing bytes out .answer) ≡ 0 → ⊥) → C .printing bytes out .bytes ≡ out
 
 pub record Demand1 (C : Calls) : Type 2 where

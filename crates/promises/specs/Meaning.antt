@@ -9,6 +9,7 @@ use lib.ListN.{length}
 use Rattle.promises.specs.Demand2.{IsDepth}
 use Rattle.promises.specs.Made.{Input, SameMembers}
 use Rattle.promises.specs.Shaped.{ShapeSays}
+use Rattle.stagetext.specs.Stagetext.{lastStage}
 use Rattle.store.specs.Shape.{rightShape}
 use Rattle.store.specs.declared.Store.{Store}
 use Rattle.theory.specs.Demands.{carries, contradicts, fromAll}
@@ -32,6 +33,11 @@ pub record ModelOf (H : Input) (E : ℕ) (S : ℕ → Type 0) : Type 0 where
 pub record Unrivalled (l : List ℕ) (E : ℕ) : Type 0 where
   pub listed : Mem E l
   pub alone : (F : ℕ) → Mem F l → within F E ≡ true → F ≡ E
+
+-- every number of every justification is at most 128, as of a store or of a bare list without fault
+pub record Placeable (H : Input) : Type 0 where
+  pub consequents : (j : Justification) → Mem j H → j .consequent ≤ 128
+  pub supports : (j : Justification) → Mem j H → (n : ℕ) → Mem n (j .supports) → n ≤ 128
 
 -- H are the justifications held, E is a set of assumptions
 pub record Meaning : Type 1 where
@@ -65,3 +71,7 @@ pub record Meaning : Type 1 where
   pub depth-consequents : (A N : ℕ) (H : List Justification) (k : ℕ) → IsDepth A N H k → k ≤ length (consequents H)
   -- .. which is that of the set: what was put in and what is held have the same number
   pub consequents-same : (H K : List Justification) → SameMembers H K → length (consequents H) ≡ length (consequents K)
+  -- the last stage with something new: after it nothing new follows from E, however many stages are gone through ..
+  pub last-ends : (H : Input) (E : ℕ) → Placeable H → (k n : ℕ) → follows H k E n ≡ true → follows H (lastStage H E) E n ≡ true
+  -- .. and at it, unless it is stage 0, a number follows that did not the stage before
+  pub last-new : (H : Input) (E : ℕ) → Placeable H → (k : ℕ) → lastStage H E ≡ suc k → (n : ℕ) × (follows H (suc k) E n ≡ true) × (follows H k E n ≡ false)

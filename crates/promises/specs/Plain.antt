@@ -1,4 +1,5 @@
 -- The plain path: on every store made by the calls it answers as the labels do; its lines over what was put in; and the same from a bare list. Assumes nothing.
+use mathlib.Core.Bool.{true}
 use mathlib.Core.List.{List, _++_}
 use mathlib.Core.Path.{_≡_}
 use Prim.Native.Nat.{_+_, _<_, _^_, _≤_, ℕ}
@@ -18,7 +19,9 @@ use Rattle.plain.specs.declared.Plain.the-variants.{Inconsistent, Refused, Supp
 use Rattle.promises.specs.Calls.{Calls, context, over, plainContext, plainly, question, reads, stageLines, written}
 use Rattle.promises.specs.Made.{Input, Made, SameMembers}
 use Rattle.replies.specs.declared.Reply.the-variants.{Done}
+use Rattle.rules.specs.Held.{saidBy}
 use Rattle.stagetext.specs.Stagetext.{longest, stageText}
+use Rattle.store.specs.Shape.{rightShape, top}
 use Rattle.store.specs.declared.Store.{Store}
 use Rattle.theory.specs.Lists.{choose}
 use Rattle.theory.specs.Places.{table}
@@ -50,8 +53,11 @@ pub record PlainPath (C : Calls) : Type 0 where
   -- the lines: one a stage from 0 up to the last with something new
   pub lines : {A M : ℕ} {H : Input} {s : Store} → Made C A M H s → (E : ℕ) (out : List ℕ) → E < 2 ^ A → length (stageText (A + M) H E) ≤ length out
       → C .reading s (stageLines E out) ≡ reads (stageLines E out) (written (stageText (A + M) H E)) s (over (stageText (A + M) H E) out)
-  -- so many lent bytes are always enough
+  -- so many lent bytes are always enough: for what was put in, ..
   pub enough : {A M : ℕ} {H : Input} {s : Store} → Made C A M H s → (E : ℕ) → length (stageText (A + M) H E) ≤ longest
+  -- .. for any store of right shape, forged or not, and for a bare list without fault
+  pub enough-held : (s : Store) → rightShape s ≡ true → (E : ℕ) → length (stageText (top (s .held)) (saidBy (s .held)) E) ≤ longest
+  pub enough-bare : (A M : ℕ) (l : List Handed) → A ≤ 32 → M ≤ 96 → faultsOf (A + M) l ≡ Done → (E : ℕ) → length (stageText (A + M) (barely (A + M) l) E) ≤ longest
   -- a bare list, any number of items: what follows by it, and nothing else
   pub bare : (q : Query) (l : List Handed) (out : List ℕ) → q .assumptions ≤ 32 → q .claims ≤ 96 → faultsOf (q .assumptions + q .claims) l ≡ Done → q .set < 2 ^ (q .assumptions)
       → C .bare q l out ≡ tellOf (q .assumptions + q .claims) (barely (q .assumptions + q .claims) l) (q .set) (q .what) out

@@ -152,6 +152,7 @@ refusals-too = record {
   bytes = λ s. by-question asks readOf s (λ a x. (numberSaid a (x .said) ≡ 0 → ⊥) → x .bytes ≡ lentTo a) (refusals .bytes s) (λ n E k. refl);
   refusal-bytes = refusals .refusal-bytes;
   bare-bytes = refusals .bare-bytes;
+  bare-kind = refusals .bare-kind;
   printing-bytes = λ bytes out k.
       ap (λ (w : Wrote). w .bytes) (prints-ours bytes out)
       ∙ refusals .printing-bytes bytes out (λ z. k (ap (λ (w : Wrote). writtenNumber (w .answer)) (prints-ours bytes out) ∙ z));
@@ -255,6 +256,8 @@ plain-path-too = record {
   says = λ m n E l h. plain-path .says (made-ours m) n E l h;
   lines = λ m E out h k. plain-path .lines (made-ours m) E out h k;
   enough = λ m E. plain-path .enough (made-ours m) E;
+  enough-held = plain-path .enough-held;
+  enough-bare = plain-path .enough-bare;
   bare = plain-path .bare;
   bare-question = λ m l d w n E out. plain-path .bare-question (made-ours m) l d w n E out;
   bare-context = λ m l d w E out. plain-path .bare-context (made-ours m) l d w E out;

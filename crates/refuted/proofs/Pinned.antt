@@ -3,44 +3,57 @@ use mathlib.Core.Bool.{Bool, true}
 use mathlib.Core.List.{_++_, _∷_, List, [], map}
 use mathlib.Core.Option.{some}
 use mathlib.Core.Path.{_∙_, _≡_, ap, ap₂, refl, sym}
-use Prim.Native.Nat.{_+_, _≤_, suc, ℕ}
+use Prim.Native.Nat.{_+_, _<_, _≤_, suc, ℕ}
 use Prim.Native.String.{String}
 use native.Mathlib.Omega.{arith}
 use lib.Count.{ones}
 use lib.ListN.{drop, getD, length}
 use Rattle.asking.specs.Asking.{answerSet, firstIn, questionOf, reasoned}
 use Rattle.asking.specs.declared.Answer.the-variants.{Inconsistent, Supported, Unsupported}
+use Rattle.bare.specs.Bare.{answered, askOf, barely, faultsOf, tellOf, wroteAs}
+use Rattle.bare.specs.declared.Told.the-variants.{Filled, Lines, Word}
+use Rattle.bare.specs.declared.What.{What}
+use Rattle.bare.specs.declared.What.the-variants.{Context, Number as Of, Stages}
 use Rattle.casefile.specs.Case.{Case, caseOf, recordsFrom, whole}
+use Rattle.following.specs.First.{sinceOf, upTo}
+use Rattle.handed.specs.Supplied.{suppliedBy}
 use Rattle.items.specs.Items.{Item, headerFrom, numbersFrom, recordFrom, unless}
-use Rattle.lent.specs.Lent.{fitted, writtenLength}
+use Rattle.lent.specs.Lent.{fitted, kept, writtenLength}
+use Rattle.lent.specs.declared.Written.the-variants.{Length, Refused as Unwritten}
 use Rattle.lines.specs.Lines.{refusalText, wordOf}
 use Rattle.numbers.specs.Numbers.{numberFrom, secondFrom}
+use Rattle.plain.specs.Plainly.{byteOf, plainBy}
+use Rattle.plain.specs.declared.Plain.{Plain}
+use Rattle.plain.specs.declared.Plain.the-variants.{Inconsistent as Against, Refused as Unsaid, Supported as Plainly, Unsupported as Neither}
 use Rattle.promises.proofs.Files.{files}
 use Rattle.promises.proofs.Form.{Form, form-said}
+use Rattle.promises.proofs.Plain.{plain-path}
 use Rattle.promises.proofs.Standing.{as-they-stand}
 use Rattle.promises.proofs.Truth.{demand-2}
-use Rattle.promises.specs.Calls.{Read, caseLine, context, file, line, ours, over, reads, written}
+use Rattle.promises.specs.Calls.{Read, caseLine, context, file, line, ours, over, plainContext, plainly, reads, stageLines, written}
 use Rattle.promises.specs.Demand2.{byteBy, carriedBy, contradictedBy, firstText}
 use Rattle.promises.specs.Files.{fileFor}
 use Rattle.promises.specs.Made.{Made, inOrder, putIn}
+use Rattle.promises.specs.Plain.{asking, unthird}
 use Rattle.refuted.proofs.Cases.{answers, prints}
 use Rattle.refuted.proofs.Files.{file-are, file-done, file-form, file-made}
 use Rattle.refuted.specs.Cases.{ListsAre}
-use Rattle.refuted.specs.Pinned.{Pinned, PrintsFile, Refuses, keysBytes, sowing, sowingBytes, sowingFile}
+use Rattle.refuted.specs.Pinned.{Pinned, PrintsFile, Refuses, keysBytes, longItem, ownItem, sowing, sowingBytes, sowingFile, sowingList}
 use Rattle.replies.specs.declared.Reply.{Reply}
-use Rattle.replies.specs.declared.Reply.the-variants.{After, Done, Label, Long}
+use Rattle.replies.specs.declared.Reply.the-variants.{After, Done, Itself, Label, Long, Number, Short, Supports}
 use Rattle.rules.specs.Held.{put}
 use Rattle.rules.specs.Items.{faultOf, sameJustification, setOf}
 use Rattle.stages.specs.declared.Lists.{Lists}
+use Rattle.stagetext.specs.Stagetext.{lastStage, latest, stageLine, stageText}
 use Rattle.store.specs.Reading.{labelHeld}
 use Rattle.store.specs.declared.Store.{Store}
 use Rattle.text.specs.Texts.{braced, digits, digitsIn, field, heading, joined, refusal, row, spaced, word}
 use Rattle.theory.specs.Cases.{at, from, verdict}
 use Rattle.theory.specs.Demands.{carries, contradicts, fromAll}
 use Rattle.theory.specs.Judge.{judge, limits, sameSets}
-use Rattle.theory.specs.Lists.{alike, allOf, each, numbersBelow, numbersTo, someOf, those}
+use Rattle.theory.specs.Lists.{alike, allOf, choose, each, numbersBelow, numbersTo, someOf, those}
 use Rattle.theory.specs.Places.{table}
-use Rattle.theory.specs.Sets.{among, bySize, contains, digit, listing, together, within}
+use Rattle.theory.specs.Sets.{among, bySize, contains, digit, inRange, listing, together, within}
 use Rattle.theory.specs.Stages.{Justification, ahead, follows, gives, lesser}
 use Rattle.listing.proofs.Cases.{beside-printed, beyond-printed, empty-printed, listed-printed, long-printed, twice-printed}
 use Rattle.listing.specs.Listing.{listingOf}
@@ -151,6 +164,58 @@ table-of : (table 8 (byteBy 3 (putIn sown) 5) ≡ 0 ∷ 1 ∷ 0 ∷ 1 ∷ 1 ∷ 
 unfolding table contradictedBy carriedBy fromAll together listing bySize ones carries contradicts follows among digit someOf gives allOf setOf those numbersBelow
 table-of = (refl, refl)
 
+-- ---- without labels
+
+abbrev lines : List ℕ
+lines = word "0 2 3\n1 0 2 3 5\n2 0 2 3 5 7\n"
+
+lines-long : length lines ≡ 28
+unfolding word
+lines-long = refl
+
+-- by what was put in, and by the bare list
+words : (plainBy (putIn sown) 5 6 ≡ Plainly) × (plainBy (putIn sown) 5 7 ≡ Neither) × (plainBy (putIn sown) 6 7 ≡ Against) × (plainBy (barely 7 sowingList) 5 6 ≡ Plainly)
+unfolding plainBy carries contradicts follows among digit someOf gives allOf setOf those numbersBelow suppliedBy
+words = (refl, refl, refl, refl)
+
+staged : (stageText 7 (putIn sown) 6 ≡ lines) × (stageText 7 (barely 7 sowingList) 6 ≡ lines)
+unfolding stageText stageLine lastStage latest sinceOf upTo follows among digit gives someOf allOf those each numbersBelow table digits digitsIn field word setOf suppliedBy
+staged = (refl, refl)
+
+unthirded : (rest : List ℕ) → table 8 (λ n. unthird (getD ((0 ∷ 1 ∷ 0 ∷ 1 ∷ 1 ∷ 0 ∷ 1 ∷ 3 ∷ []) ++ rest) n 0)) ≡ 0 ∷ 1 ∷ 0 ∷ 1 ∷ 1 ∷ 0 ∷ 1 ∷ 0 ∷ []
+unfolding table
+unthirded rest = refl
+
+listed-bytes : table 8 (λ n. byteOf (plainBy (barely 7 sowingList) 5 n)) ≡ 0 ∷ 1 ∷ 0 ∷ 1 ∷ 1 ∷ 0 ∷ 1 ∷ 0 ∷ []
+unfolding table plainBy carries contradicts follows among digit someOf gives allOf setOf those numbersBelow suppliedBy
+listed-bytes = refl
+
+faultless : faultsOf 7 sowingList ≡ Done
+unfolding faultsOf faultOf someOf suppliedBy
+faultless = refl
+
+by-list : (w : What) (E : ℕ) (out : List ℕ) → E < 8 → askOf (asking 3 4 w E) sowingList out ≡ tellOf 7 (barely 7 sowingList) E w out
+by-list w E out h = plain-path .bare (asking 3 4 w E) sowingList out (omega arith) (omega arith) faultless h
+
+list-bytes : (out : List ℕ) → 8 ≤ length out → askOf (asking 3 4 Context 5) sowingList out ≡ answered (Filled Done) ((0 ∷ 1 ∷ 0 ∷ 1 ∷ 1 ∷ 0 ∷ 1 ∷ 0 ∷ []) ++ drop 8 out)
+list-bytes out h =
+    by-list Context 5 out (omega arith)
+    ∙ ap (λ (b : Bool). choose b (answered (Filled Short) out) (answered (Filled Done) (table 8 (λ n. byteOf (plainBy (barely 7 sowingList) 5 n)) ++ drop 8 out))) (le-ltb (length out) 8 h)
+    ∙ ap (λ (t : List ℕ). answered (Filled Done) (t ++ drop 8 out)) listed-bytes
+
+list-lines : (out : List ℕ) → 28 ≤ length out → askOf (asking 3 4 Stages 6) sowingList out ≡ answered (Lines (Length 28)) (lines ++ drop 28 out)
+unfolding fitted
+list-lines out h =
+    by-list Stages 6 out (omega arith) ∙ ap (λ (t : List ℕ). wroteAs (fitted t out)) (staged .1)
+    ∙ ap (λ (b : Bool). wroteAs (choose b (kept Short out) (record { answer = Length (length lines); bytes = lines ++ drop (length lines) out }))) (le-ltb (length out) (length lines) (omega (arith, lines-long)))
+    ∙ ap (λ (n : ℕ). answered (Lines (Length n)) (lines ++ drop n out)) lines-long
+
+list-refused : (out : List ℕ) → (askOf (asking 3 4 (Of 6) 5) (ownItem ∷ longItem ∷ []) out ≡ answered (Word (Unsaid Itself)) out)
+    × (askOf (asking 3 4 Context 5) (longItem ∷ ownItem ∷ []) out ≡ answered (Filled Supports) out) × (askOf (asking 3 4 Stages 8) sowingList out ≡ answered (Lines (Unwritten Number)) out)
+    × (askOf (asking 3 4 (Of 8) 5) sowingList out ≡ answered (Word (Unsaid Number)) out)
+unfolding askOf faultsOf faultOf someOf suppliedBy inRange
+list-refused out = (refl, refl, refl, refl)
+
 -- ---- refusals
 
 refusals : (refusalText (Label 14) 13 ≡ word "refused 8 13\n") × (refusalText Long 0 ≡ word "refused 14 0\n") × (refusalText After 256 ≡ word "refused 13 256\n")
@@ -197,6 +262,22 @@ pinned =
       sowing-named = (ap answerSet (asked .0), ap answerSet (asked .1), ap answerSet (asked .2));
       sowing-context = λ out h. demand-2 .tells made .context 5 out (omega arith) (omega arith) ∙ ap (λ (t : List ℕ). reads (context 5 out) Done s (t ++ drop 8 out)) (table-of .0);
       sowing-against = λ out h. demand-2 .tells made .context 6 out (omega arith) (omega arith) ∙ ap (λ (t : List ℕ). reads (context 6 out) Done s (t ++ drop 8 out)) (table-of .1);
+      sowing-plain = (
+        plain-path .says made 6 5 (omega arith) (omega arith) ∙ words .0,
+        plain-path .says made 7 5 (omega arith) (omega arith) ∙ words .1,
+        plain-path .says made 7 6 (omega arith) (omega arith) ∙ words .2,
+      );
+      sowing-bytes = λ out h.
+          let e : ours .reading s (context 5 out) .bytes ≡ (0 ∷ 1 ∷ 0 ∷ 1 ∷ 1 ∷ 0 ∷ 1 ∷ 3 ∷ []) ++ drop 8 out =
+          ap (λ (x : Read (context 5 out)). x .bytes) (demand-2 .tells made .context 5 out (omega arith) (omega arith)) ∙ ap (λ (t : List ℕ). t ++ drop 8 out) (table-of .0) in
+          plain-path .context-bytes made 5 out (omega arith) h
+          ∙ ap (λ (b : List ℕ). reads (plainContext 5 out) Done s (table 8 (λ n. unthird (getD b n 0)) ++ drop 8 out)) e
+          ∙ ap (λ (t : List ℕ). reads (plainContext 5 out) Done s (t ++ drop 8 out)) (unthirded (drop 8 out));
+      sowing-stages = λ out h. plain-path .lines made 6 out (omega arith) (omega (arith, ap length (staged .0), lines-long)) ∙ ap (λ (t : List ℕ). reads (stageLines 6 out) (written t) s (over t out)) (staged .0);
+      bare-word = λ out. by-list (Of 6) 5 out (omega arith) ∙ ap (λ (x : Plain). answered (Word x) out) (words .3);
+      bare-context = list-bytes;
+      bare-stages = list-lines;
+      bare-refused = list-refused;
       sowing-file = λ out h. files .says made out (omega (arith, ap length sown-file)) ∙ ap (λ (t : List ℕ). reads (file out) (written t) s (over t out)) sown-file;
       eighteen = printed-as _ _ listed-printed;
       twice = printed-as _ _ twice-printed;

@@ -20,6 +20,7 @@ use Rattle.refuted.proofs.Halting.{stops-at-falsity}
 use Rattle.refuted.proofs.Naming.{names-the-asked, names-the-last}
 use Rattle.refuted.proofs.Season.{judges-at-once, stops-at-a-refusal}
 use Rattle.casefile.proofs.Cases.{listed as spells, listedCase}
+use Rattle.plain.specs.Plainly.{byteOf as plainByte, plainBy as plainWord}
 use Rattle.promises.proofs.Adding.{reached}
 use Rattle.promises.proofs.Answers.{byte-says, in-set, standing-says}
 use Rattle.promises.proofs.Form.{Form, done-by, done-store, form-a, form-count, form-m, form-said, made-form, none-store}
@@ -32,15 +33,16 @@ use Rattle.promises.proofs.Standing.{as-they-stand}
 use Rattle.promises.proofs.Table.{standing-zero}
 use Rattle.promises.proofs.Truth.{demand-2}
 use Rattle.promises.proofs.Withdrawing.{lets-go}
-use Rattle.promises.specs.Calls.{Calls, Read, ours, question}
+use Rattle.promises.specs.Calls.{Calls, Read, ours, plainly, question}
 use Rattle.promises.specs.Demand2.{Demand2, IsDepth, Smallest}
 use Rattle.promises.specs.Made.{Made, Stores, added, inOrder, opened, putIn, withdrawn}
+use Rattle.promises.specs.Plain.{wordAlone}
 use Rattle.promises.specs.Room.{Reaches}
 use Rattle.promises.specs.Rows.{given}
 use Rattle.promises.specs.Standing.{AsTheyStand}
 use Rattle.promises.specs.Table.{OverCounts, ReplyTable, ShapedRows}
 use Rattle.refuted.specs.Cases.{listedBytes}
-use Rattle.refuted.specs.Wrong.{AddsNone, alwaysFull, clearing, countKept, deducing, deep, deeper, denying, Depths, emptying, forgetful, forgetting, holding, idle, lenient, listsKept, LoadsNone, notFreed, once, othersThan, refusing, Refuted, sparing, unstruck, unstruckLists, welcoming, workedOut}
+use Rattle.refuted.specs.Wrong.{AddsNone, alwaysFull, clearing, countKept, deducing, deep, deeper, denying, Depths, emptying, forgetful, forgetting, fromLabels, holding, idle, lenient, listsKept, LoadsNone, notFreed, once, othersThan, refusing, Refuted, sparing, unstruck, unstruckLists, welcoming, workedOut}
 use Rattle.replies.specs.Replies.{numberOf}
 use Rattle.replies.specs.declared.Reply.the-variants.{Done}
 use Rattle.replies.specs.declared.Reply.{Reply}
@@ -468,6 +470,27 @@ reads-no-list d =
     ap (λ (k : ℕ). choose (eqb k 0) (workedOut (bare .held) 2 1) (questionOf forged 2 1)) (ap answerNumber read ∙ standing-zero (listed .lists) 2 1) in
     not-both (deducing .reading forged (question 2 1) .said) (ap plain said ∙ supported-as-listed) (ap plain worked ∙ unsupported-anew)
 
+-- ---- answers the plain question from the labels: of the same forged store
+
+word-byte : (a : Answer) → plainByte (wordAlone a) ≡ plain a
+word-byte (Inconsistent G) = refl
+word-byte (Supported F) = refl
+word-byte Unsupported = refl
+word-byte (Refused r) = refl
+
+nothing-follows : plainByte (plainWord (inOrder []) 1 2) ≡ 0
+unfolding plainWord carries contradicts follows among digit someOf inOrder
+nothing-follows = refl
+
+reads-labels : AsTheyStand fromLabels → ⊥
+reads-labels d =
+    let f = made-form made-bare in
+    let w : ShapedRows forged (question 2 1) 0 = unrefused f in
+    let read : questionOf forged 2 1 ≡ standing (listed .lists) 2 1 = ap (λ (a : Read (question 2 1)). a .said) (as-they-stand .stands forged forged-right .reading (question 2 1) w) in
+    let said : wordAlone (questionOf forged 2 1) ≡ plainWord (saidBy (bare .held)) 1 2 = ap (λ (a : Read (plainly 2 1)). a .said) (d .stands forged forged-right .reading (plainly 2 1) w) in
+    not-both (questionOf forged 2 1) (ap plain read ∙ supported-as-listed)
+    (sym (word-byte (questionOf forged 2 1)) ∙ ap plainByte said ∙ ap (λ (J : List Justification). plainByte (plainWord J 1 2)) (form-said f) ∙ nothing-follows)
+
 -- ---- holds what names its own consequent as a support: claim 1 from itself
 
 abbrev itself : Justification
@@ -508,6 +531,7 @@ refuted = record {
   withdraws-no-list = withdraws-no-list;
   clears-a-consequent = clears-a-consequent;
   frees-no-place = frees-no-place;
+  reads-labels = reads-labels;
   reads-no-list = reads-no-list;
   reads-no-list-untold = (refusals-too, demand-2-too, demand-3-too, stores-too, one-by-one-too, plain-path-too);
 }

@@ -9,6 +9,7 @@ use Rattle.asking.specs.declared.Answer.{Answer}
 use Rattle.casefile.specs.declared.Loaded.{Loaded}
 use Rattle.handed.specs.declared.Handed.{Handed}
 use Rattle.lent.specs.Lent.{Wrote}
+use Rattle.plain.specs.declared.Plain.{Plain}
 use Rattle.promises.specs.Calls.{Ask, Calls, Read, caseLine, context, file, line, listAll, member, plainContext, plainly, question, reads, stageLines}
 use Rattle.promises.specs.Season.{Adds, afterEach, numbersEach}
 use Rattle.replies.specs.declared.Reply.{Reply}
@@ -107,6 +108,22 @@ staging f r s (file out) = r s (file out)
 staging f r s (plainly n E) = r s (plainly n E)
 staging f r s (plainContext E out) = r s (plainContext E out)
 staging f r s (stageLines E out) = reads (stageLines E out) (f s E out .answer) s (f s E out .bytes)
+
+-- a plain question answered by f, what else is read by r
+abbrev pub wording : (Store → ℕ → ℕ → Plain) → (Store → (a : Ask) → Read a) → Store → (a : Ask) → Read a
+wording f r s (question n E) = r s (question n E)
+wording f r s (context E out) = r s (context E out)
+wording f r s (member n place) = r s (member n place)
+wording f r s (line n out) = r s (line n out)
+wording f r s (caseLine out) = r s (caseLine out)
+wording f r s (listAll out) = r s (listAll out)
+wording f r s (file out) = r s (file out)
+wording f r s (plainly n E) = reads (plainly n E) (f s n E) s []
+wording f r s (plainContext E out) = r s (plainContext E out)
+wording f r s (stageLines E out) = r s (stageLines E out)
+
+abbrev pub withPlainly : (Store → ℕ → ℕ → Plain) → Calls → Calls
+withPlainly f C = withReading (wording f (C .reading)) C
 
 abbrev pub withStages : (Store → ℕ → List ℕ → Wrote) → Calls → Calls
 withStages f C = withReading (staging f (C .reading)) C

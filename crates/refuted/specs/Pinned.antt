@@ -7,8 +7,15 @@ use Prim.Native.String.{String}
 use lib.ListN.{drop, length}
 use Rattle.asking.specs.Asking.{answerSet}
 use Rattle.asking.specs.declared.Answer.the-variants.{Inconsistent, Supported, Unsupported}
+use Rattle.bare.specs.Bare.{answered}
+use Rattle.bare.specs.declared.Told.the-variants.{Filled, Lines, Word}
+use Rattle.bare.specs.declared.What.the-variants.{Context, Number as Of, Stages}
+use Rattle.handed.specs.declared.Handed.{Handed}
 use Rattle.lent.specs.Lent.{writtenLength}
-use Rattle.promises.specs.Calls.{Calls, caseLine, context, file, line, over, question, reads, written}
+use Rattle.lent.specs.declared.Written.the-variants.{Length, Refused as Unwritten}
+use Rattle.plain.specs.declared.Plain.the-variants.{Inconsistent as Against, Refused as Unsaid, Supported as Plainly, Unsupported as Neither}
+use Rattle.promises.specs.Calls.{Calls, caseLine, context, file, line, over, plainContext, plainly, question, reads, stageLines, written}
+use Rattle.promises.specs.Plain.{asking}
 use Rattle.refuted.specs.Cases.{ListsAre, Prints, listedBytes}
 use Rattle.replies.specs.Replies.{numberOf}
 use Rattle.replies.specs.declared.Reply.{Reply}
@@ -30,6 +37,21 @@ sowingFile = 3 ∷ 4 ∷ 6 ∷ 0 ∷ 2 ∷ 1 ∷ 2 ∷ 0 ∷ 2 ∷ 2 ∷ 3 ∷ 4
 
 abbrev pub sowing : Calls → Store
 sowing C = C .loading sowingBytes .store
+
+-- .. its rules handed over
+abbrev pub hands : ℕ → ℕ → List ℕ → Handed
+hands c k l = record { consequent = c; count = k; supports = l }
+
+abbrev pub sowingList : List Handed
+sowingList =
+    hands 7 2 (5 ∷ 3 ∷ 0 ∷ 0 ∷ []) ∷ hands 0 2 (2 ∷ 3 ∷ 0 ∷ 0 ∷ []) ∷ hands 4 1 (1 ∷ 0 ∷ 0 ∷ 0 ∷ []) ∷ hands 5 2 (2 ∷ 2 ∷ 9 ∷ 9 ∷ []) ∷ hands 6 2 (3 ∷ 4 ∷ 0 ∷ 0 ∷ []) ∷ hands 0 2 (1 ∷ 2 ∷ 0 ∷ 0 ∷ []) ∷ []
+
+-- 5 from 5; 4 from five supports
+abbrev pub ownItem : Handed
+ownItem = hands 5 1 (5 ∷ 0 ∷ 0 ∷ 0 ∷ [])
+
+abbrev pub longItem : Handed
+longItem = hands 4 5 (1 ∷ 2 ∷ 3 ∷ 5 ∷ [])
 
 -- A=3, M=3: 6 from 1; 5 from 2,3; 4 from 1,2; 5 from 1,3; falsity from 1,2,3; 5 from 1,2; 4 from 3
 abbrev pub keysBytes : List ℕ
@@ -70,6 +92,19 @@ pub record Pinned (C : Calls) : Type 0 where
   pub sowing-named : (answerSet (C .reading (sowing C) (question 6 5) .said) ≡ some 5) × (answerSet (C .reading (sowing C) (question 7 5) .said) ≡ none) × (answerSet (C .reading (sowing C) (question 7 6) .said) ≡ some 6)
   pub sowing-context : (out : List ℕ) → 8 ≤ length out → C .reading (sowing C) (context 5 out) ≡ reads (context 5 out) Done (sowing C) ((0 ∷ 1 ∷ 0 ∷ 1 ∷ 1 ∷ 0 ∷ 1 ∷ 3 ∷ []) ++ drop 8 out)
   pub sowing-against : (out : List ℕ) → 8 ≤ length out → C .reading (sowing C) (context 6 out) ≡ reads (context 6 out) Done (sowing C) ((2 ∷ 2 ∷ 2 ∷ 2 ∷ 2 ∷ 2 ∷ 2 ∷ 2 ∷ []) ++ drop 8 out)
+  -- the same without labels: the words alone, 0 in place of 3, and the lines of the stages of {2,3}
+  pub sowing-plain : (C .reading (sowing C) (plainly 6 5) .said ≡ Plainly) × (C .reading (sowing C) (plainly 7 5) .said ≡ Neither) × (C .reading (sowing C) (plainly 7 6) .said ≡ Against)
+  pub sowing-bytes : (out : List ℕ) → 8 ≤ length out → C .reading (sowing C) (plainContext 5 out) ≡ reads (plainContext 5 out) Done (sowing C) ((0 ∷ 1 ∷ 0 ∷ 1 ∷ 1 ∷ 0 ∷ 1 ∷ 0 ∷ []) ++ drop 8 out)
+  pub sowing-stages : (out : List ℕ) → 28 ≤ length out
+      → C .reading (sowing C) (stageLines 6 out) ≡ reads (stageLines 6 out) (written (word "0 2 3\n1 0 2 3 5\n2 0 2 3 5 7\n")) (sowing C) (over (word "0 2 3\n1 0 2 3 5\n2 0 2 3 5 7\n") out)
+  -- and from a bare list of its rules, supports in another order and twice: the word, the context, the lines
+  pub bare-word : (out : List ℕ) → C .bare (asking 3 4 (Of 6) 5) sowingList out ≡ answered (Word Plainly) out
+  pub bare-context : (out : List ℕ) → 8 ≤ length out → C .bare (asking 3 4 Context 5) sowingList out ≡ answered (Filled Done) ((0 ∷ 1 ∷ 0 ∷ 1 ∷ 1 ∷ 0 ∷ 1 ∷ 0 ∷ []) ++ drop 8 out)
+  pub bare-stages : (out : List ℕ) → 28 ≤ length out → C .bare (asking 3 4 Stages 6) sowingList out ≡ answered (Lines (Length 28)) (word "0 2 3\n1 0 2 3 5\n2 0 2 3 5 7\n" ++ drop 28 out)
+  -- refused in the kind of each: an item that names its own consequent before one of five supports is 17; that one first is 6; a set with an assumption above A is 4, and so is a number above A + M
+  pub bare-refused : (out : List ℕ) → (C .bare (asking 3 4 (Of 6) 5) (ownItem ∷ longItem ∷ []) out ≡ answered (Word (Unsaid Itself)) out)
+      × (C .bare (asking 3 4 Context 5) (longItem ∷ ownItem ∷ []) out ≡ answered (Filled Supports) out) × (C .bare (asking 3 4 Stages 8) sowingList out ≡ answered (Lines (Unwritten Number)) out)
+      × (C .bare (asking 3 4 (Of 8) 5) sowingList out ≡ answered (Word (Unsaid Number)) out)
   -- the file that is written of it
   pub sowing-file : (out : List ℕ) → 25 ≤ length out → C .reading (sowing C) (file out) ≡ reads (file out) (written sowingFile) (sowing C) (over sowingFile out)
   -- what is printed: the document's eighteen bytes; a record that stands twice, counted once; then no bytes, and more than 4,096

@@ -26,11 +26,11 @@ use Rattle.promises.specs.Demand1.{Refusals}
 use Rattle.promises.specs.Demand2.{Demand2, IsDepth}
 use Rattle.promises.specs.Demand3.{Demand3}
 use Rattle.promises.specs.Made.{Input, Made, Stores, inOrder}
-use Rattle.promises.specs.Plain.{PlainPath}
+use Rattle.promises.specs.Plain.{PlainPath, wordAlone}
 use Rattle.promises.specs.Season.{OneByOne}
 use Rattle.promises.specs.Standing.{AsTheyStand}
 use Rattle.promises.specs.Table.{ReplyTable}
-use Rattle.refuted.specs.Exchange.{exchanged, withAdding, withAddingAll, withLine, withLoading, withOpening, withQuestion, withStages, withWithdrawing}
+use Rattle.refuted.specs.Exchange.{exchanged, withAdding, withAddingAll, withLine, withLoading, withOpening, withPlainly, withQuestion, withStages, withWithdrawing}
 use Rattle.replies.specs.Replies.{numberOf}
 use Rattle.replies.specs.declared.Reply.the-variants.{Counts, Done, Ends, Nogoods, Number, Shape}
 use Rattle.rules.specs.Held.{heldOf, put, saidBy}
@@ -214,6 +214,10 @@ workedOut h n E = standing (storeOf noStore (h .assumptions) (h .claims) (saidBy
 abbrev pub deducing : Calls
 deducing = withQuestion (λ s n E. choose (eqb (answerNumber (questionOf s n E)) 0) (workedOut (s .held) n E) (questionOf s n E)) ours
 
+-- a plain question answered from the labels: right of every made store, wrong of a forged one
+abbrev pub fromLabels : Calls
+fromLabels = withPlainly (λ s n E. wordAlone (questionOf s n E)) ours
+
 -- names the set asked
 abbrev pub echo : ℕ → Answer → Answer
 echo E (Inconsistent G) = Inconsistent E
@@ -308,6 +312,7 @@ pub record Refuted : Type 0 where
   pub withdraws-no-list : Demand2 emptying → ⊥
   pub clears-a-consequent : Stores clearing → ⊥
   pub frees-no-place : Stores notFreed → ⊥
+  pub reads-labels : AsTheyStand fromLabels → ⊥
   pub reads-no-list : AsTheyStand deducing → ⊥
   -- .. of which no other demand can tell
   pub reads-no-list-untold : Refusals deducing × Demand2 deducing × Demand3 deducing × Stores deducing × OneByOne deducing × PlainPath deducing
