@@ -8,6 +8,7 @@ pub mod Pinned
 pub mod Prefixed
 pub mod Arrival
 pub mod Deducing
+pub mod Labelled
 pub mod Naming
 pub mod Third
 pub mod Season

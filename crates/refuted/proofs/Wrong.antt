@@ -17,6 +17,7 @@ use Rattle.refuted.proofs.Arrival.{keeps-arrival}
 use Rattle.refuted.proofs.Cases.{p-cases}
 use Rattle.refuted.proofs.Deducing.{demand-2-too, demand-3-too, lists-again, one-by-one-too, plain-path-too, refusals-too, stores-too}
 use Rattle.refuted.proofs.Halting.{stops-at-falsity}
+use Rattle.refuted.proofs.Labelled.{plain-path-labelled}
 use Rattle.refuted.proofs.Naming.{names-the-asked, names-the-last}
 use Rattle.refuted.proofs.Season.{judges-at-once, stops-at-a-refusal}
 use Rattle.casefile.proofs.Cases.{listed as spells, listedCase}
@@ -532,6 +533,7 @@ refuted = record {
   clears-a-consequent = clears-a-consequent;
   frees-no-place = frees-no-place;
   reads-labels = reads-labels;
+  reads-labels-untold = plain-path-labelled;
   reads-no-list = reads-no-list;
   reads-no-list-untold = (refusals-too, demand-2-too, demand-3-too, stores-too, one-by-one-too, plain-path-too);
 }

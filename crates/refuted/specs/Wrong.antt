@@ -313,6 +313,8 @@ pub record Refuted : Type 0 where
   pub clears-a-consequent : Stores clearing → ⊥
   pub frees-no-place : Stores notFreed → ⊥
   pub reads-labels : AsTheyStand fromLabels → ⊥
+  -- .. of which the plain path cannot tell
+  pub reads-labels-untold : PlainPath fromLabels
   pub reads-no-list : AsTheyStand deducing → ⊥
   -- .. of which no other demand can tell
   pub reads-no-list-untold : Refusals deducing × Demand2 deducing × Demand3 deducing × Stores deducing × OneByOne deducing × PlainPath deducing
