@@ -1,6 +1,6 @@
 // Sets of assumptions as numbers: assumption k is worth 2^(k-1).
 ghost use Prim.Native.Nat.{_≤_};
-ghost use Rattle.sets.specs.Promised.{Before, Has, Low, Meet, Ones, Only, Union, Within, Without};
+ghost use Rattle.sets.specs.Promised.{Before, Has, Low, Meet, Only, Union, Within, Without};
 
 pub type Set = u32;
 
@@ -46,13 +46,6 @@ pub fn has(e: Set, k: u32) -> bool
     ensures { λ r. ⌜ Has e k r ⌝ }
 {
     (e >> (k - 1)) % 2 == 1
-}
-
-// How many assumptions e has.
-pub fn ones(e: Set) -> u32
-    ensures { λ r. ⌜ Ones e r ⌝ }
-{
-    u32::count_ones(e)
 }
 
 // Whether a stands before b in the listing: fewer assumptions first, and among equals the smaller number first.

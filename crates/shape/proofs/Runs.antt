@@ -1,54 +1,28 @@
 -- A list looked at from its beginning, each set against the one before it and against those of fewer assumptions. Assumes nothing.
-use mathlib.Core.Bool.{Bool, _&&_, _||_, false, not, true}
+use mathlib.Core.Bool.{Bool, _&&_, false, not, true}
 use mathlib.Core.List.{List, List·Memᴰ as Mem, List·Memᴰ·cases-cons, [], _∷_}
 use mathlib.Core.Logic.{⊎-elim}
-use mathlib.Core.Path.{_∙_, _≡_, ap, ap₂, refl, subst, sym}
+use mathlib.Core.Path.{_∙_, _≡_, ap, refl, subst, sym}
 use Prim.Native.Nat.{_+_, _-_, _<_, _≤_, suc, zero, ℕ}
 use native.Mathlib.Decide.{decLt}
 use native.Mathlib.Omega.{arith}
 use lib.Count.{ones}
-use lib.Dec.{eqb, ltb}
 use lib.ListN.{getD, length, take}
 use lib.Seq.{getD-take, length-take-le}
-use borrow.Author.Tests.{eq-eqb, le-ltb, lt-ltb, ne-eqb}
+use borrow.Author.Tests.{le-ltb, lt-ltb}
 use Rattle.labels.proofs.First.{contains-first}
 use Rattle.labels.proofs.Selects.{at-mem}
 use Rattle.labels.specs.Promised.{firstWithin}
 use Rattle.shape.specs.Shape.{apart}
 use Rattle.theory.proofs.Label.{contains-intro}
 use Rattle.theory.proofs.Lists.{and-intro, and-left, and-right, clash, not-so, some-elim}
-use Rattle.theory.proofs.Order.{before-asym, before-elim, before-irrefl, before-trans, sorted-cons, sorted-head, sorted-tail}
+use Rattle.theory.proofs.Order.{before-asym, before-elim, before-fewer, before-irrefl, before-less, before-trans, sorted-cons, sorted-head, sorted-tail}
 use Rattle.theory.proofs.Select.{within-before, within-ones}
-use Rattle.theory.specs.Lists.{choose, someOf, sortedBy}
+use Rattle.theory.specs.Lists.{sortedBy}
 use Rattle.theory.specs.Sets.{before, contains, within}
 
--- ---- the order by the counts of assumptions
-module _ (f m e n : ℕ) where
-  pub after-fewer : m < n → ltb m n ≡ ltb m n || (eqb m n && ltb f e)
-  after-fewer h = rw (lt-ltb m n h)
-
-  pub after-equal : n ≤ m → m ≡ n → ltb f e ≡ ltb m n || (eqb m n && ltb f e)
-  after-equal h k = rw (le-ltb m n h, eq-eqb m n k)
-
-  pub after-more : n ≤ m → (m ≡ n → ⊥) → eqb m n ≡ ltb m n || (eqb m n && ltb f e)
-  after-more h k = rw (le-ltb m n h, ne-eqb m n k)
-
-  pub after-before : m ≡ ones f → n ≡ ones e → ltb m n || (eqb m n && ltb f e) ≡ before f e
-  unfolding before
-  after-before p q = ap₂ (λ (x y : ℕ). ltb x y || (eqb x y && ltb f e)) p q
-
-  pub begun-here : m < n → (here from : ℕ) → here ≡ choose (ltb m n) here from
-  begun-here h here from = ap (λ (b : Bool). choose b here from) (sym (lt-ltb m n h))
-
-  pub begun-from : n ≤ m → (here from : ℕ) → from ≡ choose (ltb m n) here from
-  begun-from h here from = ap (λ (b : Bool). choose b here from) (sym (le-ltb m n h))
-
-pub begun-low : (m n to here from : ℕ) → to ≡ choose (ltb m n) here from → from ≤ here → to ≤ here
-begun-low m n to here from t h = go (ltb m n) t
-  where
-    go : (b : Bool) → to ≡ choose b here from → to ≤ here
-    go true e = omega arith
-    go false e = omega arith
+pub more : (n m k : ℕ) → m ≡ k → m ≤ n → (n ≡ m → ⊥) → k < n
+more n m k e h d = elim (decLt m n) [ yes q ↦ omega arith | no q ↦ absurd (d (omega arith)) ]
 
 -- ---- a sorted list by its places
 pub mem-place : (l : List ℕ) {x : ℕ} → Mem x l → (k : ℕ) × (k < length l) × (getD l k 0 ≡ x)
@@ -109,12 +83,18 @@ module _ (l : List ℕ) where
 
     module _ (one : 1 ≤ i) (h : i < length l) where
       -- the next is not after the last
-      pub run-late : before last (getD l i 0) ≡ false → false ≡ sortedBy apart l
-      run-late b =
+      late : before last (getD l i 0) ≡ false → false ≡ sortedBy apart l
+      late b =
           sym (not-so (sortedBy apart l)
           (λ s.
           let a : apart (getD l (i - 1) 0) (getD l i 0) ≡ true = sorted-places apart l s (i - 1) i (omega arith) h in
           clash (apart-before last (getD l i 0) (subst (λ (v : ℕ). apart v (getD l i 0) ≡ true) (run .top (i - 1) (omega arith)) a)) b))
+
+      pub run-fewer : ones (getD l i 0) < ones last → false ≡ sortedBy apart l
+      run-fewer q = late (not-so (before last (getD l i 0)) (λ b. ⊎-elim (λ c. omega arith) (λ c. omega arith) (before-elim last (getD l i 0) b)))
+
+      pub run-low : ones (getD l i 0) ≡ ones last → getD l i 0 ≤ last → false ≡ sortedBy apart l
+      run-low e q = late (not-so (before last (getD l i 0)) (λ b. ⊎-elim (λ c. omega arith) (λ c. omega arith) (before-elim last (getD l i 0) b)))
 
       later : before last (getD l i 0) ≡ true → (k : ℕ) → k < i → before (getD l k 0) (getD l i 0) ≡ true
       later b k p = elim (decLt (suc k) i) [
@@ -164,21 +144,15 @@ module _ (l : List ℕ) where
           top = λ k e. let z : k ≡ i = omega arith in ap (λ (v : ℕ). getD l v 0) z;
         }
 
-      -- the next is after the last, and none of fewer assumptions lies within it
-      pub run-on : from ≤ i → before last (getD l i 0) ≡ true → (to r : ℕ) → to ≡ choose (ltb (ones last) (ones (getD l i 0))) i from
-          → r ≡ firstWithin (take to l) (getD l i 0) → to ≤ r → (to < i + 1) × Run l (i + 1) to (getD l i 0)
-      run-on low b to r t found q = elim (decLt (ones last) (ones (getD l i 0))) [
-        | yes x ↦ (let e : to ≡ i = t ∙ ap (λ (c : Bool). choose c i from) (lt-ltb (ones last) (ones (getD l i 0)) x) in (
-          omega arith,
-          run-next to r (omega arith) found b q
-              (λ k p. elim (decLt k from) [ yes y ↦ omega (arith, run .fewer k y) | no y ↦ omega (arith, run .same k (omega arith) (omega arith)) ])
-              (λ k p o. let z : k ≡ i = omega arith in ap (λ (v : ℕ). ones (getD l v 0)) z),
-        ))
-        | no x ↦ (let e : to ≡ from = t ∙ ap (λ (c : Bool). choose c i from) (le-ltb (ones last) (ones (getD l i 0)) (omega arith)) in
-            let s : ones last ≡ ones (getD l i 0) = ⊎-elim (λ c. omega arith) (λ c. c .0) (before-elim last (getD l i 0) b) in (
-              omega arith,
-              run-next to r (omega arith) found b q
-                  (λ k p. omega (arith, run .fewer k (omega arith), s))
-                  (λ k p o. elim (decLt k i) [ yes y ↦ run .same k (omega arith) y ∙ s | no y ↦ (let z : k ≡ i = omega arith in ap (λ (v : ℕ). ones (getD l v 0)) z) ]),
-            ))
-      ]
+      -- the next has as many assumptions as the last, and is a greater number
+      pub run-same : from ≤ i → ones (getD l i 0) ≡ ones last → last < getD l i 0 → (r : ℕ) → r ≡ firstWithin (take from l) (getD l i 0) → from ≤ r → Run l (i + 1) from (getD l i 0)
+      run-same low e g r found q =
+          run-next from r low found (before-less last (getD l i 0) (sym e) g) q (λ k p. omega (arith, run .fewer k p, e))
+          (λ k p o. elim (decLt k i) [ yes y ↦ run .same k p y ∙ sym e | no y ↦ (let z : k ≡ i = omega arith in ap (λ (v : ℕ). ones (getD l v 0)) z) ])
+
+      -- the next has more
+      pub run-more : ones last < ones (getD l i 0) → (r : ℕ) → r ≡ firstWithin (take i l) (getD l i 0) → i ≤ r → Run l (i + 1) i (getD l i 0)
+      run-more g r found q =
+          run-next i r (omega arith) found (before-fewer last (getD l i 0) g) q
+          (λ k p. elim (decLt k from) [ yes y ↦ omega (arith, run .fewer k y) | no y ↦ omega (arith, run .same k (omega arith) p) ])
+          (λ k p o. let z : k ≡ i = omega arith in ap (λ (v : ℕ). ones (getD l v 0)) z)

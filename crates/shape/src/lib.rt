@@ -1,27 +1,12 @@
 // The right shape of a store's lists.
 use sets::Set;
 use stages::Lists;
-ghost use mathlib.Core.Bool.{_&&_, _||_};
 ghost use mathlib.Core.Path.{_≡_};
 ghost use Prim.Native.Nat.{_≤_};
-ghost use lib.Dec.{eqb, ltb};
+ghost use lib.Dec.{eqb};
 ghost use lib.ListN.{length};
-ghost use Rattle.theory.specs.Lists.{allOf, choose, numbersBelow, sortedBy};
+ghost use Rattle.theory.specs.Lists.{allOf, numbersBelow, sortedBy};
 ghost use Rattle.shape.specs.Shape.{apart, labelsRight, ListsRight, rowRight, standing, unionOf};
-
-// Whether e, of n assumptions, stands after f, of m.
-fn after(f: Set, m: u32, e: Set, n: u32) -> bool
-    ensures { λ r. ⌜ r ≡ ltb m n || (eqb m n && ltb f e) ⌝ }
-{
-    m < n || (m == n && f < e)
-}
-
-// Where the sets of n assumptions begin: here, where the one before has m, fewer.
-fn begun(m: u32, n: u32, here: usize, from: usize) -> usize
-    ensures { λ r. ⌜ r ≡ choose (ltb m n) here from ⌝ }
-{
-    if m < n { here } else { from }
-}
 
 // Whether each stands clear before all later ones: before the next, and no set of fewer assumptions within a later one.
 fn sorted(l: &[Set]) -> bool
@@ -31,21 +16,32 @@ fn sorted(l: &[Set]) -> bool
         return true;
     }
     let mut last = l[0];
-    let mut ones = sets::ones(last);
+    let mut ones = u32::count_ones(last);
     let mut from = 0;
     let mut i = 1;
     while i < l.len() {
         let e = l[i];
-        let n = sets::ones(e);
-        if !after(last, ones, e, n) {
+        let n = u32::count_ones(e);
+        if n == ones {
+            if e <= last {
+                return false;
+            }
+            if labels::first_within(&l[..from], e) < from {
+                return false;
+            }
+            last = e;
+            i += 1;
+            continue;
+        }
+        if n < ones {
             return false;
         }
-        from = begun(ones, n, i, from);
-        if labels::first_within(&l[..from], e) < from {
+        if labels::first_within(&l[..i], e) < i {
             return false;
         }
-        last = e;
+        from = i;
         ones = n;
+        last = e;
         i += 1;
     }
     true
