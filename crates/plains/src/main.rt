@@ -3,8 +3,8 @@ use bare::Query;
 use bare::Told;
 use bare::What;
 use handed::Handed;
-use lent::Written;
 use libc::STDOUT_FILENO;
+use lent::Written;
 use replies::Reply;
 use store::Store;
 
@@ -78,11 +78,15 @@ fn written(answer: Written) {
     say(b":\n");
 }
 
+fn valued(byte: u8) {
+    say(b" ");
+    decimal(byte as u64);
+}
+
 // Each byte as a number.
 fn shown(bytes: &[u8]) {
     for i in 0..bytes.len() {
-        say(b" ");
-        decimal(bytes[i] as u64);
+        valued(bytes[i]);
     }
     say(b"\n");
 }
