@@ -3,8 +3,8 @@ use bare::Query;
 use bare::Told;
 use bare::What;
 use handed::Handed;
-use libc::STDOUT_FILENO;
 use lent::Written;
+use libc::STDOUT_FILENO;
 use replies::Reply;
 use store::Store;
 
