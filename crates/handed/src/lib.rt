@@ -1,4 +1,5 @@
 // A justification as a list hands it over. No set width and no store is in it.
+#[repr(C)]
 pub struct Handed {
     pub consequent: u32,
     pub count: usize,

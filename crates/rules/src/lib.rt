@@ -16,6 +16,7 @@ ghost use Rattle.rules.specs.Placing.{insertAt, partly, placeOf, removeA
 ghost use Rattle.rules.specs.Promised.{Canonical, Faulted, HoldingNothing, Inserted, IsHeld, IsRight, Removed};
 
 // A justification in its place: its supports rising, unused places zero.
+#[repr(C)]
 pub struct Entry {
     pub consequent: u8,
     pub count: u8,
@@ -23,6 +24,7 @@ pub struct Entry {
 }
 
 // The counts of assumptions and claims, and the justifications held, in their order; unused places zero.
+#[repr(C)]
 pub struct Held {
     pub assumptions: u8,
     pub claims: u8,

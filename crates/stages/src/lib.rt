@@ -19,6 +19,7 @@ ghost use Rattle.stages.specs.Judged.{Judge, Judgeable, Start, refusal};
 ghost use Rattle.stages.specs.Steps.{Fresh, LabelsLie, Put, Reached, Relabelled, Stale, Steady, Stepped, Told, Touched, lists, sparedOf, stageBy, stepOf, tallied};
 
 // The labels and nogoods of a stage: label n at its own twelve places 12 (n - 1) up, its size beside it; unused places zero.
+#[repr(C)]
 pub struct Lists {
     pub sizes: [u8; 128],
     pub members: [u32; 1536],

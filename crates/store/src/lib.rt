@@ -11,6 +11,7 @@ ghost use Rattle.store.specs.Shape.{rightShape, RightShape, top};
 ghost use Rattle.store.specs.Calls.{startStore, Opened, JudgedAnew, Added, joinedBy, Withdrawn, partedFrom};
 
 // What is held, and the labels and nogoods at its depth.
+#[repr(C)]
 pub struct Store {
     pub held: Held,
     pub lists: Lists,

@@ -1,0 +1,2 @@
+mod Naming
+mod Refusing

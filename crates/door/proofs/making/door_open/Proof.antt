@@ -1,0 +1,24 @@
+use Rattle.door.specs.Door.{madeBy}
+use mathlib.Core.Path.{_∙_, ap}
+use borrow.Author.Needs.{needs}
+use Rattle.door.proofs.making.door_open.Statement.{statement}
+use Rattle.door.proofs.making.door_open.Tie as tie
+use Rattle.door.proofs.making.door_open.Reads as reads
+use Rattle.door.proofs.making.door_open.Lts as lts
+use Rattle.door.proofs.made.Reads as made-reads
+use Rattle.store.proofs.Store.open.Reads as open-reads
+
+-- src/making.rt:16:9
+open-requires : tie.Need-open-requires
+open-requires c κs = tt
+
+-- src/making.rt:17:5
+made-requires : tie.Need-made-requires
+made-requires c κs = tt
+
+-- src/making.rt:12:1
+returns : tie.Need-returns
+returns c = c .made .ensures ∙ ap madeBy (c .before .«open» .ensures)
+
+pub door-open-spec : {M : Type 1} → statement M
+door-open-spec = tie.close (tie.spec open-requires made-requires returns)

@@ -1,0 +1,34 @@
+use Rattle.asking.specs.Asking.{Left}
+use Rattle.replies.specs.Replies.{numberOf}
+use mathlib.Core.Path.{_∙_, ap}
+use borrow.Author.Needs.{needs}
+use Rattle.door.proofs.reading.door_plain_context.Statement.{statement}
+use Rattle.door.proofs.reading.door_plain_context.Tie as tie
+use Rattle.door.proofs.reading.door_plain_context.Reads as reads
+use Rattle.door.proofs.reading.door_plain_context.Lts as lts
+use Rattle.plain.proofs.context.Reads as context-reads
+use Rattle.replies.proofs.number.Reads as number-reads
+
+-- src/reading.rt:59:9
+context-requires : tie.Need-context-requires
+context-requires c κs = tt
+
+-- src/reading.rt:61:5
+number-requires : tie.Need-number-requires
+number-requires c κs = tt
+
+-- src/reading.rt:61:5
+cast-result : tie.Need-cast-result
+cast-result c = search needs
+
+-- src/reading.rt:54:1
+same-length : tie.Need-same-length
+same-length c = search needs
+
+-- src/reading.rt:54:1
+returns : tie.Need-returns
+returns c = let said = c .before .before .before .context .ensures in (c .number .ensures ∙ ap (λ (l : Left). numberOf (l .outcome .reply)) said, ap (λ (l : Left). l .bytes) said)
+
+pub door-plain-context-spec : {M : Type 1} → statement M
+door-plain-context-spec =
+    tie.close (tie.spec context-requires number-requires cast-result same-length returns)

@@ -1,0 +1,29 @@
+use Rattle.lent.specs.declared.Listed.{Listed}
+use Rattle.door.specs.Door.{wroteBy}
+use mathlib.Core.Path.{_∙_, ap}
+use borrow.Author.Needs.{needs}
+use Rattle.door.proofs.texts.door_listing.Statement.{statement}
+use Rattle.door.proofs.texts.door_listing.Tie as tie
+use Rattle.door.proofs.texts.door_listing.Reads as reads
+use Rattle.door.proofs.texts.door_listing.Lts as lts
+use Rattle.door.proofs.texts.written.Reads as written-reads
+use Rattle.listing.proofs.listing.Reads as listing-reads
+
+-- src/texts.rt:51:9
+listing-requires : tie.Need-listing-requires
+listing-requires c κs = tt
+
+-- src/texts.rt:53:5
+written-requires : tie.Need-written-requires
+written-requires c κs = tt
+
+-- src/texts.rt:46:1
+same-length : tie.Need-same-length
+same-length c = search needs
+
+-- src/texts.rt:46:1
+returns : tie.Need-returns
+returns c = let said = c .before .before .before .listing .ensures in (c .written .ensures ∙ ap (λ (r : Listed). wroteBy (r .answer)) (said .0), said .1)
+
+pub door-listing-spec : {M : Type 1} → statement M
+door-listing-spec = tie.close (tie.spec listing-requires written-requires same-length returns)

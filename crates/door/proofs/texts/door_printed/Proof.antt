@@ -1,0 +1,29 @@
+use Rattle.lent.specs.Lent.{Wrote}
+use Rattle.door.specs.Door.{wroteBy}
+use mathlib.Core.Path.{_∙_, ap}
+use borrow.Author.Needs.{needs}
+use Rattle.door.proofs.texts.door_printed.Statement.{statement}
+use Rattle.door.proofs.texts.door_printed.Tie as tie
+use Rattle.door.proofs.texts.door_printed.Reads as reads
+use Rattle.door.proofs.texts.door_printed.Lts as lts
+use Rattle.door.proofs.texts.written.Reads as written-reads
+use Rattle.listing.proofs.printed.Reads as printed-reads
+
+-- src/texts.rt:62:9
+printed-requires : tie.Need-printed-requires
+printed-requires c κs = tt
+
+-- src/texts.rt:63:5
+written-requires : tie.Need-written-requires
+written-requires c κs = tt
+
+-- src/texts.rt:57:1
+same-length : tie.Need-same-length
+same-length c = search needs
+
+-- src/texts.rt:57:1
+returns : tie.Need-returns
+returns c = let said = c .before .before .before .printed .ensures in (c .written .ensures ∙ ap (λ (w : Wrote). wroteBy (w .answer)) said, ap (λ (w : Wrote). w .bytes) said)
+
+pub door-printed-spec : {M : Type 1} → statement M
+door-printed-spec = tie.close (tie.spec printed-requires written-requires same-length returns)

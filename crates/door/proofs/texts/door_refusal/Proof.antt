@@ -1,0 +1,54 @@
+use mathlib.Core.Path.{_∙_, _≡_, ap, sym}
+use lib.Seq.{length-take-le}
+use Prim.Native.Nat.{ℕ}
+use mathlib.Core.List.{List}
+use Rattle.door.proofs.Refusing.{refusal-most}
+use Rattle.door.specs.Door.{wroteBy}
+use Rattle.lent.specs.Lent.{Wrote, fitted}
+use Rattle.text.proofs.Writing.{blank-room, front-room, front-taken}
+use Rattle.text.specs.Texts.{refusal}
+use borrow.Author.Needs.{needs}
+use Rattle.door.proofs.texts.door_refusal.Statement.{statement}
+use Rattle.door.proofs.texts.door_refusal.Tie as tie
+use Rattle.door.proofs.texts.door_refusal.Reads as reads
+use Rattle.door.proofs.texts.door_refusal.Lts as lts
+
+slice-aggregate-refused : tie.Need-slice-aggregate-refused
+slice-aggregate-refused c = search needs
+
+refused-requires : tie.Need-refused-requires
+refused-requires c κs = let s = c .before .before in blank-room 30 (refusal (s .args .number) (s .args .«record»)) (refusal-most (s .args .number) (s .args .«record») (s .fits .number .fits) (s .fits .«record» .fits))
+
+array-share-prefix-text : tie.Need-array-share-prefix-text
+array-share-prefix-text c = front-room (c .before .refused .ensures)
+
+slice-aggregate-fit : tie.Need-slice-aggregate-fit
+slice-aggregate-fit c = sym (length-take-le _ _ (front-room (c .before .before .refused .ensures)))
+
+fit-requires : tie.Need-fit-requires
+fit-requires c κs = tt
+
+written-requires : tie.Need-written-requires
+written-requires c κs = tt
+
+same-length : tie.Need-same-length
+same-length c = search needs
+
+returns : tie.Need-returns
+returns c =
+    let s = c .before .before .before .before .before .before .before .before .before .before in
+    let said = c .before .before .before .fit .ensures ∙ ap (λ (t : List ℕ). fitted t (s .args .out .now)) (front-taken (c .before .before .before .before .before .before .before .refused .ensures)) in
+    (c .written .ensures ∙ ap (λ (w : Wrote). wroteBy (w .answer)) said, ap (λ (w : Wrote). w .bytes) said)
+
+pub door-refusal-spec : {M : Type 1} → statement M
+door-refusal-spec =
+    tie.close
+    (tie.spec
+    slice-aggregate-refused
+    refused-requires
+    array-share-prefix-text
+    slice-aggregate-fit
+    fit-requires
+    written-requires
+    same-length
+    returns)

@@ -1,0 +1,29 @@
+use Rattle.lent.specs.declared.Listed.{Listed}
+use Rattle.door.specs.Door.{wroteBy}
+use mathlib.Core.Path.{_∙_, ap}
+use borrow.Author.Needs.{needs}
+use Rattle.door.proofs.texts.door_stages.Statement.{statement}
+use Rattle.door.proofs.texts.door_stages.Tie as tie
+use Rattle.door.proofs.texts.door_stages.Reads as reads
+use Rattle.door.proofs.texts.door_stages.Lts as lts
+use Rattle.door.proofs.texts.written.Reads as written-reads
+use Rattle.stagetext.proofs.lines.Reads as lines-reads
+
+-- src/texts.rt:29:9
+lines-requires : tie.Need-lines-requires
+lines-requires c κs = tt
+
+-- src/texts.rt:31:5
+written-requires : tie.Need-written-requires
+written-requires c κs = tt
+
+-- src/texts.rt:24:1
+same-length : tie.Need-same-length
+same-length c = search needs
+
+-- src/texts.rt:24:1
+returns : tie.Need-returns
+returns c = let said = c .before .before .before .lines .ensures in (c .written .ensures ∙ ap (λ (r : Listed). wroteBy (r .answer)) (said .0), said .1)
+
+pub door-stages-spec : {M : Type 1} → statement M
+door-stages-spec = tie.close (tie.spec lines-requires written-requires same-length returns)

@@ -1,0 +1,112 @@
+// The calls that read a store.
+use crate::Reasoned;
+use crate::Told;
+use asking::Answer;
+use asking::Found;
+use plain::Plain;
+use store::Store;
+ghost use mathlib.Core.Path.{_≡_};
+ghost use lib.ListN.{length};
+ghost use Rattle.asking.specs.Asking.{contextBytes, contextReply, memberOf, questionOf};
+ghost use Rattle.plain.specs.Plainly.{plainAfter, plainOf};
+ghost use Rattle.replies.specs.Replies.{numberOf};
+ghost use Rattle.store.specs.Shape.{rightShape};
+ghost use Rattle.door.specs.Door.{foundBy, plainlyBy, reasonedBy};
+
+// Whether the store has the right shape.
+#[no_mangle]
+pub extern "C" fn door_shape(store: Store) -> bool
+    ensures { λ r. ⌜ r ≡ rightShape store ⌝ }
+{
+    store.shape()
+}
+
+// What the set e is to n, and why.
+#[no_mangle]
+pub extern "C" fn door_question(store: Store, n: u32, e: u32) -> Reasoned
+    ensures { λ r. ⌜ r ≡ reasonedBy (questionOf store n e) ⌝ }
+{
+    let out = asking::question(store, n, e);
+    let answer = out.answer;
+    match answer {
+        Answer::Inconsistent(nogood) => Reasoned {
+            reply: 0,
+            answer: 2,
+            reason: nogood,
+        },
+        Answer::Supported(member) => Reasoned {
+            reply: 0,
+            answer: 1,
+            reason: member,
+        },
+        Answer::Unsupported => Reasoned {
+            reply: 0,
+            answer: 0,
+            reason: 0,
+        },
+        Answer::Refused(reply) => Reasoned {
+            reply: replies::number(reply) as u32,
+            answer: 0,
+            reason: 0,
+        },
+    }
+}
+
+// What the set e is to every number, a byte each.
+#[no_mangle]
+pub extern "C" fn door_context(store: Store, e: u32, out: &mut [u8]) -> u32
+    ensures { λ r. ⌜ (r ≡ numberOf (contextReply store e (length (now (out .entry)))))
+        × (now (out .exit) ≡ contextBytes store e (now (out .entry))) ⌝ }
+{
+    let told = asking::context(store, e, out);
+    let reply = told.reply;
+    replies::number(reply) as u32
+}
+
+// The set at a place of n's label, or of the nogoods.
+#[no_mangle]
+pub extern "C" fn door_member(store: Store, n: u32, place: usize) -> Told
+    ensures { λ r. ⌜ r ≡ foundBy (memberOf store n place) ⌝ }
+{
+    let out = asking::member(store, n, place);
+    let answer = out.answer;
+    match answer {
+        Found::Is(e) => Told {
+            reply: 0,
+            value: e as usize,
+        },
+        Found::Not(reply) => Told {
+            reply: replies::number(reply) as u32,
+            value: 0,
+        },
+    }
+}
+
+// What the set e is to n, without labels; no set is named.
+#[no_mangle]
+pub extern "C" fn door_plain_question(store: Store, n: u32, e: u32) -> Told
+    ensures { λ r. ⌜ r ≡ plainlyBy (plainOf store n e) ⌝ }
+{
+    let out = plain::question(store, n, e);
+    let answer = out.answer;
+    match answer {
+        Plain::Inconsistent => Told { reply: 0, value: 2 },
+        Plain::Supported => Told { reply: 0, value: 1 },
+        Plain::Unsupported => Told { reply: 0, value: 0 },
+        Plain::Refused(reply) => Told {
+            reply: replies::number(reply) as u32,
+            value: 0,
+        },
+    }
+}
+
+// What the set e is to every number, a byte each, without labels.
+#[no_mangle]
+pub extern "C" fn door_plain_context(store: Store, e: u32, out: &mut [u8]) -> u32
+    ensures { λ r. ⌜ (r ≡ numberOf (contextReply store e (length (now (out .entry)))))
+        × (now (out .exit) ≡ plainAfter store e (now (out .entry))) ⌝ }
+{
+    let told = plain::context(store, e, out);
+    let reply = told.reply;
+    replies::number(reply) as u32
+}

@@ -1,0 +1,2 @@
+mod Back
+mod Crossing

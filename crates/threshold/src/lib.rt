@@ -1,0 +1,1 @@
+// No code: what crosses the door is said in specs/, and proved in proofs/.
