@@ -7,6 +7,7 @@ pub mod Keeping
 pub mod Form
 pub mod Season
 pub mod Shortest
+pub mod Third
 pub mod Standing
 pub mod Right
 pub mod Sameness

@@ -2,12 +2,12 @@
 use mathlib.Core.Bool.{_||_, false, not, true}
 use mathlib.Core.List.{List, [], _++_}
 use mathlib.Core.Path.{_∙_, _≡_, ap, ap₂, sym}
-use Prim.Native.Nat.{_+_, ℕ}
+use Prim.Native.Nat.{_+_, suc, ℕ}
 use native.Mathlib.Omega.{arith}
 use lib.Dec.{ltb}
 use lib.ListN.{drop, length}
 use borrow.Author.Tests.{le-ltb}
-use Rattle.asking.specs.Asking.{contextBytes, contextOf, contextReply, memberAt, memberOf, questionOf, standing}
+use Rattle.asking.specs.Asking.{contextBytes, contextOf, contextReply, firstIn, memberAt, memberOf, questionOf, standing}
 use Rattle.asking.specs.declared.Answer.{Answer}
 use Rattle.asking.specs.declared.Found.{Found}
 use Rattle.lent.specs.Lent.{Wrote, fitted}
@@ -17,6 +17,7 @@ use Rattle.plain.specs.declared.Plain.{Plain}
 use Rattle.promises.proofs.Form.{add-tried, parted-done, tried-done, withdraw-parted}
 use Rattle.promises.proofs.InOrder.{in-order-is, in-order-put}
 use Rattle.promises.proofs.Rows.{less-test, or-test, outside-test, passed, test-off}
+use Rattle.promises.proofs.Third.{third-byte, third-word}
 use Rattle.promises.specs.Calls.{Ask, caseLine, context, file, line, listAll, member, ours, over, plainContext, plainly, question, readOf, reads, stageLines, written}
 use Rattle.promises.specs.Made.{inOrder}
 use Rattle.promises.specs.Standing.{AsTheyStand, Stands, asRead}
@@ -29,6 +30,7 @@ use Rattle.rules.specs.Held.{saidBy}
 use Rattle.stagetext.specs.Stagetext.{stageText, stagesOf}
 use Rattle.store.proofs.Shapes.{shape-elim}
 use Rattle.store.specs.Calls.{addOf, answer, isDone, noStore, storeOf, withdrawOf}
+use Rattle.store.specs.Reading.{heldFromAll, labelHeld, nogoodsHeld}
 use Rattle.store.specs.Shape.{rightShape, top}
 use Rattle.store.specs.declared.Store.{Store}
 use Rattle.theory.specs.Lists.{choose}
@@ -157,7 +159,14 @@ module _ (s : Store) (right : rightShape s ≡ true) where
       ap (storeOf noStore A (s .held .claims)) (sym o) ∙ p .store
 
   stands : Stands ours s
-  stands = record { reading = read-stands; adding = adding-stands; withdrawing = withdrawing-stands }
+  unfolding standing
+  stands = record {
+    reading = read-stands;
+    adding = adding-stands;
+    withdrawing = withdrawing-stands;
+    third-word = λ i. third-word i (labelHeld (s .lists) (suc i)) (heldFromAll s (suc i));
+    third-byte = λ i E. third-byte i E (firstIn (nogoodsHeld (s .lists)) E) (labelHeld (s .lists) (suc i)) (heldFromAll s (suc i));
+  }
 
 pub as-they-stand : AsTheyStand ours
 as-they-stand = record {

@@ -1,11 +1,13 @@
 -- Whatever store of right shape is handed in, forged or not: adding and withdrawing work from the justifications alone; questions read the lists as they stand; whether an empty label is contradicted comes from the justifications. Assumes nothing.
 use mathlib.Core.Bool.{true}
 use mathlib.Core.List.{List, [], _++_}
+use mathlib.Core.Logic.{_↔_}
+use mathlib.Core.Option.{none}
 use mathlib.Core.Path.{_≡_}
-use Prim.Native.Nat.{_+_, _≤_, ℕ}
+use Prim.Native.Nat.{_+_, _≤_, suc, ℕ}
 use lib.ListN.{drop, length}
-use Rattle.asking.specs.Asking.{byteOf, memberAt, standing}
-use Rattle.lines.specs.Lines.{caseText, lineText, refusalText}
+use Rattle.asking.specs.Asking.{byteOf, firstIn, memberAt, standing}
+use Rattle.lines.specs.Lines.{caseText, lineText, refusalText, wordOf}
 use Rattle.plain.specs.Plainly.{byteOf as plainByte, plainBy}
 use Rattle.promises.specs.Calls.{Ask, Calls, Read, caseLine, context, file, line, listAll, member, over, plainContext, plainly, question, reads, stageLines, written}
 use Rattle.promises.specs.Made.{inOrder}
@@ -15,9 +17,11 @@ use Rattle.replies.specs.declared.Reply.the-variants.{Done}
 use Rattle.rules.specs.Held.{saidBy}
 use Rattle.stagetext.specs.Stagetext.{stageText}
 use Rattle.store.specs.Calls.{answer, noStore, storeOf}
-use Rattle.store.specs.Reading.{contradictedIn}
+use Rattle.store.specs.Reading.{contradictedIn, heldFromAll, labelHeld, nogoodsHeld}
 use Rattle.store.specs.Shape.{rightShape, top}
 use Rattle.store.specs.declared.Store.{Store}
+use Rattle.text.specs.Texts.{word}
+use Rattle.theory.specs.Demands.{fromAll}
 use Rattle.theory.specs.Places.{table}
 use Rattle.listing.specs.Listing.{listingText}
 use Rattle.writing.specs.Writing.{fileOf}
@@ -36,6 +40,10 @@ asRead s (plainly n E) = reads (plainly n E) (plainBy (saidBy (s .held)) E n) s 
 asRead s (plainContext E out) = reads (plainContext E out) Done s (table (top (s .held) + 1) (λ n. plainByte (plainBy (saidBy (s .held)) E n)) ++ drop (top (s .held) + 1) out)
 asRead s (stageLines E out) = reads (stageLines E out) (written (stageText (top (s .held)) (saidBy (s .held)) E)) s (over (stageText (top (s .held)) (saidBy (s .held)) E) out)
 
+-- the word in the line of i + 1
+abbrev pub saidOf : Store → ℕ → List ℕ
+saidOf s i = wordOf (suc i) (labelHeld (s .lists) (suc i)) (heldFromAll s (suc i))
+
 pub record Stands (C : Calls) (s : Store) : Type 0 where
   -- what the reply table does not refuse reads the lists as they stand, the file and the plain path what is held
   pub reading : (a : Ask) → ShapedRows s a 0 → C .reading s a ≡ asRead s a
@@ -43,6 +51,10 @@ pub record Stands (C : Calls) (s : Store) : Type 0 where
   pub adding : (c : ℕ) (l : List ℕ) (t : Store) → C .adding s c l ≡ answer Done t → storeOf noStore (s .held .assumptions) (s .held .claims) (inOrder (enlarged s c l)) ≡ answer Done t
   -- so does withdrawing: the store of those held without this one, judged anew
   pub withdrawing : (c : ℕ) (l : List ℕ) (t : Store) → C .withdrawing s c l ≡ answer Done t → storeOf noStore (s .held .assumptions) (s .held .claims) (inOrder (lessened s c l)) ≡ answer Done t
+  -- `contradicted` where the label has no set in it and the number follows from all assumptions by the justifications
+  pub third-word : (i : ℕ) → (saidOf s i ≡ word " contradicted") ↔ ((labelHeld (s .lists) (suc i) ≡ []) × (fromAll (s .held .assumptions) (saidBy (s .held)) (suc i) ≡ true))
+  -- byte 3 where no nogood lies within E and the line says so
+  pub third-byte : (i E : ℕ) → (byteOf (contradictedIn s (suc i)) (standing (s .lists) (suc i) E) ≡ 3) ↔ ((firstIn (nogoodsHeld (s .lists)) E ≡ none) × (saidOf s i ≡ word " contradicted"))
 
 pub record AsTheyStand (C : Calls) : Type 0 where
   pub stands : (s : Store) → rightShape s ≡ true → Stands C s
