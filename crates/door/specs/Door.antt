@@ -1,11 +1,17 @@
 -- What goes out to a program in C or Rust: what the product's calls answer, in numbers. Assumes nothing.
 use mathlib.Core.Option.{Option, none, some}
-use Prim.Native.Nat.{ℕ}
+use Prim.Native.Nat.{ℕ, suc, zero}
 use Rattle.asking.specs.declared.Answer.{Answer}
 use Rattle.asking.specs.declared.Answer.the-variants.{Inconsistent, Refused, Supported, Unsupported}
 use Rattle.asking.specs.declared.Found.{Found}
 use Rattle.asking.specs.declared.Found.the-variants.{Is, Not}
+use Rattle.bare.specs.declared.Query.{Query}
+use Rattle.bare.specs.declared.Told.{Told as Barely}
+use Rattle.bare.specs.declared.Told.the-variants.{Filled, Lines, Word}
+use Rattle.bare.specs.declared.What.{What}
+use Rattle.bare.specs.declared.What.the-variants.{Context, Number as Of, Stages}
 use Rattle.casefile.specs.declared.Loaded.{Loaded}
+use Rattle.door.specs.declared.Asked.{Asked}
 use Rattle.door.specs.declared.Kept.{Kept}
 use Rattle.door.specs.declared.Reasoned.{Reasoned}
 use Rattle.door.specs.declared.Told.{Told}
@@ -66,3 +72,20 @@ plainlyBy (Unasked r) = told (numberOf r) 0
 abbrev pub wroteBy : Written → Told
 wroteBy (Length n) = told 0 n
 wroteBy (Unwritten r) = told (numberOf r) 0
+
+-- ---- the bare list
+
+-- what is asked, by its number: 0, 1, and 2 or more
+abbrev pub whatBy : ℕ → ℕ → What
+whatBy zero n = Of n
+whatBy (suc zero) n = Context
+whatBy (suc (suc k)) n = Stages
+
+abbrev pub queryBy : Asked → Query
+queryBy q = record { assumptions = q .assumptions; claims = q .claims; what = whatBy (q .what) (q .number); set = q .set }
+
+-- a word, the reply of the context, or the length of the lines: as the call of a store has it
+abbrev pub barelyBy : Barely → Told
+barelyBy (Word a) = plainlyBy a
+barelyBy (Filled r) = told (numberOf r) 0
+barelyBy (Lines w) = wroteBy w

@@ -3,7 +3,6 @@ use crate::Reasoned;
 use crate::Told;
 use asking::Answer;
 use asking::Found;
-use plain::Plain;
 use store::Store;
 ghost use mathlib.Core.Path.{_≡_};
 ghost use lib.ListN.{length};
@@ -89,15 +88,7 @@ pub extern "C" fn door_plain_question(store: Store, n: u32, e: u32) -> Told
 {
     let out = plain::question(store, n, e);
     let answer = out.answer;
-    match answer {
-        Plain::Inconsistent => Told { reply: 0, value: 2 },
-        Plain::Supported => Told { reply: 0, value: 1 },
-        Plain::Unsupported => Told { reply: 0, value: 0 },
-        Plain::Refused(reply) => Told {
-            reply: replies::number(reply) as u32,
-            value: 0,
-        },
-    }
+    crate::plainly(answer)
 }
 
 // What the set e is to every number, a byte each, without labels.

@@ -40,19 +40,19 @@ use Rattle.theory.specs.Lists.{choose}
 use Rattle.theory.specs.Sets.{inRange}
 use Rattle.theory.specs.Stages.{Justification}
 use Rattle.writing.specs.Writing.{fileOf as fileText, writeOf}
-use Rattle.threshold.specs.Crossing.{Alike, ToldApart}
+use Rattle.threshold.specs.Crossing.{Alike}
 
 -- a function with something that reads back tells apart
-by-back : {X Y : Type 0} (f : X → Y) (back : Y → X) (x y : X) → back (f x) ≡ x → back (f y) ≡ y → Alike f x y
+pub by-back : {X Y : Type 0} (f : X → Y) (back : Y → X) (x y : X) → back (f x) ≡ x → back (f y) ≡ y → Alike f x y
 by-back f back x y p q e = sym p ∙ ap back e ∙ q
 
 -- whichever of two is chosen
-chosen : {X : Type 0} (P : X → Type 0) (b : Bool) (x y : X) → P x → P y → P (choose b x y)
+pub chosen : {X : Type 0} (P : X → Type 0) (b : Bool) (x y : X) → P x → P y → P (choose b x y)
 chosen P true x y p q = p
 chosen P false x y p q = q
 
 -- the reply of a number and of what it names
-abbrev replyOf : ℕ → ℕ → Reply
+abbrev pub replyOf : ℕ → ℕ → Reply
 replyOf k n =
     choose (eqb k 1) Already
     (choose (eqb k 2) Shape
@@ -98,7 +98,7 @@ reply-back Unheld = refl
 abbrev outcomeOf : Kept → Outcome
 outcomeOf k = record { reply = replyOf (k .reply) (k .named); store = k .store }
 
-made : (o p : Outcome) → Alike madeBy o p
+pub made : (o p : Outcome) → Alike madeBy o p
 made o p =
     by-back madeBy outcomeOf o p
     (ap (λ (r : Reply). record { reply = r; store = o .store }) (reply-back (o .reply)))
@@ -107,7 +107,7 @@ made o p =
 abbrev fileOf : Kept → Loaded
 fileOf k = record { reply = replyOf (k .reply) (k .named); «record» = k .«record»; store = k .store }
 
-loaded : (l k : Loaded) → Alike loadedBy l k
+pub loaded : (l k : Loaded) → Alike loadedBy l k
 loaded l k =
     by-back loadedBy fileOf l k
     (ap (λ (r : Reply). record { reply = r; «record» = l .«record»; store = l .store }) (reply-back (l .reply)))
@@ -121,7 +121,7 @@ answerBy zero (suc zero) E = Supported E
 answerBy zero (suc (suc a)) E = Inconsistent E
 answerBy (suc k) a E = Refused (replyOf (suc k) 0)
 
-abbrev answerOf : Reasoned → Answer
+abbrev pub answerOf : Reasoned → Answer
 answerOf r = answerBy (r .reply) (r .answer) (r .reason)
 
 reasoned-back : (g f : Option ℕ) → answerOf (reasonedBy (reasoned g f)) ≡ reasoned g f
@@ -136,7 +136,7 @@ standing-back : (l : Lists) (n E : ℕ) → Asked (standing l n E)
 unfolding standing
 standing-back l n E = reasoned-back (firstIn (nogoodsHeld l) E) (firstIn (labelHeld l n) E)
 
-question-back : (s : Store) (n E : ℕ) → Asked (questionOf s n E)
+pub question-back : (s : Store) (n E : ℕ) → Asked (questionOf s n E)
 unfolding questionOf
 question-back s n E =
     let later = choose (ltb (top (s .held)) n || not (inRange (s .held .assumptions) E)) (Refused Number) (standing (s .lists) n E) in
@@ -145,22 +145,22 @@ question-back s n E =
 
 -- ---- the plain question
 
-abbrev plainFrom : ℕ → ℕ → Plain
+abbrev pub plainFrom : ℕ → ℕ → Plain
 plainFrom zero zero = Unreached
 plainFrom zero (suc zero) = Followed
 plainFrom zero (suc (suc a)) = Contradicted
 plainFrom (suc k) a = Unasked (replyOf (suc k) 0)
 
-abbrev Plainly : Plain → Type 0
+abbrev pub Plainly : Plain → Type 0
 Plainly a = plainFrom (plainlyBy a .reply) (plainlyBy a .value) ≡ a
 
-by-following : (J : List Justification) (E n : ℕ) → Plainly (plainBy J E n)
+pub by-following : (J : List Justification) (E n : ℕ) → Plainly (plainBy J E n)
 unfolding plainBy
 by-following J E n =
     chosen Plainly (contradicts J E) Contradicted (choose (carries J E n) Followed Unreached) refl
     (chosen Plainly (carries J E n) Followed Unreached refl refl)
 
-plainly-back : (s : Store) (n E : ℕ) → Plainly (plainOf s n E)
+pub plainly-back : (s : Store) (n E : ℕ) → Plainly (plainOf s n E)
 unfolding plainOf
 plainly-back s n E =
     let last = plainBy (saidBy (s .held)) E n in
@@ -169,7 +169,7 @@ plainly-back s n E =
 
 -- ---- context
 
-abbrev Replied : Reply → Type 0
+abbrev pub Replied : Reply → Type 0
 Replied r = replyOf (numberOf r) 0 ≡ r
 
 context-back : (b c d : Bool) → Replied (choose b Shape (choose c Number (choose d Short Done)))
@@ -178,7 +178,7 @@ context-back false true d = refl
 context-back false false true = refl
 context-back false false false = refl
 
-replied-back : (s : Store) (E room : ℕ) → Replied (contextReply s E room)
+pub replied-back : (s : Store) (E room : ℕ) → Replied (contextReply s E room)
 unfolding contextReply
 replied-back s E room = context-back (not (rightShape s)) (not (inRange (s .held .assumptions) E)) (ltb room (top (s .held) + 1))
 
@@ -188,7 +188,7 @@ abbrev foundFrom : ℕ → ℕ → Found
 foundFrom zero E = Is E
 foundFrom (suc k) E = Not (replyOf (suc k) 0)
 
-abbrev foundOf : Told → Found
+abbrev pub foundOf : Told → Found
 foundOf t = foundFrom (t .reply) (t .value)
 
 found-back : (b c d : Bool) (E : ℕ) → foundOf (foundBy (choose b (Not Shape) (choose c (Not Number) (choose d (Not Place) (Is E))))) ≡ choose b (Not Shape) (choose c (Not Number) (choose d (Not Place) (Is E)))
@@ -197,23 +197,23 @@ found-back false true d E = refl
 found-back false false true E = refl
 found-back false false false E = refl
 
-member-back : (s : Store) (n place : ℕ) → foundOf (foundBy (memberOf s n place)) ≡ memberOf s n place
+pub member-back : (s : Store) (n place : ℕ) → foundOf (foundBy (memberOf s n place)) ≡ memberOf s n place
 unfolding memberOf memberAt
 member-back s n place = found-back (not (rightShape s)) (ltb (top (s .held)) n) (leb (length (listHeld (s .lists) n)) place) (getD (listHeld (s .lists) n) place 0)
 
 -- ---- texts
 
-abbrev writtenFrom : ℕ → ℕ → Written
+abbrev pub writtenFrom : ℕ → ℕ → Written
 writtenFrom zero n = Length n
 writtenFrom (suc k) n = Unwritten (replyOf (suc k) 0)
 
-abbrev writtenOf : Told → Written
+abbrev pub writtenOf : Told → Written
 writtenOf t = writtenFrom (t .reply) (t .value)
 
 abbrev Back : Wrote → Type 0
 Back w = writtenOf (wroteBy (w .answer)) ≡ w .answer
 
-fitted-back : (t out : List ℕ) → Back (fitted t out)
+pub fitted-back : (t out : List ℕ) → Back (fitted t out)
 unfolding fitted
 fitted-back t out = chosen Back (ltb (length out) (length t)) (kept Short out) (record { answer = Length (length t); bytes = t ++ drop (length t) out }) refl refl
 
@@ -221,44 +221,27 @@ fitted-back t out = chosen Back (ltb (length out) (length t)) (kept Short out) (
 shaped-back : (b : Bool) (out : List ℕ) (w : Wrote) → Back w → Back (choose b (kept Shape out) w)
 shaped-back b out w p = chosen Back b (kept Shape out) w refl p
 
-line-back : (s : Store) (n : ℕ) (out : List ℕ) → Back (lineOf s n out)
+pub line-back : (s : Store) (n : ℕ) (out : List ℕ) → Back (lineOf s n out)
 unfolding lineOf
 line-back s n out =
     shaped-back (not (rightShape s)) out (choose (ltb (top (s .held)) n) (kept Number out) (fitted (lineText s n) out))
     (chosen Back (ltb (top (s .held)) n) (kept Number out) (fitted (lineText s n) out) refl (fitted-back (lineText s n) out))
 
-heading-back : (s : Store) (out : List ℕ) → Back (headingOf s out)
+pub heading-back : (s : Store) (out : List ℕ) → Back (headingOf s out)
 unfolding headingOf
 heading-back s out = shaped-back (not (rightShape s)) out (fitted (caseText s) out) (fitted-back (caseText s) out)
 
-listed-back : (s : Store) (out : List ℕ) → Back (listedOf s out)
+pub listed-back : (s : Store) (out : List ℕ) → Back (listedOf s out)
 unfolding listedOf
 listed-back s out = shaped-back (not (rightShape s)) out (fitted (listingText s) out) (fitted-back (listingText s) out)
 
-stages-back : (s : Store) (E : ℕ) (out : List ℕ) → Back (stagesOf s E out)
+pub stages-back : (s : Store) (E : ℕ) (out : List ℕ) → Back (stagesOf s E out)
 unfolding stagesOf
 stages-back s E out =
     let last = fitted (stageText (top (s .held)) (saidBy (s .held)) E) out in
     shaped-back (not (rightShape s)) out (choose (not (inRange (s .held .assumptions) E)) (kept Number out) last)
     (chosen Back (not (inRange (s .held .assumptions) E)) (kept Number out) last refl (fitted-back (stageText (top (s .held)) (saidBy (s .held)) E) out))
 
-file-back : (s : Store) (out : List ℕ) → Back (writeOf s out)
+pub file-back : (s : Store) (out : List ℕ) → Back (writeOf s out)
 unfolding writeOf
 file-back s out = shaped-back (not (rightShape s)) out (fitted (fileText (s .held)) out) (fitted-back (fileText (s .held)) out)
-
-pub apart : ToldApart ours
-apart = record {
-  made = made;
-  loaded = loaded;
-  questions = λ s t n m E F. by-back reasonedBy answerOf _ _ (question-back s n E) (question-back t m F);
-  contexts = λ s t E F out into. by-back numberOf (λ k. replyOf k 0) _ _ (replied-back s E (length out)) (replied-back t F (length into));
-  members = λ s t n m i j. by-back foundBy foundOf _ _ (member-back s n i) (member-back t m j);
-  lines = λ s t n m out into. by-back wroteBy writtenOf _ _ (line-back s n out) (line-back t m into);
-  firsts = λ s t out into. by-back wroteBy writtenOf _ _ (heading-back s out) (heading-back t into);
-  listings = λ s t out into. by-back wroteBy writtenOf _ _ (listed-back s out) (listed-back t into);
-  plainlies = λ s t n m E F. by-back plainlyBy (λ (r : Told). plainFrom (r .reply) (r .value)) _ _ (plainly-back s n E) (plainly-back t m F);
-  plainContexts = λ s t E F out into. by-back numberOf (λ k. replyOf k 0) _ _ (replied-back s E (length out)) (replied-back t F (length into));
-  stages = λ s t E F out into. by-back wroteBy writtenOf _ _ (stages-back s E out) (stages-back t F into);
-  files = λ s t out into. by-back wroteBy writtenOf _ _ (file-back s out) (file-back t into);
-  prints = λ bytes others out into. by-back wroteBy writtenOf _ _ (fitted-back (listingOf bytes) out) (fitted-back (listingOf others) into);
-}

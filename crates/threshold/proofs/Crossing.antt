@@ -3,6 +3,7 @@ use mathlib.Core.List.{List}
 use mathlib.Core.Logic.{_↔_}
 use mathlib.Core.Path.{_≡_, _∙_, ap, refl, sym}
 use Prim.Native.Nat.{ℕ}
+use Rattle.door.proofs.barely.door_bare.Met as bare-at
 use Rattle.door.proofs.making.door_add.Met as add-at
 use Rattle.door.proofs.making.door_add_all.Met as add-all-at
 use Rattle.door.proofs.making.door_load.Met as load-at
@@ -27,7 +28,7 @@ use Rattle.promises.specs.Calls.{ours}
 use Rattle.replies.specs.Replies.{numberOf}
 use Rattle.replies.specs.declared.Reply.{Reply}
 use Rattle.text.specs.Texts.{refusal as refusalLine}
-use Rattle.threshold.proofs.Back.{apart}
+use Rattle.threshold.proofs.Apart.{apart}
 use Rattle.threshold.specs.Crossing.{Crosses, OnceAcross, Threshold}
 
 same : {X : Type 0} → X ↔ X
@@ -54,6 +55,7 @@ crosses = record {
   plainly = record { keeps = λ M. plainly-at.met; free = λ κs a. tt; exact = λ κs a r e. same };
   plainContext = record { keeps = λ M. plain-context-at.met; free = λ κs a. tt; exact = λ κs a r e. same };
   stageLines = record { keeps = λ M. stages-at.met; free = λ κs a. tt; exact = λ κs a r e. same };
+  bare = record { keeps = λ M. bare-at.met; exact = λ M 𝓤 H A mem run. refl };
   file = record { keeps = λ M. write-at.met; free = λ κs a. tt; exact = λ κs a r e. same };
   refusal = record { keeps = λ M. refusal-at.met; free = λ κs a. tt; exact = λ κs a r e. same };
   refusals = refusals;
@@ -77,6 +79,7 @@ once = record {
   plainly = λ κs a r r′ w w′ p q. (p ∙ sym q, refl);
   plainContext = λ κs a r r′ w w′ p q. (p .0 ∙ sym (q .0), ap (λ (l : List ℕ). (tt, (tt, (l, tt)))) (p .1 ∙ sym (q .1)));
   stageLines = λ κs a r r′ w w′ p q. (p .0 ∙ sym (q .0), ap (λ (l : List ℕ). (tt, (tt, (l, tt)))) (p .1 ∙ sym (q .1)));
+  bare = λ κs a r r′ w w′ p q. (p .0 ∙ sym (q .0), ap (λ (l : List ℕ). (tt, (tt, (l, tt)))) (p .1 ∙ sym (q .1)));
   file = λ κs a r r′ w w′ p q. (p .0 ∙ sym (q .0), ap (λ (l : List ℕ). (tt, (l, tt))) (p .1 ∙ sym (q .1)));
   refusal = λ κs a r r′ w w′ p q. (p .0 ∙ sym (q .0), ap (λ (l : List ℕ). (tt, (tt, (l, tt)))) (p .1 ∙ sym (q .1)));
   printing = λ κs a r r′ w w′ p q. (p .0 ∙ sym (q .0), ap (λ (l : List ℕ). (tt, (l, tt))) (p .1 ∙ sym (q .1)));

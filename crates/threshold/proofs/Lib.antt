@@ -1,2 +1,4 @@
+mod Apart
 mod Back
+mod Barely
 mod Crossing

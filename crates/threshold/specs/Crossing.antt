@@ -4,6 +4,8 @@ use mathlib.Core.Path.{_≡_}
 use Prim.Native.Nat.{ℕ}
 use denote.Ref.{now}
 use Rattle.casefile.specs.declared.Loaded.{Loaded}
+use Rattle.door.proofs.barely.door_bare as bare-at
+use Rattle.door.proofs.barely.door_bare.Symbol as bare-code
 use Rattle.door.proofs.making.door_add as add-at
 use Rattle.door.proofs.making.door_add.Reads as add-reads
 use Rattle.door.proofs.making.door_add.Symbol as add-code
@@ -57,7 +59,9 @@ use Rattle.door.proofs.texts.door_stages.Symbol as stages-code
 use Rattle.door.proofs.texts.door_write as write-at
 use Rattle.door.proofs.texts.door_write.Reads as write-reads
 use Rattle.door.proofs.texts.door_write.Symbol as write-code
-use Rattle.door.specs.Door.{foundBy, loadedBy, madeBy, plainlyBy, reasonedBy, wroteBy}
+use Rattle.door.specs.Door.{barelyBy, foundBy, loadedBy, madeBy, plainlyBy, queryBy, reasonedBy, wroteBy}
+use Rattle.door.specs.declared.Asked.{Asked}
+use Rattle.handed.specs.declared.Handed.{Handed}
 use Rattle.lent.specs.Lent.{fitted}
 use Rattle.promises.specs.Calls.{Calls, Read, caseLine, context, file, line, listAll, member, ours, plainContext, plainly, question, stageLines}
 use Rattle.promises.specs.Keeps.{Claim, Tied, Walked}
@@ -74,6 +78,11 @@ abbrev pub allAdded : Calls → Claim add-all-at.ended
 allAdded C κs a r e =
     (r ≡ madeBy (C .addingAll (a .0) (now (a .1 .0)) (now (a .1 .1 .0)) .outcome))
     × (now (e .1 .1 .0) ≡ C .addingAll (a .0) (now (a .1 .0)) (now (a .1 .1 .0)) .bytes)
+
+abbrev pub bareAsked : Calls → Claim bare-at.ended
+bareAsked C κs a r e =
+    (r ≡ barelyBy (C .bare (queryBy (a .0)) (now (a .1 .0)) (now (a .1 .1 .0)) .answer))
+    × (now (e .1 .1 .0) ≡ C .bare (queryBy (a .0)) (now (a .1 .0)) (now (a .1 .1 .0)) .bytes)
 
 pub record Crosses (C : Calls) : Type 2 where
   pub opening : Tied open-at.ended open-code.routine open-reads.Asked open-reads.Learnt
@@ -105,6 +114,7 @@ pub record Crosses (C : Calls) : Type 2 where
       (λ κs a r e. (r ≡ numberOf (C .reading (a .0) (plainContext (a .1 .0) (now (a .1 .1 .0))) .said)) × (now (e .1 .1 .0) ≡ C .reading (a .0) (plainContext (a .1 .0) (now (a .1 .1 .0))) .bytes))
   pub stageLines : Tied stages-at.ended stages-code.routine stages-reads.Asked stages-reads.Learnt
       (λ κs a r e. (r ≡ wroteBy (C .reading (a .0) (stageLines (a .1 .0) (now (a .1 .1 .0))) .said)) × (now (e .1 .1 .0) ≡ C .reading (a .0) (stageLines (a .1 .0) (now (a .1 .1 .0))) .bytes))
+  pub bare : Walked bare-at.ended bare-code.routine (λ M. bare-at.clauses) (bareAsked C)
   pub file : Tied write-at.ended write-code.routine write-reads.Asked write-reads.Learnt
       (λ κs a r e. (r ≡ wroteBy (C .reading (a .0) (file (now (a .1 .0))) .said)) × (now (e .1 .0) ≡ C .reading (a .0) (file (now (a .1 .0))) .bytes))
   pub refusal : Tied refusal-at.ended refusal-code.routine refusal-reads.Asked refusal-reads.Learnt
@@ -132,6 +142,7 @@ pub record OnceAcross : Type 0 where
   pub plainly : Once plainly-at.ended plainly-reads.Learnt
   pub plainContext : Once plain-context-at.ended plain-context-reads.Learnt
   pub stageLines : Once stages-at.ended stages-reads.Learnt
+  pub bare : Once bare-at.ended (bareAsked ours)
   pub file : Once write-at.ended write-reads.Learnt
   pub refusal : Once refusal-at.ended refusal-reads.Learnt
   pub printing : Once printed-at.ended printed-reads.Learnt
@@ -154,6 +165,8 @@ pub record ToldApart (C : Calls) : Type 0 where
   pub plainContexts : (s t : Store) (E F : ℕ) (out into : List ℕ) → Alike numberOf (C .reading s (plainContext E out) .said) (C .reading t (plainContext F into) .said)
   pub stages : (s t : Store) (E F : ℕ) (out into : List ℕ) → Alike wroteBy (C .reading s (stageLines E out) .said) (C .reading t (stageLines F into) .said)
   pub files : (s t : Store) (out into : List ℕ) → Alike wroteBy (C .reading s (file out) .said) (C .reading t (file into) .said)
+  -- .. to the same question: a word, the reply of the context, or the length of the lines
+  pub bares : (q p : Asked) (l k : List Handed) (out into : List ℕ) → q .what ≡ p .what → Alike barelyBy (C .bare (queryBy q) l out .answer) (C .bare (queryBy p) k into .answer)
   pub prints : (bytes others out into : List ℕ) → Alike wroteBy (C .printing bytes out .answer) (C .printing others into .answer)
 
 pub record Threshold (C : Calls) : Type 2 where

@@ -6,7 +6,7 @@ use Rattle.door.proofs.texts.door_line.Statement.{statement}
 use Rattle.door.proofs.texts.door_line.Tie as tie
 use Rattle.door.proofs.texts.door_line.Reads as reads
 use Rattle.door.proofs.texts.door_line.Lts as lts
-use Rattle.door.proofs.texts.written.Reads as written-reads
+use Rattle.door.proofs.written.Reads as written-reads
 use Rattle.lines.proofs.line.Reads as line-reads
 
 -- src/texts.rt:29:9

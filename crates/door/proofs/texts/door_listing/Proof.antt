@@ -6,7 +6,7 @@ use Rattle.door.proofs.texts.door_listing.Statement.{statement}
 use Rattle.door.proofs.texts.door_listing.Tie as tie
 use Rattle.door.proofs.texts.door_listing.Reads as reads
 use Rattle.door.proofs.texts.door_listing.Lts as lts
-use Rattle.door.proofs.texts.written.Reads as written-reads
+use Rattle.door.proofs.written.Reads as written-reads
 use Rattle.listing.proofs.listing.Reads as listing-reads
 
 -- src/texts.rt:51:9

@@ -6,7 +6,7 @@ use Rattle.door.proofs.texts.door_printed.Statement.{statement}
 use Rattle.door.proofs.texts.door_printed.Tie as tie
 use Rattle.door.proofs.texts.door_printed.Reads as reads
 use Rattle.door.proofs.texts.door_printed.Lts as lts
-use Rattle.door.proofs.texts.written.Reads as written-reads
+use Rattle.door.proofs.written.Reads as written-reads
 use Rattle.listing.proofs.printed.Reads as printed-reads
 
 -- src/texts.rt:62:9

@@ -6,7 +6,7 @@ use Rattle.door.proofs.texts.door_stages.Statement.{statement}
 use Rattle.door.proofs.texts.door_stages.Tie as tie
 use Rattle.door.proofs.texts.door_stages.Reads as reads
 use Rattle.door.proofs.texts.door_stages.Lts as lts
-use Rattle.door.proofs.texts.written.Reads as written-reads
+use Rattle.door.proofs.written.Reads as written-reads
 use Rattle.stagetext.proofs.lines.Reads as lines-reads
 
 -- src/texts.rt:29:9

@@ -6,7 +6,7 @@ use Rattle.door.proofs.texts.door_write.Statement.{statement}
 use Rattle.door.proofs.texts.door_write.Tie as tie
 use Rattle.door.proofs.texts.door_write.Reads as reads
 use Rattle.door.proofs.texts.door_write.Lts as lts
-use Rattle.door.proofs.texts.written.Reads as written-reads
+use Rattle.door.proofs.written.Reads as written-reads
 use Rattle.writing.proofs.write.Reads as write-reads
 
 -- src/texts.rt:51:9

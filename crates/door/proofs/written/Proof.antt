@@ -2,10 +2,10 @@ use Rattle.door.specs.Door.{told, wroteBy}
 use Prim.Native.Nat.{ℕ}
 use mathlib.Core.Path.{_∙_, ap, sym}
 use borrow.Author.Needs.{needs}
-use Rattle.door.proofs.texts.written.Statement.{statement}
-use Rattle.door.proofs.texts.written.Tie as tie
-use Rattle.door.proofs.texts.written.Reads as reads
-use Rattle.door.proofs.texts.written.Lts as lts
+use Rattle.door.proofs.written.Statement.{statement}
+use Rattle.door.proofs.written.Tie as tie
+use Rattle.door.proofs.written.Reads as reads
+use Rattle.door.proofs.written.Lts as lts
 use Rattle.replies.proofs.number.Reads as number-reads
 
 -- src/texts.rt:15:25
