@@ -1,23 +1,7 @@
 /* spoilt FILE N [SEED]: N stores, most of them spoilt copies of FILE's, through every call that takes a store.
    The right shape, and what the lists say, are worked out here from document 01; each call must answer 2 where the shape
    is wrong and what the lists say where it is right. Every lent range ends at a page that may not be touched. */
-#define _GNU_SOURCE
-#include "reasons.h"
-#include <stdio.h>
-#include <stdlib.h>
-#include <sys/mman.h>
-
-typedef struct {
-    uint8_t assumptions, claims, pad[6];
-    uint64_t count;
-    uint8_t entries[256][6]; /* consequent, count, four supports */
-    uint8_t sizes[128];
-    uint32_t members[128][12];
-    uint64_t nogood_count;
-    uint32_t nogoods[32];
-    uint8_t depth, tail[7];
-} layout;
-static_assert(sizeof(layout) == sizeof(reasons_store), "the places of a store");
+#include "runs/common.h"
 
 static uint64_t state = 1;
 static uint32_t draw(uint32_t below) {
@@ -28,14 +12,6 @@ static uint32_t draw(uint32_t below) {
 static _Noreturn void fails(const char *what, long i) {
     fprintf(stderr, "store %ld: %s\n", i, what);
     exit(1);
-}
-
-/* size bytes whose end is the end of what may be touched */
-static void *lent(size_t size) {
-    size_t page = 4096, whole = (size + page - 1) / page * page + page;
-    char *from = mmap(NULL, whole + page, PROT_READ | PROT_WRITE, MAP_PRIVATE | MAP_ANONYMOUS, -1, 0);
-    if (from == MAP_FAILED || mprotect(from + whole, page, PROT_NONE)) fails("no memory", -1);
-    return from + whole - size;
 }
 
 /* ---- the right shape, by document 01 */
