@@ -15,7 +15,7 @@ pub enum Refusal {
     Supports,
     /// 256 held already; in a file, a count above 256.
     Full,
-    /// The label of this number would be over 12.
+    /// The label of this number would be over 12; 0 in the replies to a list, which do not say which.
     Label(u32),
     /// The nogoods would be over 32.
     Nogoods,
