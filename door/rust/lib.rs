@@ -61,6 +61,7 @@ impl Added {
 }
 
 /// What a set is to a number, and why: the first nogood, or the first member of the label, that lies within the set.
+/// A reason without assumptions says that it holds from nothing.
 #[derive(Clone, Copy, Debug, PartialEq, Eq)]
 pub enum Answer {
     Inconsistent(Set),
@@ -118,6 +119,7 @@ impl Store {
     }
 
     /// The store of a case file, judged once. Refused, the first fault: 11, 12; 3, 7; 6; 4, 5, 17; 13; then 9 and 8 by stage.
+    /// More than 4,096 bytes are not refused for their number here: 14 is for programs to give, before they load.
     ///
     /// ```
     /// use reasons::{Fault, Refusal, Store};

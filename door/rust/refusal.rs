@@ -113,7 +113,7 @@ impl fmt::Display for Refusal {
 
 impl std::error::Error for Refusal {}
 
-/// The refusal of a file, and the record being read, from 1; displayed as the listing program prints it.
+/// The refusal of a file, and the record being read, from 1, 0 in the header; displayed as the listing program prints it.
 #[derive(Clone, Copy, Debug, PartialEq, Eq)]
 pub struct Fault {
     pub refusal: Refusal,
