@@ -1,7 +1,9 @@
 /* The calls of the proved library libdoor.a, for programs in C11 or C++11 (x86-64 Linux).
    The door_* functions are the proved ones. They take the store by value and are declared for the inline functions
    below, which are what a program calls: each is one call, and a test of its reply. docs/PROMISES.md says what is
-   trusted here. Every call answers for every argument; a refusal changes neither the store nor what is pointed to. */
+   trusted here. Every call answers for every number, store and length; a refusal changes neither the store nor anything
+   else that is pointed to, but for the record and the number that a refusal names. What one argument lends may not be
+   what another lends: the bytes of `out` lie apart from the list, the supports and the file. */
 #ifndef REASONS_H
 #define REASONS_H
 #include <assert.h>
@@ -69,6 +71,10 @@ typedef struct { uint32_t reply, named, record; reasons_store store; } reasons_k
 typedef struct { uint32_t reply, answer, reason; } reasons_reasoned;
 typedef struct { uint32_t reply; size_t value; } reasons_told;
 
+/* What is asked of a bare list: what is 0 for the word of a number, 1 for the context, 2 or more for the stages; the number counts with 0 alone. */
+typedef struct { uint32_t assumptions, claims, what, number, set; } reasons_asked;
+static_assert(sizeof(reasons_asked) == 20, "the question of the library");
+
 reasons_kept door_open(uint32_t assumptions, uint32_t claims);
 reasons_kept door_load(const uint8_t *bytes, size_t length);
 reasons_kept door_add(reasons_store store, uint32_t consequent, const uint32_t *supports, size_t count);
@@ -85,6 +91,7 @@ reasons_told door_stages(reasons_store store, uint32_t set, uint8_t *out, size_t
 reasons_told door_write(reasons_store store, uint8_t *out, size_t room);
 reasons_told door_plain_question(reasons_store store, uint32_t n, uint32_t set);
 uint32_t door_plain_context(reasons_store store, uint32_t set, uint8_t *out, size_t room);
+reasons_told door_bare(reasons_asked asked, const reasons_item *list, size_t items, uint8_t *out, size_t room);
 reasons_told door_refusal(uint32_t number, uint32_t record, uint8_t *out, size_t room);
 reasons_told door_printed(const uint8_t *bytes, size_t length, uint8_t *out, size_t room);
 
@@ -98,9 +105,12 @@ static inline void reasons_clean(reasons_store *store) {
 
 /* A pointer handed to the library is never null, not even one to nothing. */
 static inline const void *reasons_lent(const void *p) {
-    static const uint64_t nothing = 0;
-    return p ? p : &nothing;
+    static const uint64_t nothing[4] = {0, 0, 0, 0};
+    return p ? p : nothing;
 }
+
+/* So many supports; of a null pointer with a count above 0 as many zeros, at most 5, so that 5 or 6 refuses them: nothing becomes a premise by mistake. */
+static inline size_t reasons_count(const uint32_t *supports, size_t count) { return supports || count < 5 ? count : 5; }
 
 static inline uint8_t *reasons_room(void *p) {
     static uint64_t nothing;
@@ -121,10 +131,11 @@ static inline reasons_reply reasons_tell(reasons_told t, size_t *value) {
     return (reasons_reply)t.reply;
 }
 
-/* ---- the calls. named, record, reason and length may be null. */
+/* ---- the calls. named, record, reason, length and written may be null; store, answer and set may not. A file, a list
+   and `out` may be null and then lend nothing, whatever length stands beside them. */
 
-/* The set of one assumption, 1 to 32; join sets with |. */
-static inline uint32_t reasons_assume(uint32_t k) { return (uint32_t)1 << (k - 1); }
+/* The set of one assumption, 1 to 32; join sets with |. Of any other number, which is no assumption, the empty set. */
+static inline uint32_t reasons_assume(uint32_t k) { return k - 1 < 32 ? (uint32_t)1 << (k - 1) : 0; }
 
 /* A store that holds nothing. Refused: 3. */
 static inline reasons_reply reasons_open(reasons_store *store, uint32_t assumptions, uint32_t claims) {
@@ -132,21 +143,24 @@ static inline reasons_reply reasons_open(reasons_store *store, uint32_t assumpti
     return reasons_keep(&k, store, NULL);
 }
 
-/* The store of a case file. Refused, the first fault: 11, 12; 3, 7; 6; 4, 5, 17; 13; then 9 and 8 by stage.
-   record is set to the record being read, from 1; named to the number that 8 names, else 0. */
+/* The store of a case file. Refused, the first fault: 11, 12; 3, 7; 6; 4, 5, 17; 13; then 9 and 8 by stage. A file of
+   more than 4,096 bytes is not refused for its length here: 14 is for programs to give, before they load.
+   record is set to the record being read, from 1, 0 in the header; named to the number that 8 names, else 0. */
 static inline reasons_reply reasons_load(reasons_store *store, const void *bytes, size_t length, uint32_t *record, uint32_t *named) {
     reasons_kept k = door_load((const uint8_t *)reasons_lent(bytes), bytes ? length : 0);
     if (record) *record = k.record;
     return reasons_keep(&k, store, named);
 }
 
-/* Adds a justification. Refused: 2, 6, 4, 5, 17, 1, 7, then 9 and 8 by stage; 1 says that it is held already. */
+/* Adds a justification. Refused: 2, 6, 4, 5, 17, 1, 7, then 9 and 8 by stage; 1 says that it is held already.
+   named is set to the number that 8 names, else to 0; here and in withdrawing. */
 static inline reasons_reply reasons_add(reasons_store *store, uint32_t consequent, const uint32_t *supports, size_t count, uint32_t *named) {
-    reasons_kept k = door_add(*store, consequent, (const uint32_t *)reasons_lent(supports), supports ? count : 0);
+    reasons_kept k = door_add(*store, consequent, (const uint32_t *)reasons_lent(supports), reasons_count(supports, count));
     return reasons_keep(&k, store, named);
 }
 
-/* Adds the items of a list in their order, each refused one passed over; a byte for each receives its reply, later bytes are kept. Refused: 2, 15. */
+/* Adds the items of a list in their order, each refused one passed over; a byte for each receives its reply, later bytes are kept.
+   Refused: 2, 15. Done says that the list was gone through, not that an item was added: its byte says that. An 8 names no number here. */
 static inline reasons_reply reasons_add_all(reasons_store *store, const reasons_item *list, size_t items, uint8_t *out, size_t room) {
     reasons_kept k = door_add_all(*store, (const reasons_item *)reasons_lent(list), list ? items : 0, reasons_room(out), out ? room : 0);
     return reasons_keep(&k, store, NULL);
@@ -154,14 +168,15 @@ static inline reasons_reply reasons_add_all(reasons_store *store, const reasons_
 
 /* Withdraws a justification. Refused: 2, 6, 4, 5, 17, 18, then 9 and 8 by stage. */
 static inline reasons_reply reasons_withdraw(reasons_store *store, uint32_t consequent, const uint32_t *supports, size_t count, uint32_t *named) {
-    reasons_kept k = door_withdraw(*store, consequent, (const uint32_t *)reasons_lent(supports), supports ? count : 0);
+    reasons_kept k = door_withdraw(*store, consequent, (const uint32_t *)reasons_lent(supports), reasons_count(supports, count));
     return reasons_keep(&k, store, named);
 }
 
 /* Whether the store has the right shape. Refuses nothing. */
 static inline bool reasons_shape(const reasons_store *store) { return door_shape(*store); }
 
-/* What the set is to n; reason is the nogood or the member that makes it so, 0 if unsupported. Refused: 2, 4. */
+/* What the set is to n; reason is the nogood or the member that makes it so, and 0 if unsupported. A reason 0 beside
+   another answer is the empty set: it holds from nothing. Refused: 2, 4. */
 static inline reasons_reply reasons_question(const reasons_store *store, uint32_t n, uint32_t set, reasons_answer *answer, uint32_t *reason) {
     reasons_reasoned r = door_question(*store, n, set);
     if (r.reply == REASONS_DONE) {
@@ -216,6 +231,23 @@ static inline reasons_reply reasons_plain_question(const reasons_store *store, u
 }
 static inline reasons_reply reasons_plain_context(const reasons_store *store, uint32_t set, uint8_t *out, size_t room) {
     return (reasons_reply)door_plain_context(*store, set, reasons_room(out), out ? room : 0);
+}
+
+/* The plain question, the context and the stages of a list of any number of items, in no store. The first fault refuses:
+   3, then each item in order by 6, 4, 5, 17, then 4 for the number or the set asked, then, but for the question, 15. */
+static inline reasons_reply reasons_bare_question(uint32_t assumptions, uint32_t claims, const reasons_item *list, size_t items, uint32_t n, uint32_t set, reasons_answer *answer) {
+    reasons_asked asked = {assumptions, claims, 0, n, set};
+    reasons_told t = door_bare(asked, (const reasons_item *)reasons_lent(list), list ? items : 0, reasons_room(NULL), 0);
+    if (t.reply == REASONS_DONE) *answer = (reasons_answer)t.value;
+    return (reasons_reply)t.reply;
+}
+static inline reasons_reply reasons_bare_context(uint32_t assumptions, uint32_t claims, const reasons_item *list, size_t items, uint32_t set, uint8_t *out, size_t room) {
+    reasons_asked asked = {assumptions, claims, 1, 0, set};
+    return (reasons_reply)door_bare(asked, (const reasons_item *)reasons_lent(list), list ? items : 0, reasons_room(out), out ? room : 0).reply;
+}
+static inline reasons_reply reasons_bare_stages(uint32_t assumptions, uint32_t claims, const reasons_item *list, size_t items, uint32_t set, char *out, size_t room, size_t *length) {
+    reasons_asked asked = {assumptions, claims, 2, 0, set};
+    return reasons_tell(door_bare(asked, (const reasons_item *)reasons_lent(list), list ? items : 0, reasons_room(out), out ? room : 0), length);
 }
 
 /* The line of a refusal and of a record, as the listing program prints it; 30 bytes always do. Refused: 15. */

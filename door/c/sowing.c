@@ -38,6 +38,13 @@ int main(void) {
     if (reasons_withdraw(&s, 7, (const uint32_t[]){3, 5}, 2, NULL) || !memcmp(&before, &s, sizeof s)) return fails("withdraw");
     if (reasons_add(&s, 7, (const uint32_t[]){5, 3}, 2, NULL) || memcmp(&before, &s, sizeof s)) return fails("withdrawn and added, byte for byte");
 
+    static const reasons_item list[] = {{4, 1, {1}}, {6, 2, {3, 4}}, {0, 2, {2, 3}}};
+    if (reasons_bare_question(3, 4, list, 3, 6, utc_and_slip, &answer) || answer != REASONS_SUPPORTED) return fails("a bare list");
+    if (reasons_bare_context(3, 4, list, 3, local_and_slip, bytes, 8) || memcmp(bytes, (uint8_t[]){2, 2, 2, 2, 2, 2, 2, 2, 9, 9}, 10)) return fails("the context of a bare list");
+    if (reasons_bare_stages(3, 4, list, 3, utc_and_slip, text, sizeof text, &length) || length != 24 || memcmp(text, "0 1 3\n1 1 3 4\n2 1 3 4 6\n", 24)) return fails("the stages of a bare list");
+    if (reasons_bare_question(3, 2, list, 3, 5, 0, &answer) != REASONS_NUMBER || reasons_bare_question(33, 2, list, 3, 5, 0, &answer) != REASONS_COUNTS) return fails("a bare list's first fault");
+    if (reasons_add(&s, 5, NULL, 1, NULL) != REASONS_FALSITY || reasons_add(&s, 5, NULL, 9, NULL) != REASONS_SUPPORTS) return fails("no supports, and a count");
+
     if (reasons_load(&s, (const uint8_t[]){3, 4, 1, 9, 0}, 5, &set, &named) != REASONS_NUMBER || set != 1 || named != 0) return fails("a file's first record");
     if (memcmp(&before, &s, sizeof s)) return fails("a refused load changes nothing");
     s.opaque[0] = ~(uint64_t)0;

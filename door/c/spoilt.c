@@ -1,6 +1,7 @@
-/* spoilt FILE N [SEED]: N stores, most of them spoilt copies of FILE's, through every call that takes a store.
-   The right shape, and what the lists say, are worked out here from document 01; each call must answer 2 where the shape
-   is wrong and what the lists say where it is right. Every lent range ends at a page that may not be touched. */
+/* spoilt FILE N [SEED]: N stores, most of them spoilt copies of FILE's, through every call that takes a store, and as many
+   lists, faulty and not, through those of a bare list. The right shape, and what the lists say, are worked out here from
+   document 01; each call must answer 2 where the shape is wrong and what the lists say where it is right; each list its first
+   fault, or what follows by it. Every lent range ends at a page that may not be touched. */
 #include "runs/common.h"
 
 static uint64_t state = 1;
@@ -106,7 +107,8 @@ static uint8_t plain(uint32_t n, const bool *follows) { return follows[0] ? REAS
 static long counts[32];
 static uint8_t *context, *text, *listing, *stages, *written, *replied;
 static uint32_t *supports;
-static reasons_item *item;
+enum { LISTED = 40 };
+static reasons_item *item, *listed;
 
 /* whether the last line has exactly the numbers that follow */
 static bool last_is(const uint8_t *lines, size_t length, unsigned top, const bool *follows) {
@@ -170,6 +172,63 @@ static void reads(const reasons_store *store, const layout *s, bool ok, long i) 
     if (met(reasons_case_line(store, (char *)text, 19, &length)) != (ok ? REASONS_DONE : REASONS_SHAPE)) fails("first line", i);
     if (ok && (reasons_case_line(store, (char *)text, length, &length) || reasons_case_line(store, (char *)text, length - 1, NULL) != REASONS_SHORT)) fails("first line's length", i);
     if (met(reasons_listing(store, (char *)listing, REASONS_LONGEST_LISTING, &length)) != (ok ? REASONS_DONE : REASONS_SHAPE)) fails("listing", i);
+}
+
+/* ---- a bare list */
+
+static reasons_reply fault(const reasons_item *h, uint32_t top) {
+    if (h->count > 4) return REASONS_SUPPORTS;
+    bool above = h->consequent > top, zero = false, itself = false;
+    for (size_t k = 0; k < h->count; k++) {
+        above |= h->supports[k] > top;
+        zero |= !h->supports[k];
+        itself |= h->supports[k] == h->consequent;
+    }
+    return above ? REASONS_NUMBER : zero ? REASONS_FALSITY : itself ? REASONS_ITSELF : REASONS_DONE;
+}
+
+/* what follows from the set by the items: the fixed point */
+static void follow_list(const reasons_item *list, size_t items, uint32_t assumptions, uint32_t set, bool *follows) {
+    memset(follows, 0, 129);
+    for (uint32_t k = 1; k <= assumptions; k++) follows[k] = set >> (k - 1) & 1;
+    for (bool more = true; more;) {
+        more = false;
+        for (size_t i = 0; i < items; i++) {
+            bool all = !follows[list[i].consequent];
+            for (size_t k = 0; all && k < list[i].count; k++) all = follows[list[i].supports[k]];
+            if (all) follows[list[i].consequent] = more = true;
+        }
+    }
+}
+
+static void bares(const layout *s, long i) {
+    uint32_t assumptions = draw(16) ? s->assumptions : draw(40), claims = draw(16) ? s->claims : draw(110), top = assumptions + claims;
+    size_t items = draw(LISTED + 1), room = draw(132), length;
+    reasons_item *list = listed + LISTED - items;
+    reasons_reply want = assumptions > 32 || claims > 96 ? REASONS_COUNTS : REASONS_DONE;
+    for (size_t k = 0; k < items; k++) {
+        const uint8_t *e = s->entries[draw(256)];
+        if (draw(4)) e = s->entries[draw(s->count && s->count <= 256 ? (uint32_t)s->count : 1)];
+        list[k] = (reasons_item){.consequent = draw(64) ? e[0] : draw(300), .count = draw(64) ? e[1] : draw(7), .supports = {e[2], e[3], e[4], e[5]}};
+        if (!draw(64)) list[k].supports[draw(4)] = draw(300);
+        if (!want) want = fault(&list[k], top);
+    }
+    uint32_t n = draw(3) ? draw(top + 2) : draw(300), set = draw(2) ? draw(64) : (uint32_t)state;
+    bool within = assumptions >= 32 || !(set >> assumptions), follows[129];
+    reasons_answer answer;
+    if (!want && within) follow_list(list, items, assumptions, set, follows);
+    reasons_reply asked = want ? want : within ? REASONS_DONE : REASONS_NUMBER;
+    want = asked ? asked : n > top ? REASONS_NUMBER : REASONS_DONE;
+    if (met(reasons_bare_question(assumptions, claims, list, items, n, set, &answer)) != want || (!want && answer != plain(n, follows))) fails("bare question", i);
+    want = asked ? asked : room < top + 1 ? REASONS_SHORT : REASONS_DONE;
+    memset(context, 9, 132);
+    if (met(reasons_bare_context(assumptions, claims, list, items, set, context + 132 - room, room)) != want) fails("bare context", i);
+    for (size_t k = 0; k < 132; k++) {
+        bool of = !want && k >= 132 - room && k - (132 - room) <= top;
+        if (context[k] != (of ? plain((uint32_t)(k - (132 - room)), follows) : 9)) fails("bare context's bytes", i);
+    }
+    if (met(reasons_bare_stages(assumptions, claims, list, items, set, (char *)stages, REASONS_LONGEST_STAGES, &length)) != asked) fails("bare stages", i);
+    if (!asked && (!last_is(stages, length, top, follows) || reasons_bare_stages(assumptions, claims, list, items, set, (char *)stages, length - 1, NULL) != REASONS_SHORT)) fails("the last bare stage", i);
 }
 
 /* whether the bytes that no call sets are clear */
@@ -239,7 +298,7 @@ int main(int argc, char **argv) {
     memcpy(bytes, file, size);
     reasons_store whole, s;
     if (reasons_load(&whole, bytes, size, NULL, NULL)) return 2;
-    context = lent(132), text = lent(REASONS_LONGEST_LINE), listing = lent(REASONS_LONGEST_LISTING), stages = lent(REASONS_LONGEST_STAGES), written = lent(REASONS_LONGEST_CASE), supports = lent(16), item = lent(32), replied = lent(1);
+    context = lent(132), text = lent(REASONS_LONGEST_LINE), listing = lent(REASONS_LONGEST_LISTING), stages = lent(REASONS_LONGEST_STAGES), written = lent(REASONS_LONGEST_CASE), supports = lent(16), item = lent(32), listed = lent(LISTED * sizeof *listed), replied = lent(1);
     long stood = 0, all = atol(argv[2]);
     for (long i = 0; i < all; i++) {
         layout l;
@@ -251,6 +310,7 @@ int main(int argc, char **argv) {
         if (reasons_shape(&s) != ok) fails("the shape", i);
         reads(&s, &l, ok, i);
         changes(&s, &l, ok, i);
+        bares(&l, i);
     }
     printf("%ld stores, %ld of right shape; replies", all, stood);
     for (int k = 0; k < 32; k++)

@@ -5,13 +5,14 @@
 #include <stdio.h>
 #include <stdlib.h>
 
-enum { SIZE = 1 << 20, LEFT = 4096 }; /* what lies this far below the frame is painted */
+enum { SIZE = 1 << 20, LEFT = 1024 }; /* what lies this far below the frame is painted */
 
 static uint8_t file[4096], *low;
 static char text[REASONS_LONGEST_LISTING];
 static size_t size, length;
 static reasons_store s;
-static const char *const calls[] = {"open", "load", "add", "withdraw", "question", "context", "member", "line", "first line", "listing", "printed", "shape", "a list of one", "case file", "stages", "plain question", "plain context"};
+static const char *const calls[] = {"open", "load", "add", "withdraw", "question", "context", "member", "line", "first line", "listing", "printed", "shape", "a list of one", "case file", "stages", "plain question", "plain context", "bare question", "bare context", "bare stages"};
+static const reasons_item list[] = {{20, 1, {1}}, {21, 2, {1, 20}}};
 static size_t which;
 
 static void call(void) {
@@ -35,6 +36,9 @@ static void call(void) {
         case 14: reasons_stages(&s, 0xfff, text, sizeof text, &length); break;
         case 15: reasons_plain_question(&s, 20, 1, &answer); break;
         case 16: reasons_plain_context(&s, 1, (uint8_t *)text, REASONS_CONTEXT); break;
+        case 17: reasons_bare_question(12, 40, list, 2, 20, 1, &answer); break;
+        case 18: reasons_bare_context(12, 40, list, 2, 1, (uint8_t *)text, REASONS_CONTEXT); break;
+        case 19: reasons_bare_stages(12, 40, list, 2, 1, text, sizeof text, &length); break;
     }
 }
 

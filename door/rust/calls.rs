@@ -48,6 +48,7 @@ pub struct Told {
 }
 
 #[repr(C)]
+#[derive(Clone)]
 pub struct Item {
     pub consequent: u32,
     pub count: usize,
@@ -56,13 +57,27 @@ pub struct Item {
 
 impl Item {
     /// The first four supports in their places; the count tells how many there were.
-    pub fn of(consequent: u32, supports: &[u32]) -> Item {
+    fn of(consequent: u32, supports: &[u32]) -> Item {
         let mut places = [0; 4];
         for (place, support) in places.iter_mut().zip(supports) {
             *place = *support;
         }
         Item { consequent, count: supports.len(), supports: places }
     }
+
+    pub fn all(list: &[(u32, &[u32])]) -> Vec<Item> {
+        list.iter().map(|(consequent, supports)| Item::of(*consequent, supports)).collect()
+    }
+}
+
+/// What is asked of a bare list: what is 0 for the word of a number, 1 for the context, 2 for the stages.
+#[repr(C)]
+pub struct Asked {
+    pub assumptions: u32,
+    pub claims: u32,
+    pub what: u32,
+    pub number: u32,
+    pub set: u32,
 }
 
 #[link(name = "door", kind = "static")]
@@ -83,6 +98,7 @@ extern "C" {
     pub fn door_write(store: Raw, out: *mut u8, room: usize) -> Told;
     pub fn door_plain_question(store: Raw, n: u32, set: u32) -> Told;
     pub fn door_plain_context(store: Raw, set: u32, out: *mut u8, room: usize) -> u32;
+    pub fn door_bare(asked: Asked, list: *const Item, items: usize, out: *mut u8, room: usize) -> Told;
     pub fn door_refusal(number: u32, record: u32, out: *mut u8, room: usize) -> Told;
     pub fn door_printed(bytes: *const u8, length: usize, out: *mut u8, room: usize) -> Told;
 }

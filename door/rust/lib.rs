@@ -11,7 +11,7 @@
 //! store.add(4, &[1])?;
 //! store.add(6, &[3, 4])?;
 //! store.add(0, &[2, 3])?;
-//! let utc_and_slip = Set::of(&[1, 3]);
+//! let utc_and_slip = Set::of(&[1, 3])?;
 //! assert_eq!(store.question(6, utc_and_slip)?, Answer::Supported(utc_and_slip));
 //! assert_eq!(store.line(6)?, "6 supported {1,3}\n");
 //! # Ok(())
@@ -27,6 +27,8 @@ mod set;
 pub use refusal::{Fault, Refusal};
 pub use set::Set;
 
+/// No context has more bytes: one for each of 0 to A+M.
+pub const CONTEXT: usize = 129;
 /// No line of a listing is longer, its newline included.
 pub const LONGEST_LINE: usize = 2857;
 /// No listing is longer.
@@ -59,6 +61,7 @@ impl Added {
 }
 
 /// What a set is to a number, and why: the first nogood, or the first member of the label, that lies within the set.
+/// A reason without assumptions says that it holds from nothing.
 #[derive(Clone, Copy, Debug, PartialEq, Eq)]
 pub enum Answer {
     Inconsistent(Set),
@@ -72,6 +75,17 @@ pub enum Plain {
     Inconsistent,
     Supported,
     Unsupported,
+}
+
+impl Plain {
+    fn of(reply: u32, value: usize) -> Result<Plain, Refusal> {
+        match (reply, value) {
+            (0, 0) => Ok(Plain::Unsupported),
+            (0, 1) => Ok(Plain::Supported),
+            (0, _) => Ok(Plain::Inconsistent),
+            (n, _) => Err(Refusal::of(n, 0)),
+        }
+    }
 }
 
 impl fmt::Display for Answer {
@@ -105,6 +119,7 @@ impl Store {
     }
 
     /// The store of a case file, judged once. Refused, the first fault: 11, 12; 3, 7; 6; 4, 5, 17; 13; then 9 and 8 by stage.
+    /// More than 4,096 bytes are not refused for their number here: 14 is for programs to give, before they load.
     ///
     /// ```
     /// use reasons::{Fault, Refusal, Store};
@@ -147,6 +162,7 @@ impl Store {
     }
 
     /// Adds the justifications of a list in their order, each refused one passed over, and tells the reply of each. Refused: 2.
+    /// `Ok` says that the list was gone through; each item has its own reply. One that is refused with 8 names no number here: `Label(0)`.
     ///
     /// ```
     /// use reasons::{Added, Refusal, Store};
@@ -156,7 +172,7 @@ impl Store {
     /// assert_eq!(store.line(0).unwrap(), "0 nogood {1,2}\n");
     /// ```
     pub fn add_all(&mut self, list: &[(u32, &[u32])]) -> Result<Vec<Result<Added, Refusal>>, Refusal> {
-        let items: Vec<calls::Item> = list.iter().map(|(consequent, supports)| calls::Item::of(*consequent, supports)).collect();
+        let items = calls::Item::all(list);
         let mut bytes = vec![0; items.len()];
         let kept = unsafe { calls::door_add_all(self.raw(), items.as_ptr(), items.len(), bytes.as_mut_ptr(), bytes.len()) };
         if kept.reply != 0 {
@@ -200,10 +216,10 @@ impl Store {
     /// let mut store = Store::open(3, 1).unwrap();
     /// store.add(4, &[1, 2]).unwrap();
     /// store.add(0, &[2, 3]).unwrap();
-    /// assert_eq!(store.question(4, Set::of(&[1, 2])), Ok(Answer::Supported(Set::of(&[1, 2]))));
-    /// assert_eq!(store.question(4, Set::of(&[1, 2, 3])), Ok(Answer::Inconsistent(Set::of(&[2, 3]))));
-    /// assert_eq!(store.question(4, Set::of(&[1])), Ok(Answer::Unsupported));
-    /// assert_eq!(store.question(5, Set::of(&[1])), Err(Refusal::Number));
+    /// assert_eq!(store.question(4, Set::of(&[1, 2]).unwrap()), Ok(Answer::Supported(Set::of(&[1, 2]).unwrap())));
+    /// assert_eq!(store.question(4, Set::of(&[1, 2, 3]).unwrap()), Ok(Answer::Inconsistent(Set::of(&[2, 3]).unwrap())));
+    /// assert_eq!(store.question(4, Set::of(&[1]).unwrap()), Ok(Answer::Unsupported));
+    /// assert_eq!(store.question(5, Set::of(&[1]).unwrap()), Err(Refusal::Number));
     /// ```
     pub fn question(&self, n: u32, set: Set) -> Result<Answer, Refusal> {
         let told = unsafe { calls::door_question(self.raw(), n, set.0) };
@@ -222,9 +238,9 @@ impl Store {
     /// use reasons::{Refusal, Set, Store};
     /// let store = Store::open(2, 1).unwrap();
     /// let mut bytes = [9; 6];
-    /// assert_eq!(store.context(Set::of(&[2]), &mut bytes[..3]), Err(Refusal::Short));
+    /// assert_eq!(store.context(Set::of(&[2]).unwrap(), &mut bytes[..3]), Err(Refusal::Short));
     /// assert_eq!(bytes, [9; 6]);
-    /// store.context(Set::of(&[2]), &mut bytes).unwrap();
+    /// store.context(Set::of(&[2]).unwrap(), &mut bytes).unwrap();
     /// assert_eq!(bytes, [0, 0, 1, 0, 9, 9]);
     /// ```
     pub fn context(&self, set: Set, out: &mut [u8]) -> Result<(), Refusal> {
@@ -249,7 +265,7 @@ impl Store {
     /// use reasons::{Set, Store};
     /// let mut store = Store::open(2, 0).unwrap();
     /// store.add(1, &[2]).unwrap();
-    /// assert_eq!(store.label(1).unwrap(), [Set::of(&[1]), Set::of(&[2])]);
+    /// assert_eq!(store.label(1).unwrap(), [Set::of(&[1]).unwrap(), Set::of(&[2]).unwrap()]);
     /// ```
     pub fn label(&self, n: u32) -> Result<Vec<Set>, Refusal> {
         let mut all = Vec::new();
@@ -302,7 +318,7 @@ impl Store {
     /// let mut store = Store::open(2, 2).unwrap();
     /// store.add(3, &[1]).unwrap();
     /// store.add(4, &[2, 3]).unwrap();
-    /// assert_eq!(store.stages(Set::of(&[1, 2])).unwrap(), "0 1 2\n1 1 2 3\n2 1 2 3 4\n");
+    /// assert_eq!(store.stages(Set::of(&[1, 2]).unwrap()).unwrap(), "0 1 2\n1 1 2 3\n2 1 2 3 4\n");
     /// ```
     pub fn stages(&self, set: Set) -> Result<String, Refusal> {
         calls::text(LONGEST_STAGES, |out, room| unsafe { calls::door_stages(self.raw(), set.0, out, room) })
@@ -314,17 +330,12 @@ impl Store {
     /// use reasons::{Plain, Set, Store};
     /// let mut store = Store::open(2, 1).unwrap();
     /// store.add(3, &[1, 2]).unwrap();
-    /// assert_eq!(store.plain_question(3, Set::of(&[1, 2])), Ok(Plain::Supported));
-    /// assert_eq!(store.plain_question(3, Set::of(&[1])), Ok(Plain::Unsupported));
+    /// assert_eq!(store.plain_question(3, Set::of(&[1, 2]).unwrap()), Ok(Plain::Supported));
+    /// assert_eq!(store.plain_question(3, Set::of(&[1]).unwrap()), Ok(Plain::Unsupported));
     /// ```
     pub fn plain_question(&self, n: u32, set: Set) -> Result<Plain, Refusal> {
         let told = unsafe { calls::door_plain_question(self.raw(), n, set.0) };
-        match (told.reply, told.value) {
-            (0, 0) => Ok(Plain::Unsupported),
-            (0, 1) => Ok(Plain::Supported),
-            (0, _) => Ok(Plain::Inconsistent),
-            (n, _) => Err(Refusal::of(n, 0)),
-        }
+        Plain::of(told.reply, told.value)
     }
 
     /// The context without labels: 2 inconsistent, 1 supported, 0 unsupported. Refused: 2, 4, 15.
@@ -335,8 +346,8 @@ impl Store {
     /// store.add(3, &[1]).unwrap();
     /// store.add(0, &[1]).unwrap();
     /// let (mut with, mut without) = ([9; 4], [9; 4]);
-    /// store.context(Set::of(&[2]), &mut with).unwrap();
-    /// store.plain_context(Set::of(&[2]), &mut without).unwrap();
+    /// store.context(Set::of(&[2]).unwrap(), &mut with).unwrap();
+    /// store.plain_context(Set::of(&[2]).unwrap(), &mut without).unwrap();
     /// assert_eq!((with, without), ([0, 3, 1, 3], [0, 0, 1, 0]));
     /// ```
     pub fn plain_context(&self, set: Set, out: &mut [u8]) -> Result<(), Refusal> {
@@ -357,7 +368,7 @@ impl Store {
     /// saved[0] = 200;
     /// let spoilt = Store::from_bytes(&saved);
     /// assert!(!spoilt.has_right_shape());
-    /// assert_eq!(spoilt.question(3, Set::of(&[1])), Err(Refusal::Shape));
+    /// assert_eq!(spoilt.question(3, Set::of(&[1]).unwrap()), Err(Refusal::Shape));
     /// ```
     pub fn to_bytes(&self) -> [u8; STORE] {
         let mut all = [0; STORE];
@@ -387,6 +398,68 @@ impl fmt::Debug for Store {
             Ok(line) => write!(f, "Store({})", line.trim_end()),
             Err(refusal) => write!(f, "Store({refusal})"),
         }
+    }
+}
+
+/// Justifications that are in no store, followed without labels: any number of items, each a consequent and its supports.
+/// Every call is refused for the first fault: 3, then each item in order by 6, 4, 5, 17, then 4 for the number or the set asked.
+///
+/// ```
+/// use reasons::{Bare, Plain, Refusal, Set};
+/// # fn main() -> Result<(), Refusal> {
+/// let rules = Bare::of(2, 2, &[(3, &[1]), (4, &[2, 3])]);
+/// let both = Set::of(&[1, 2])?;
+/// assert_eq!(rules.question(4, both)?, Plain::Supported);
+/// assert_eq!(rules.context(both)?, [0, 1, 1, 1, 1]);
+/// assert_eq!(rules.stages(both)?, "0 1 2\n1 1 2 3\n2 1 2 3 4\n");
+/// assert_eq!(rules.question(5, both), Err(Refusal::Number));
+/// assert_eq!(Bare::of(2, 2, &[(3, &[0]), (9, &[])]).stages(both), Err(Refusal::Falsity));
+/// # Ok(())
+/// # }
+/// ```
+#[derive(Clone)]
+pub struct Bare {
+    assumptions: u32,
+    claims: u32,
+    items: Vec<calls::Item>,
+}
+
+impl Bare {
+    pub fn of(assumptions: u32, claims: u32, list: &[(u32, &[u32])]) -> Bare {
+        Bare { assumptions, claims, items: calls::Item::all(list) }
+    }
+
+    /// What the set is to n.
+    pub fn question(&self, n: u32, set: Set) -> Result<Plain, Refusal> {
+        let told = self.ask(0, n, set, &mut []);
+        Plain::of(told.reply, told.value)
+    }
+
+    /// A byte for each of 0 to A+M: 2 inconsistent, 1 supported, 0 unsupported.
+    pub fn context(&self, set: Set) -> Result<Vec<u8>, Refusal> {
+        let mut out = vec![0; CONTEXT];
+        match self.ask(1, 0, set, &mut out).reply {
+            0 => {
+                // not refused with 3, so there are at most 128 numbers
+                out.truncate(self.assumptions as usize + self.claims as usize + 1);
+                Ok(out)
+            }
+            n => Err(Refusal::of(n, 0)),
+        }
+    }
+
+    /// One line a stage from 0: the stage, then every number that followed from the set by then.
+    pub fn stages(&self, set: Set) -> Result<String, Refusal> {
+        let ask = |out, room| unsafe { calls::door_bare(self.asked(2, 0, set), self.items.as_ptr(), self.items.len(), out, room) };
+        calls::text(LONGEST_STAGES, ask)
+    }
+
+    fn asked(&self, what: u32, number: u32, set: Set) -> calls::Asked {
+        calls::Asked { assumptions: self.assumptions, claims: self.claims, what, number, set: set.0 }
+    }
+
+    fn ask(&self, what: u32, number: u32, set: Set, out: &mut [u8]) -> calls::Told {
+        unsafe { calls::door_bare(self.asked(what, number, set), self.items.as_ptr(), self.items.len(), out.as_mut_ptr(), out.len()) }
     }
 }
 

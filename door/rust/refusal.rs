@@ -15,7 +15,7 @@ pub enum Refusal {
     Supports,
     /// 256 held already; in a file, a count above 256.
     Full,
-    /// The label of this number would be over 12.
+    /// The label of this number would be over 12; 0 in the replies to a list, which do not say which.
     Label(u32),
     /// The nogoods would be over 32.
     Nogoods,
@@ -113,7 +113,7 @@ impl fmt::Display for Refusal {
 
 impl std::error::Error for Refusal {}
 
-/// The refusal of a file, and the record being read, from 1; displayed as the listing program prints it.
+/// The refusal of a file, and the record being read, from 1, 0 in the header; displayed as the listing program prints it.
 #[derive(Clone, Copy, Debug, PartialEq, Eq)]
 pub struct Fault {
     pub refusal: Refusal,

@@ -1,35 +1,31 @@
 //! A set of assumptions: assumption k is worth 2^(k-1).
+use crate::Refusal;
 use std::fmt;
 
 /// ```
-/// use reasons::Set;
-/// let set = Set::of(&[3, 1]);
+/// use reasons::{Refusal, Set};
+/// let set = Set::of(&[3, 1])?;
 /// assert_eq!(set, Set(5));
 /// assert_eq!(set.to_string(), "{1,3}");
 /// assert_eq!(set.members().collect::<Vec<_>>(), [1, 3]);
 /// assert_eq!(Set::default().to_string(), "{}");
+/// assert_eq!(Set::of(&[33]), Err(Refusal::Number));
+/// # Ok::<(), Refusal>(())
 /// ```
 #[derive(Clone, Copy, Debug, Default, PartialEq, Eq, Hash)]
 pub struct Set(pub u32);
 
 impl Set {
-    /// The set of these assumptions, each from 1 to 32.
-    ///
-    /// # Panics
-    /// If a number is 0 or above 32, which no set has; `checked` answers `None` there.
-    pub fn of(assumptions: &[u32]) -> Set {
-        Set::checked(assumptions).expect("assumptions are 1 to 32")
-    }
-
-    pub fn checked(assumptions: &[u32]) -> Option<Set> {
+    /// The set of these assumptions, each from 1 to 32, in any order. Refused: 4, for any other number.
+    pub fn of(assumptions: &[u32]) -> Result<Set, Refusal> {
         let mut all = 0;
         for &k in assumptions {
             if !(1..=32).contains(&k) {
-                return None;
+                return Err(Refusal::Number);
             }
             all |= 1 << (k - 1);
         }
-        Some(Set(all))
+        Ok(Set(all))
     }
 
     /// The assumptions, rising.

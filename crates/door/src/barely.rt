@@ -1,8 +1,8 @@
 // The call on a bare list of justifications, which needs no store.
+use crate::Asked;
 use bare::Query;
 use bare::Told;
 use bare::What;
-use crate::Asked;
 use handed::Handed;
 ghost use mathlib.Core.Path.{_≡_};
 ghost use Rattle.bare.specs.Bare.{askOf};

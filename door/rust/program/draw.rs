@@ -24,7 +24,6 @@ pub fn draw(given: &Given) -> u8 {
     match drawn(&store, n, &names) {
         Ok(text) => {
             say::text(&text);
-            say::flush();
             DONE
         }
         Err(refusal) => {

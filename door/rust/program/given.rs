@@ -10,15 +10,15 @@ pub struct Given {
 }
 
 impl Given {
-    /// Options stand anywhere before `--`; `-` alone is a word.
-    pub fn of(all: &[OsString]) -> Result<Given, String> {
+    /// The options that the command takes stand anywhere before `--`; `-` alone is a word.
+    pub fn of(all: &[OsString], options: &[&str]) -> Result<Given, String> {
         let mut given = Given::default();
         let mut rest = all.iter();
         while let Some(word) = rest.next() {
             match word.to_str() {
                 Some("--help" | "-h") => given.help = true,
-                Some("--title") => given.title = true,
-                Some("--names") => given.names = Some(rest.next().ok_or("--names wants a file")?.clone()),
+                Some("--title") if options.contains(&"--title") => given.title = true,
+                Some("--names") if options.contains(&"--names") => given.names = Some(rest.next().ok_or("--names wants a file")?.clone()),
                 Some("--") => {
                     given.words.extend(rest.cloned());
                     break;

@@ -19,6 +19,7 @@ pub const BAD: u8 = 2;
 
 struct Command {
     name: &'static str,
+    options: &'static [&'static str],
     usage: &'static str,
     help: &'static str,
     run: fn(&Given) -> u8,
@@ -27,6 +28,7 @@ struct Command {
 const COMMANDS: [Command; 5] = [
     Command {
         name: "list",
+        options: &["--names", "--title"],
         usage: "reasons list [--names NAMES] [--title] FILE..",
         help: "The listing of each case file: the nogoods, and of each number the smallest groups of assumptions that carry it.\n\
                More than one file, or --title: each under its name; a file that is refused is passed over.\n",
@@ -34,12 +36,14 @@ const COMMANDS: [Command; 5] = [
     },
     Command {
         name: "check",
+        options: &[],
         usage: "reasons check FILE..",
         help: "Whether each case file loads: the exit status says so. Nothing is printed of one file; of several, the line of each refusal.\n",
         run: check,
     },
     Command {
         name: "why",
+        options: &["--names"],
         usage: "reasons why [--names NAMES] FILE N [K..]",
         help: "What the set of the assumptions K.. is to the number N, the group that makes it so, and stage by stage how it follows from that group.\n\
                Without K..: the line of N, and the same of each group in it.\n",
@@ -47,6 +51,7 @@ const COMMANDS: [Command; 5] = [
     },
     Command {
         name: "draw",
+        options: &["--names"],
         usage: "reasons draw [--names NAMES] FILE [N]",
         help: "Graphviz text of the justifications that the label of N rests on; without N, of all that are held.\n\
                Boxes are assumptions, ellipses claims, the octagon is falsity. Try: reasons draw FILE | dot -Tsvg\n",
@@ -54,6 +59,7 @@ const COMMANDS: [Command; 5] = [
     },
     Command {
         name: "rewrite",
+        options: &[],
         usage: "reasons rewrite FILE",
         help: "The case file of what FILE holds, on standard output: each justification once, in order, each number in its shortest form.\n",
         run: rewrite,
@@ -65,7 +71,9 @@ const COMMON: &str = "FILE is a case file, - standard input. NAMES is a text fil
 
 fn main() -> ExitCode {
     let words: Vec<_> = std::env::args_os().skip(1).collect();
-    ExitCode::from(run(&words))
+    let status = run(&words);
+    say::flush();
+    ExitCode::from(status)
 }
 
 fn run(words: &[std::ffi::OsString]) -> u8 {
@@ -75,10 +83,11 @@ fn run(words: &[std::ffi::OsString]) -> u8 {
         return DONE;
     }
     let Some(command) = COMMANDS.iter().find(|c| c.name == first) else {
-        say::error(&overview());
+        let what = words.first().map(|w| format!("reasons: no command {}\n", w.to_string_lossy())).unwrap_or_default();
+        say::error(&format!("{what}{}", overview()));
         return BAD;
     };
-    match Given::of(&words[1..]) {
+    match Given::of(&words[1..], command.options) {
         Ok(given) if given.help => {
             say::text(&format!("usage: {}\n{}{COMMON}", command.usage, command.help));
             DONE
@@ -158,7 +167,6 @@ fn list(given: &Given) -> u8 {
             Err(other) => status = status.max(other),
         }
     }
-    say::flush();
     status
 }
 
@@ -193,7 +201,6 @@ fn rewrite(given: &Given) -> u8 {
     match store_of(file, false) {
         Ok(store) => {
             say::bytes(&store.case_file().expect("a loaded store has the right shape"));
-            say::flush();
             DONE
         }
         Err(status) => status,

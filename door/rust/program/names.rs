@@ -25,7 +25,10 @@ impl Names {
                 say::error(&format!("{shown}: line {} is not `NUMBER NAME`\n", place + 1));
                 return Err(());
             };
-            all.insert(number, name.to_string());
+            if all.insert(number, name.to_string()).is_some() {
+                say::error(&format!("{shown}: line {} names {number} again\n", place + 1));
+                return Err(());
+            }
         }
         Ok(Names(all))
     }
@@ -73,5 +76,6 @@ impl Names {
 
 fn named(line: &str) -> Option<(u32, &str)> {
     let (number, name) = line.split_once(char::is_whitespace)?;
-    Some((number.parse().ok()?, name.trim()))
+    let digits = number.bytes().all(|b| b.is_ascii_digit());
+    Some((number.parse().ok().filter(|_| digits)?, name.trim()))
 }

@@ -32,7 +32,6 @@ pub fn why(given: &Given) -> u8 {
     match told {
         Ok(text) => {
             say::text(&text);
-            say::flush();
             DONE
         }
         Err(refusal) => {
@@ -44,7 +43,7 @@ pub fn why(given: &Given) -> u8 {
 
 /// The question of n and the set of these assumptions; one above 32, which no set has, is refused with 4 as one above A is.
 fn asked(store: &Store, n: u32, assumptions: &[u32], names: &Names) -> Result<String, Refusal> {
-    let set = Set::checked(assumptions).ok_or(Refusal::Number)?;
+    let set = Set::of(assumptions)?;
     let (word, from, goal) = match store.question(n, set)? {
         Answer::Inconsistent(nogood) => (format!("inconsistent {}", names.set(nogood)), nogood, 0),
         Answer::Supported(member) => (format!("supported {}", names.set(member)), member, n),
@@ -62,7 +61,7 @@ fn each_group(store: &Store, n: u32, names: &Names) -> Result<String, Refusal> {
     }
     if groups.is_empty() && n != 0 {
         let every: Vec<u32> = (1..=Case::of(store).assumptions).collect();
-        let all = Set::of(&every);
+        let all = Set::of(&every)?;
         text += &format!("{}\n{}", names.set(all), how(store, all, n, names));
     }
     Ok(text)
