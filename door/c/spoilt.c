@@ -1,6 +1,7 @@
 /* spoilt FILE N [SEED]: N stores, most of them spoilt copies of FILE's, through every call that takes a store.
    The right shape, and what the lists say, are worked out here from document 01; each call must answer 2 where the shape
    is wrong and what the lists say where it is right. Every lent range ends at a page that may not be touched. */
+#define _GNU_SOURCE
 #include "runs/common.h"
 
 static uint64_t state = 1;
