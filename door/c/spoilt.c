@@ -2,6 +2,7 @@
    lists, faulty and not, through those of a bare list. The right shape, and what the lists say, are worked out here from
    document 01; each call must answer 2 where the shape is wrong and what the lists say where it is right; each list its first
    fault, or what follows by it. Every lent range ends at a page that may not be touched. */
+#define _GNU_SOURCE
 #include "runs/common.h"
 
 static uint64_t state = 1;

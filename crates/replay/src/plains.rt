@@ -5,8 +5,6 @@ use bare::Told;
 use bare::What;
 use plain::Plain;
 use printing::say;
-use replies::Reply;
-use script::Read;
 use store::Store;
 ghost use Prim.Native.Nat.{_≤_};
 ghost use lib.ListN.{length};
@@ -44,15 +42,6 @@ fn word(answer: Plain) {
     }
 }
 
-// The bytes of a context of so many numbers, or the refusal.
-fn bytes(reply: Reply, values: [u8; 129], n: usize) {
-    if replies::number(reply) != 0 {
-        super::calls::refused(reply);
-        return;
-    }
-    super::calls::values(values, n);
-}
-
 // plain N K..
 fn ask(n: u32, set: &[u32], store: Store) {
     let out = plain::question(store, n, script::set_of(set));
@@ -66,7 +55,7 @@ fn context(set: &[u32], store: Store) {
     let out = plain::context(store, script::set_of(set), &mut values);
     let reply = out.reply;
     let held = store.held;
-    bytes(
+    super::calls::filled(
         reply,
         values,
         held.assumptions as usize + held.claims as usize + 1,
@@ -88,22 +77,9 @@ fn stages(set: &[u32], store: Store) {
     lines(set, store, &mut text);
 }
 
-// Whether the set may be asked of the store: a 0 is a bad line, a number above 32 is refused.
-fn sound(set: &[u32], number: u32) -> bool {
-    if script::has_zero(set) {
-        super::calls::bad(number);
-        return false;
-    }
-    if script::has_above(set) {
-        super::calls::refused(Reply::Number);
-        return false;
-    }
-    true
-}
-
 // plaincontext K.., stages K..
 fn of_set(name: &[u8], set: &[u32], number: u32, store: Store) {
-    if !sound(set, number) {
+    if !super::calls::sound(set, number) {
         return;
     }
     if script::same(name, b"stages") {
@@ -113,33 +89,23 @@ fn of_set(name: &[u8], set: &[u32], number: u32, store: Store) {
 }
 
 // The calls on the store.
-pub fn read(name: &[u8], rest: &[u8], number: u32, store: Store) {
-    let mut fields = [0u32; super::calls::MOST];
-    let read = script::numbers(rest, 0, &mut fields);
-    let Read::Count(n) = read else {
-        super::calls::bad(number);
-        return;
-    };
-    if super::calls::MOST < n {
-        return;
-    }
+pub fn read(name: &[u8], fields: &[u32], number: u32, store: Store) {
     if !script::same(name, b"plain") {
-        return of_set(name, &fields[..n], number, store);
+        return of_set(name, fields, number, store);
     }
-    if n < 1 {
+    if fields.len() < 1 {
         return super::calls::bad(number);
     }
-    if sound(&fields[1..n], number) {
-        ask(fields[0], &fields[1..n], store);
+    if super::calls::sound(&fields[1..], number) {
+        ask(fields[0], &fields[1..], store);
     }
 }
 
 // bareask A M N K..
-fn bare_ask(query: Query, hand: Hand) {
+fn bare_ask(query: Query, hand: Hand)
+    requires { ⌜ hand .count ≤ 256 ⌝ }
+{
     let n = hand.count;
-    if 256 < n {
-        return;
-    }
     let items = hand.items;
     let mut none = [0u8; 1];
     let told = bare::ask_some(query, items, n, &mut none);
@@ -149,35 +115,27 @@ fn bare_ask(query: Query, hand: Hand) {
 }
 
 // barecontext A M K..
-fn bare_context(query: Query, hand: Hand) {
+fn bare_context(query: Query, hand: Hand)
+    requires { ⌜ hand .count ≤ 256 ⌝ }
+{
     let n = hand.count;
-    if 256 < n {
-        return;
-    }
     let items = hand.items;
     let mut values = [0u8; 129];
     let told = bare::ask_some(query, items, n, &mut values);
     if let Told::Filled(reply) = told {
-        let a = query.assumptions;
-        let m = query.claims;
-        if 32 < a {
-            return super::calls::refused(reply);
-        }
-        if 96 < m {
-            return super::calls::refused(reply);
-        }
-        bytes(reply, values, a as usize + m as usize + 1);
+        super::calls::filled(
+            reply,
+            values,
+            query.assumptions as usize + query.claims as usize + 1,
+        );
     }
 }
 
 // The lines of a bare list, on bytes that are enough for any.
 fn bare_lines(query: Query, hand: Hand, text: &mut [u8])
-    requires { ⌜ longest ≤ length (now text) ⌝ }
+    requires { ⌜ (longest ≤ length (now text)) × (hand .count ≤ 256) ⌝ }
 {
     let n = hand.count;
-    if 256 < n {
-        return;
-    }
     let items = hand.items;
     let told = bare::ask_some(query, items, n, text);
     if let Told::Lines(answer) = told {
@@ -186,7 +144,9 @@ fn bare_lines(query: Query, hand: Hand, text: &mut [u8])
 }
 
 // barestages A M K..
-fn bare_stages(query: Query, hand: Hand) {
+fn bare_stages(query: Query, hand: Hand)
+    requires { ⌜ hand .count ≤ 256 ⌝ }
+{
     let mut text = [0u8; stagetext::LONGEST];
     bare_lines(query, hand, &mut text);
 }
@@ -205,65 +165,74 @@ fn bounded(set: &[u32], number: u32) -> bool {
 }
 
 // barecontext A M K.., barestages A M K..
-fn bare_set(name: &[u8], assumptions: u32, claims: u32, set: &[u32], number: u32, hand: Hand) {
-    if !bounded(set, number) {
+fn bare_set(name: &[u8], fields: &[u32], number: u32, hand: Hand)
+    requires { ⌜ hand .count ≤ 256 ⌝ }
+{
+    if fields.len() < 2 {
+        return super::calls::bad(number);
+    }
+    if !bounded(&fields[2..], number) {
         return;
     }
-    let e = script::set_of(set);
+    let assumptions = fields[0];
+    let claims = fields[1];
+    let set = script::set_of(&fields[2..]);
     if script::same(name, b"barestages") {
         let what = What::Stages;
-        let query = Query {
+        return bare_stages(
+            Query {
+                assumptions,
+                claims,
+                what,
+                set,
+            },
+            hand,
+        );
+    }
+    let what = What::Context;
+    bare_context(
+        Query {
             assumptions,
             claims,
             what,
-            set: e,
-        };
-        return bare_stages(query, hand);
-    }
-    let what = What::Context;
-    let query = Query {
-        assumptions,
-        claims,
-        what,
-        set: e,
-    };
-    bare_context(query, hand);
+            set,
+        },
+        hand,
+    );
 }
 
 // bareask A M N K..
-fn bare_number(assumptions: u32, claims: u32, n: u32, set: &[u32], number: u32, hand: Hand) {
-    if !bounded(set, number) {
+fn bare_number(fields: &[u32], number: u32, hand: Hand)
+    requires { ⌜ hand .count ≤ 256 ⌝ }
+{
+    if fields.len() < 3 {
+        return super::calls::bad(number);
+    }
+    if !bounded(&fields[3..], number) {
         return;
     }
-    let what = What::Number(n);
-    let query = Query {
-        assumptions,
-        claims,
-        what,
-        set: script::set_of(set),
-    };
-    bare_ask(query, hand);
+    let assumptions = fields[0];
+    let claims = fields[1];
+    let what = What::Number(fields[2]);
+    let set = script::set_of(&fields[3..]);
+    bare_ask(
+        Query {
+            assumptions,
+            claims,
+            what,
+            set,
+        },
+        hand,
+    );
 }
 
 // The calls on the list in hand.
-pub fn bare(name: &[u8], rest: &[u8], number: u32, hand: Hand) {
-    let mut fields = [0u32; super::calls::MOST];
-    let read = script::numbers(rest, 0, &mut fields);
-    let Read::Count(n) = read else {
-        super::calls::bad(number);
-        return;
-    };
-    if super::calls::MOST < n {
-        return;
-    }
-    if n < 2 {
+pub fn bare(name: &[u8], fields: &[u32], number: u32, hand: Hand) {
+    if 256 < hand.count {
         return super::calls::bad(number);
     }
-    if !script::same(name, b"bareask") {
-        return bare_set(name, fields[0], fields[1], &fields[2..n], number, hand);
+    if script::same(name, b"bareask") {
+        return bare_number(fields, number, hand);
     }
-    if n < 3 {
-        return super::calls::bad(number);
-    }
-    bare_number(fields[0], fields[1], fields[2], &fields[3..n], number, hand);
+    bare_set(name, fields, number, hand);
 }

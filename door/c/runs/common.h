@@ -64,7 +64,7 @@ static inline reasons_store added(reasons_store s, uint32_t consequent, const ui
 }
 
 /* The listed case of document 01. */
-static inline reasons_store listed(void) {
+static inline reasons_store listed_case(void) {
     reasons_store s = added(opened(3, 2), 4, OF(1));
     s = added(s, 4, OF(2, 3));
     s = added(s, 5, OF(2, 4));

@@ -24,7 +24,7 @@ static uint8_t *file(const reasons_store *s, size_t room) {
 }
 
 int main(void) {
-    reasons_store s = listed(), again, wrong = counting(s, 33, 2);
+    reasons_store s = listed_case(), again, wrong = counting(s, 33, 2);
     uint32_t record;
     line("21 bytes", &s, 4, 21, "\n");
     line("22 bytes", &s, 4, 22, "");

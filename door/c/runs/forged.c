@@ -155,7 +155,7 @@ static void unlisted(reasons_store base) {
 }
 
 int main(void) {
-    reasons_store base = listed();
+    reasons_store base = listed_case();
     const char *name;
     for (int k = 0;; k++) {
         layout l = places(&base);
