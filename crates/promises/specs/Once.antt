@@ -27,8 +27,8 @@ use Rattle.listing.proofs.printed as printed-at
 use Rattle.listing.proofs.printed.Reads as printed-reads
 use Rattle.labels.proofs.stirred as stirred-at
 use Rattle.labels.proofs.stirred.Reads as stirred-reads
-use Rattle.lines.proofs.lined as lined-at
-use Rattle.lines.proofs.lined.Reads as lined-reads
+use Rattle.wording.proofs.lined as lined-at
+use Rattle.wording.proofs.lined.Reads as lined-reads
 use Rattle.lines.proofs.case_line as case-line-at
 use Rattle.lines.proofs.case_line.Reads as case-line-reads
 use Rattle.lines.proofs.line as line-at

@@ -1,16 +1,16 @@
--- `lines::worded` meets its contract. Assumes nothing.
+-- `wording::worded` meets its contract. Assumes nothing.
 use mathlib.Core.Bool.{Bool}
 use mathlib.Core.List.{List}
 use mathlib.Core.Path.{_∙_, _≡_, ap}
 use Prim.Native.Nat.{ℕ}
-use Rattle.lines.proofs.Rows.{word-nogood, word-none, word-some}
-use Rattle.lines.specs.Lines.{wordOf}
+use Rattle.wording.proofs.Rows.{word-nogood, word-none, word-some}
+use Rattle.wording.specs.Wording.{wordOf}
 use Rattle.text.proofs.Writing.{Left, left-as}
 use Rattle.text.specs.Texts.{row, word}
 use Rattle.theory.specs.Lists.{choose}
 use borrow.Author.Needs.{needs}
-use Rattle.lines.proofs.worded.Statement.{statement}
-use Rattle.lines.proofs.worded.Tie as tie
+use Rattle.wording.proofs.worded.Statement.{statement}
+use Rattle.wording.proofs.worded.Tie as tie
 
 -- the line of s with the words given
 abbrev Worded : tie.Start → List ℕ → Type 0

@@ -3,8 +3,6 @@ use mathlib.Core.Bool.{true}
 use mathlib.Core.Path.{_≡_}
 use Prim.Native.Nat.{_<_, _≤_, ℕ}
 use lib.ListN.{getD, length}
-use native.Mathlib.Omega.{arith}
-use Rattle.following.specs.Promised.{Followable}
 use Rattle.rules.proofs.Scan.{right-elim}
 use Rattle.shape.proofs.Elim.{Shaped, label-few, lists-elim}
 use Rattle.store.proofs.Shapes.{shape-elim}
@@ -32,6 +30,3 @@ bounded s t =
       sizes = label-few (s .lists) (h .assumptions) (top h) l;
       nogoods = l .nogoods .few;
     }
-
-pub followable : (s : Store) → rightShape s ≡ true → Followable (s .held)
-followable s t = let h = shape-elim s t .0 in record { right = h .right; low = omega (arith, h .few, h .claims) }

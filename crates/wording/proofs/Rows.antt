@@ -1,15 +1,13 @@
 -- Laws of the text of a line: its word and its list, test by test. Assumes nothing.
 use mathlib.Core.Bool.{Bool, _&&_}
 use mathlib.Core.List.{List, [], _∷_}
-use mathlib.Core.Path.{_∙_, _≡_, ap, refl}
+use mathlib.Core.Path.{_≡_, refl}
 use Prim.Native.Nat.{_*_, _+_, _-_, _<_, _≤_, suc, zero, ℕ}
 use native.Mathlib.Omega.{arith}
 use lib.Dec.{eqb}
 use lib.ListN.{drop, getD, length, take}
-use Rattle.lines.specs.Lines.{lineText, lineWith, wordOf}
+use Rattle.wording.specs.Wording.{lineWith, wordOf}
 use Rattle.stages.specs.declared.Lists.{Lists}
-use Rattle.store.specs.Reading.{contradictedIn, heldFromAll, labelHeld}
-use Rattle.store.specs.declared.Store.{Store}
 use Rattle.text.specs.Texts.{row, word}
 use Rattle.theory.specs.Lists.{choose}
 
@@ -55,12 +53,3 @@ module _ (t : Lists) where
       let e : suc i - 1 ≡ i = omega arith in
       let f : 12 * i + getD (t .sizes) i 0 - 12 * i ≡ getD (t .sizes) i 0 = omega arith in
       rw (e, f)
-
--- ---- what is followed
-
-pub text-told : (s : Store) (n : ℕ) (c : Bool) → c ≡ contradictedIn s n → lineWith (s .lists) n c ≡ lineText s n
-unfolding lineText lineWith wordOf
-text-told s zero c e = refl
-text-told s (suc i) c e =
-    let l : List ℕ = labelHeld (s .lists) (suc i) in
-    ap (λ (w : List ℕ). row 32 (suc i) w l) (ap (wordOf (suc i) l) e ∙ word-told (suc i) l (heldFromAll s (suc i)) (λ h. absurd (omega arith)))

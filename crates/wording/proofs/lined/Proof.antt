@@ -1,17 +1,17 @@
--- `lines::lined` meets its contract. Assumes nothing.
+-- `wording::lined` meets its contract. Assumes nothing.
 use mathlib.Core.Path.{_≡_, sym}
 use Prim.Native.Nat.{_-_, _≤_}
 use native.Mathlib.Omega.{arith}
 use lib.ListN.{getD, length, take}
 use lib.Seq.{length-take-le}
-use Rattle.lines.proofs.Bounds.{bounded}
-use Rattle.lines.proofs.Rows.{labelOf, text-label, text-nogoods}
-use Rattle.lines.specs.Lines.{lineWith, wordOf}
+use Rattle.wording.proofs.Bounds.{bounded}
+use Rattle.wording.proofs.Rows.{labelOf, text-label, text-nogoods}
+use Rattle.wording.specs.Wording.{lineWith, wordOf}
 use Rattle.text.proofs.Writing.{Left, left-as}
 use Rattle.text.specs.Texts.{row}
 use borrow.Author.Needs.{needs}
-use Rattle.lines.proofs.lined.Statement.{statement}
-use Rattle.lines.proofs.lined.Tie as tie
+use Rattle.wording.proofs.lined.Statement.{statement}
+use Rattle.wording.proofs.lined.Tie as tie
 
 nogoods : (c : tie.Then1) → let s = c .before .before .before in let l = s .args .store .lists in let n = s .args .n in let out = s .args .out .now in let x = take (l .count) (l .nogoods) in
     Left (row 32 n (wordOf n x (s .args .follows)) x) 0 out (lineWith l n (s .args .follows)) 0 out
