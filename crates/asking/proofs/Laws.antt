@@ -9,7 +9,7 @@ use native.Mathlib.Omega.{arith}
 use lib.Dec.{eqb, ltb}
 use lib.ListN.{drop, getD, length, length-drop, length-take, set, take}
 use lib.Seq.{drop-cons, getD-drop, getD-take, length-take-le, set-at}
-use borrow.Author.Tests.{le-leb, le-ltb, lt-leb, lt-ltb}
+use borrow.Author.Tests.{le-leb, le-ltb, lt-leb, lt-ltb, ne-eqb}
 use Rattle.asking.specs.Asking.{Left, Room, byteOf, contextBytes, contextOf, contextReply, firstIn, left, memberAt, memberOf, questionOf, reasoned, standing}
 use Rattle.asking.specs.declared.Answer.{Answer}
 use Rattle.asking.specs.declared.Answer.the-variants.{Inconsistent, Refused, Supported, Unsupported}
@@ -19,14 +19,16 @@ use Rattle.asking.specs.declared.Found.the-variants.{Is, Not}
 use Rattle.asking.specs.declared.Shown.{Shown}
 use Rattle.following.proofs.Places.{all-told}
 use Rattle.following.specs.Marks.{allMarks}
-use Rattle.following.specs.Promised.{Followable}
 use Rattle.labels.specs.Promised.{firstWithin}
+use Rattle.replies.specs.Replies.{numberOf}
+use Rattle.replies.specs.declared.Reply.{Reply}
 use Rattle.replies.specs.declared.Reply.the-variants.{Done, Number, Place, Shape, Short}
 use Rattle.shape.proofs.Elim.{label-few, lists-elim}
 use Rattle.stages.specs.declared.Lists.{Lists}
+use Rattle.store.proofs.Reading.{Readable, refused, refused-number, refused-set}
 use Rattle.store.proofs.Shapes.{shape-elim}
-use Rattle.store.specs.Calls.{answer}
-use Rattle.store.specs.Reading.{contradictedIn, labelHeld, nogoodsHeld, unlabelled}
+use Rattle.store.specs.Calls.{answer, isDone}
+use Rattle.store.specs.Reading.{contradictedIn, labelHeld, nogoodsHeld, refusalOf, unlabelled}
 use Rattle.store.specs.Shape.{rightShape, top}
 use Rattle.store.specs.declared.Store.{Store}
 use Rattle.theory.proofs.Places.{getD-table, is-table, length-table}
@@ -176,63 +178,44 @@ module _ (s : Store) where
       let l = lists-elim (s .lists) (s .held .assumptions) (top (s .held)) (r .1) in
       record { nogoods = omega (arith, l .nogoods .few); labels = label-few (s .lists) (s .held .assumptions) (top (s .held)) l }
 
-  pub few : rightShape s ≡ true → (s .held .assumptions ≤ 32) × (s .held .claims ≤ 96)
-  few t = let f = shape-elim s t .0 in (f .few, f .claims)
-
-  pub followable : rightShape s ≡ true → Followable (s .held)
-  followable t = let f = shape-elim s t .0 in record { right = f .right; low = omega (arith, f .few, f .claims) }
-
   abbrev asked : Answer → Asked
   asked a = record { answer = a; store = s }
 
   abbrev shown : Found → Shown
   shown a = record { answer = a; store = s }
 
-  pub question-shape : (n E : ℕ) → rightShape s ≡ false → asked (Refused Shape) ≡ asked (questionOf s n E)
+  pub question-refused : (n E : ℕ) (r : Reply) → r ≡ refusalOf s n E → (numberOf r ≡ 0 → ⊥) → asked (Refused r) ≡ asked (questionOf s n E)
   unfolding questionOf
-  question-shape n E h = rw h
+  question-refused n E r e d = ap asked (refused s n E r e d Refused (standing (s .lists) n E))
 
-  pub question-number : (n E : ℕ) → rightShape s ≡ true → top (s .held) < n → asked (Refused Number) ≡ asked (questionOf s n E)
+  pub question-stands : (n E : ℕ) → Readable s n E → (a : Answer) → a ≡ standing (s .lists) n E → asked a ≡ asked (questionOf s n E)
   unfolding questionOf
-  question-number n E h k = rw (h, lt-ltb (top (s .held)) n k)
+  question-stands n E k a q = rw (k .right, le-ltb (top (s .held)) n (k .number), k .set) (ap asked q)
 
-  pub question-set : (n E : ℕ) → rightShape s ≡ true → n ≤ top (s .held) → inRange (s .held .assumptions) E ≡ false → asked (Refused Number) ≡ asked (questionOf s n E)
-  unfolding questionOf
-  question-set n E h k r = rw (h, le-ltb (top (s .held)) n k, r)
-
-  pub question-stands : (n E : ℕ) → rightShape s ≡ true → n ≤ top (s .held) → inRange (s .held .assumptions) E ≡ true → (a : Answer) → a ≡ standing (s .lists) n E → asked a ≡ asked (questionOf s n E)
-  unfolding questionOf
-  question-stands n E h k r a e = rw (h, le-ltb (top (s .held)) n k, r) (ap asked e)
-
-  pub member-shape : (n place : ℕ) → rightShape s ≡ false → shown (Not Shape) ≡ shown (memberOf s n place)
+  pub member-refused : (n place : ℕ) (r : Reply) → r ≡ refusalOf s n 0 → (numberOf r ≡ 0 → ⊥) → shown (Not r) ≡ shown (memberOf s n place)
   unfolding memberOf
-  member-shape n place h = rw h
+  member-refused n place r e d = ap shown (refused-number s n r e d Not (memberAt (s .lists) n place))
 
-  pub member-number : (n place : ℕ) → rightShape s ≡ true → top (s .held) < n → shown (Not Number) ≡ shown (memberOf s n place)
+  pub member-at : (n place : ℕ) → Readable s n 0 → (a : Found) → a ≡ memberAt (s .lists) n place → shown a ≡ shown (memberOf s n place)
   unfolding memberOf
-  member-number n place h k = rw (h, lt-ltb (top (s .held)) n k)
+  member-at n place k a q = rw (k .right, le-ltb (top (s .held)) n (k .number)) (ap shown q)
 
-  pub member-at : (n place : ℕ) → rightShape s ≡ true → n ≤ top (s .held) → (a : Found) → a ≡ memberAt (s .lists) n place → shown a ≡ shown (memberOf s n place)
-  unfolding memberOf
-  member-at n place h k a e = rw (h, le-ltb (top (s .held)) n k) (ap shown e)
-
-  module _ (E : ℕ) (out : List ℕ) where
+  -- a context, whose bytes are x where it is done
+  module _ (E : ℕ) (out x : List ℕ) where
     abbrev goal : Left
-    goal = left (answer (contextReply s E (length out)) s) (contextBytes s E out)
+    goal = let t : Reply = contextReply s E (length out) in left (answer t s) (choose (isDone t) x out)
 
-    pub context-shape : rightShape s ≡ false → left (answer Shape s) out ≡ goal
-    unfolding contextReply contextBytes
-    context-shape h = rw h
+    pub context-refused : (r : Reply) → r ≡ refusalOf s 0 E → (numberOf r ≡ 0 → ⊥) → left (answer r s) out ≡ goal
+    unfolding contextReply
+    context-refused r e d =
+        ap (λ (b : Bool). left (answer r s) (choose b x out)) (sym (ne-eqb (numberOf r) 0 d))
+        ∙ ap (λ (t : Reply). left (answer t s) (choose (isDone t) x out)) (refused-set s E r e d (λ t. t) (choose (ltb (length out) (top (s .held) + 1)) Short Done))
 
-    pub context-set : rightShape s ≡ true → inRange (s .held .assumptions) E ≡ false → left (answer Number s) out ≡ goal
-    unfolding contextReply contextBytes
-    context-set h r = rw (h, r)
+    module _ (k : Readable s 0 E) where
+      pub context-short : length out < top (s .held) + 1 → left (answer Short s) out ≡ goal
+      unfolding contextReply
+      context-short h = rw (k .right, k .set, lt-ltb (length out) (top (s .held) + 1) h)
 
-    pub context-short : rightShape s ≡ true → inRange (s .held .assumptions) E ≡ true → length out < top (s .held) + 1 → left (answer Short s) out ≡ goal
-    unfolding contextReply contextBytes
-    context-short h r k = rw (h, r, lt-ltb (length out) (top (s .held) + 1) k)
-
-    pub context-done : rightShape s ≡ true → inRange (s .held .assumptions) E ≡ true → top (s .held) + 1 ≤ length out
-        → (after : List ℕ) → after ≡ table (top (s .held) + 1) (λ n. byteOf (contradictedIn s n) (standing (s .lists) n E)) ++ drop (top (s .held) + 1) out → left (answer Done s) after ≡ goal
-    unfolding contextReply contextBytes contextOf
-    context-done h r k after e = rw (h, r, le-ltb (length out) (top (s .held) + 1) k) (ap (left (answer Done s)) e)
+      pub context-done : top (s .held) + 1 ≤ length out → (after : List ℕ) → after ≡ x → left (answer Done s) after ≡ goal
+      unfolding contextReply
+      context-done h after q = rw (k .right, k .set, le-ltb (length out) (top (s .held) + 1) h) (ap (left (answer Done s)) q)

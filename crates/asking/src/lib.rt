@@ -74,30 +74,16 @@ fn stands(lists: Lists, n: usize, e: u32) -> Answer
 pub fn question(store: Store, n: u32, e: u32) -> Asked
     ensures { λ r. ⌜ Questioned store n e r ⌝ }
 {
-    if store.shape() {
-        let held = store.held;
-        let a = held.assumptions;
-        let top = (a + held.claims) as u32;
-        if top < n {
-            return Asked {
-                answer: Answer::Refused(Reply::Number),
-                store,
-            };
-        }
-        if sets::low(e, a) {
-            let lists = store.lists;
-            let answer = stands(lists, n as usize, e);
-            return Asked { answer, store };
-        }
+    let reply = store.refusal(n, e);
+    if replies::number(reply) != 0 {
         return Asked {
-            answer: Answer::Refused(Reply::Number),
+            answer: Answer::Refused(reply),
             store,
         };
     }
-    Asked {
-        answer: Answer::Refused(Reply::Shape),
-        store,
-    }
+    let lists = store.lists;
+    let answer = stands(lists, n as usize, e);
+    Asked { answer, store }
 }
 
 // The byte of n where a consistent set does not support it; follows tells whether n follows from all assumptions together.
@@ -148,31 +134,22 @@ fn fill(store: Store, marks: &[u8], e: u32, end: usize, out: &mut [u8])
 pub fn context(store: Store, e: u32, out: &mut [u8]) -> Outcome
     ensures { λ r. ⌜ Contexted store e (now (out .entry)) r (now (out .exit)) ⌝ }
 {
-    if store.shape() {
-        let held = store.held;
-        let a = held.assumptions;
-        if sets::low(e, a) {
-            let end = (a + held.claims) as usize + 1;
-            if out.len() < end {
-                return Outcome {
-                    reply: Reply::Short,
-                    store,
-                };
-            }
-            let marks = following::from_all(held);
-            fill(store, &marks, e, end, out);
-            return Outcome {
-                reply: Reply::Done,
-                store,
-            };
-        }
+    let reply = store.refusal(0, e);
+    if replies::number(reply) != 0 {
+        return Outcome { reply, store };
+    }
+    let held = store.held;
+    let end = (held.assumptions + held.claims) as usize + 1;
+    if out.len() < end {
         return Outcome {
-            reply: Reply::Number,
+            reply: Reply::Short,
             store,
         };
     }
+    let marks = following::from_all(held);
+    fill(store, &marks, e, end, out);
     Outcome {
-        reply: Reply::Shape,
+        reply: Reply::Done,
         store,
     }
 }
@@ -200,21 +177,14 @@ fn at(lists: Lists, n: usize, place: usize) -> Found
 pub fn member(store: Store, n: u32, place: usize) -> Shown
     ensures { λ r. ⌜ Membered store n place r ⌝ }
 {
-    if store.shape() {
-        let held = store.held;
-        let top = (held.assumptions + held.claims) as u32;
-        if top < n {
-            return Shown {
-                answer: Found::Not(Reply::Number),
-                store,
-            };
-        }
-        let lists = store.lists;
-        let answer = at(lists, n as usize, place);
-        return Shown { answer, store };
+    let reply = store.refusal(n, 0);
+    if replies::number(reply) != 0 {
+        return Shown {
+            answer: Found::Not(reply),
+            store,
+        };
     }
-    Shown {
-        answer: Found::Not(Reply::Shape),
-        store,
-    }
+    let lists = store.lists;
+    let answer = at(lists, n as usize, place);
+    Shown { answer, store }
 }

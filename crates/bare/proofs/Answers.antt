@@ -10,7 +10,7 @@ use borrow.Author.Tests.{ltb-false}
 use Rattle.bare.proofs.Chased.{Ends, Stand, Stands, ended, faulty, over, runs}
 use Rattle.bare.proofs.Items.{bare-placed}
 use Rattle.bare.specs.Bare.{Answered, answered, askOf, barely, faultsOf, overCounts, refusedAs, tellOf, wroteAs}
-use Rattle.bare.specs.Chasing.{filledIn, finishOf, startOf, toldIn}
+use Rattle.bare.specs.Chasing.{finishOf, startOf, toldIn}
 use Rattle.bare.specs.declared.Query.{Query}
 use Rattle.bare.specs.declared.Chase.{Chase}
 use Rattle.bare.specs.declared.Told.the-variants.{Filled, Word}
@@ -21,12 +21,12 @@ use Rattle.following.specs.First.{sinceOf}
 use Rattle.handed.specs.declared.Handed.{Handed}
 use Rattle.lent.specs.Lent.{fitted}
 use Rattle.plain.proofs.Laws.{bytes-plain, read-plain}
-use Rattle.plain.specs.Plainly.{byteOf, plainBy, readFrom}
+use Rattle.plain.specs.Plainly.{byteOf, fillBytes, plainBy, readFrom}
 use Rattle.plain.specs.declared.Plain.{Plain}
 use Rattle.plain.specs.declared.Plain.the-variants.{Refused}
 use Rattle.replies.specs.declared.Reply.{Reply}
 use Rattle.replies.specs.declared.Reply.the-variants.{Counts, Done, Number, Short}
-use Rattle.stagetext.proofs.Laws.{text-is}
+use Rattle.stagetext.proofs.Laws.{put-within, text-is}
 use Rattle.stagetext.specs.Stagetext.{rowsIn}
 use Rattle.store.specs.Calls.{isDone}
 use Rattle.theory.specs.Lists.{choose}
@@ -41,11 +41,16 @@ module _ (N : ℕ) (low : N ≤ 128) (J : List Justification) (w : Placed J) (E 
   word-plain n false t = read-plain J w E m e n (omega (arith, low, ltb-false N n t))
 
   told-plain : (x : What) (out : List ℕ) → toldIn m N x out ≡ tellOf N J E x out
-  unfolding filledIn
+  unfolding fillBytes
   told-plain (Of n) out = ap (λ (a : Plain). answered (Word a) out) (word-plain n (ltb N n) refl)
   told-plain Context out =
-      ap (λ (t : List ℕ). choose (ltb (length out) (N + 1)) (answered (Filled Short) out) (answered (Filled Done) (t ++ drop (N + 1) out))) (bytes-plain J w E m e (N + 1) (omega (arith, low)))
-  told-plain Stages out = ap (λ (t : List ℕ). wroteAs (fitted t out)) (ap (rowsIn (N + 1)) e ∙ text-is J w E N low)
+      go (ltb (length out) (N + 1)) (table (N + 1) (λ n. byteOf (readFrom m n)) ++ drop (N + 1) out)
+      ∙ ap (λ (t : List ℕ). choose (ltb (length out) (N + 1)) (answered (Filled Short) out) (answered (Filled Done) (t ++ drop (N + 1) out))) (bytes-plain J w E m e (N + 1) (omega (arith, low)))
+    where
+      go : (b : Bool) (x : List ℕ) → answered (Filled (choose b Short Done)) (choose b out x) ≡ choose b (answered (Filled Short) out) (answered (Filled Done) x)
+      go true x = refl
+      go false x = refl
+  told-plain Stages out = ap wroteAs (sym (put-within m N out low) ∙ ap (λ (t : List ℕ). fitted t out) (ap (rowsIn (N + 1)) e ∙ text-is J w E N low))
 
 module _ (q : Query) (l : List Handed) (out : List ℕ) where
   abbrev N : ℕ

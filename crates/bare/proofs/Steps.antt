@@ -1,15 +1,15 @@
 -- The functions of this crate, test by test. Assumes nothing.
 use mathlib.Core.Bool.{Bool, _&&_, _||_, false, not, true}
-use mathlib.Core.List.{List, [], _++_, _∷_}
-use mathlib.Core.Path.{_∙_, _≡_, ap, ap₂, refl, subst, sym}
-use Prim.Native.Nat.{_+_, _<_, _^_, _≤_, suc, zero, ℕ}
+use mathlib.Core.List.{List, [], _∷_}
+use mathlib.Core.Path.{_∙_, _≡_, ap, ap₂, refl, sym}
+use Prim.Native.Nat.{_+_, _<_, _≤_, ℕ}
 use native.Mathlib.Decide.{decLt}
 use native.Mathlib.Omega.{arith}
-use lib.Dec.{eqb, leb, ltb}
-use lib.ListN.{drop, getD, length, replicate, set, take}
+use lib.Dec.{leb, ltb}
+use lib.ListN.{getD, length, replicate, set, take}
 use borrow.Author.Tests.{eq-eqb, le-leb, le-ltb, lt-ltb, ltb-false, ne-eqb}
 use Rattle.bare.specs.Bare.{Answered, answered, faultOfItem, justOf, overCounts, refusedAs, wroteAs}
-use Rattle.bare.specs.Chasing.{againOf, begunOf, filledIn, finishOf, followOf, haltOf, onwardOf, startOf, stepOf, toldIn, wordIn}
+use Rattle.bare.specs.Chasing.{againOf, begunOf, finishOf, followOf, haltOf, onwardOf, startOf, stepOf, toldIn}
 use Rattle.bare.specs.declared.Query.{Query}
 use Rattle.bare.specs.declared.Chase.{Chase}
 use Rattle.bare.specs.declared.Told.{Told}
@@ -18,34 +18,28 @@ use Rattle.bare.specs.declared.What.{What}
 use Rattle.bare.specs.declared.What.the-variants.{Context, Number as Of, Stages}
 use Rattle.following.proofs.Passing.{getD-any}
 use Rattle.following.specs.Marks.{givenBy, markBy, sown}
+use Rattle.handed.proofs.Supplied.{supplied-few}
 use Rattle.handed.specs.Supplied.{suppliedBy}
 use Rattle.handed.specs.declared.Handed.{Handed}
-use Rattle.lent.specs.Lent.{fitted}
 use Rattle.lent.specs.declared.Written.{Written}
 use Rattle.lent.specs.declared.Written.the-variants.{Refused as Unwritten}
-use Rattle.plain.specs.Plainly.{byteOf, readFrom}
+use Rattle.plain.specs.Plainly.{fillBytes, fillReply, wordIn}
 use Rattle.plain.specs.declared.Plain.{Plain}
 use Rattle.plain.specs.declared.Plain.the-variants.{Refused}
 use Rattle.replies.specs.Replies.{numberOf}
 use Rattle.replies.specs.declared.Reply.{Reply}
-use Rattle.replies.specs.declared.Reply.the-variants.{Counts, Done, Number, Short, Supports}
+use Rattle.replies.specs.declared.Reply.the-variants.{Counts, Done, Number, Supports}
 use Rattle.rules.proofs.Laws.{canonical-fits, faultless-ranged}
 use Rattle.rules.specs.Held.{entryOf, meaning}
 use Rattle.rules.specs.Items.{faultOf, justificationOf}
 use Rattle.rules.specs.declared.Entry.{Entry}
-use Rattle.stagetext.specs.Stagetext.{rowsIn}
-use Rattle.store.specs.Calls.{isDone}
+use Rattle.stagetext.specs.Stagetext.{putOf}
 use Rattle.theory.proofs.Lists.{all-intro, clash}
 use Rattle.theory.specs.Lists.{allOf, choose}
-use Rattle.theory.specs.Places.{table}
 use Rattle.theory.specs.Sets.{inRange}
 use Rattle.theory.specs.Stages.{Justification}
 
 -- ---- before the first item
-
-power : (a : ℕ) → 0 < 2 ^ a
-power zero = omega arith
-power (suc a) = omega (arith, power a)
 
 module _ (q : Query) where
   pub over-yes : 32 < q .assumptions → true ≡ overCounts q
@@ -61,14 +55,6 @@ module _ (q : Query) where
       go true b s t f = clash refl f
       go false true s t f = clash refl f
       go false false s t f = (ltb-false 32 (q .assumptions) s, ltb-false 96 (q .claims) t)
-
-  pub low-set : (E : ℕ) → E ≡ startOf q → inRange (q .assumptions) E ≡ true
-  unfolding inRange
-  low-set E e = ap (inRange (q .assumptions)) e ∙ go (inRange (q .assumptions) (q .set)) refl
-    where
-      go : (b : Bool) → inRange (q .assumptions) (q .set) ≡ b → inRange (q .assumptions) (choose b (q .set) 0) ≡ true
-      go true t = t
-      go false t = lt-ltb 0 (2 ^ (q .assumptions)) (power (q .assumptions))
 
   pub begun-over : (items : ℕ) → overCounts q ≡ true → record { reply = Counts; assumptions = 0; top = 0; count = items; at = items; stage = 0; new = false; marks = replicate 129 255 } ≡ begunOf items q
   unfolding begunOf
@@ -89,16 +75,12 @@ module _ (q : Query) where
 -- ---- one item
 
 module _ (N : ℕ) (h : Handed) where
-  supplied-few : h .count ≤ 4 → suppliedBy h ≡ take (h .count) (h .supports)
-  unfolding suppliedBy
-  supplied-few p = ap (λ (b : Bool). choose b (0 ∷ 0 ∷ 0 ∷ 0 ∷ 0 ∷ []) (take (h .count) (h .supports))) (le-ltb 4 (h .count) p)
-
   pub fault-five : 4 < h .count → Supports ≡ faultOfItem N h
   unfolding suppliedBy faultOf
   fault-five p = sym (ap (λ (b : Bool). faultOf N (h .consequent) (choose b (0 ∷ 0 ∷ 0 ∷ 0 ∷ 0 ∷ []) (take (h .count) (h .supports)))) (lt-ltb 4 (h .count) p))
 
   pub fault-few : h .count ≤ 4 → faultOf N (h .consequent) (take (h .count) (h .supports)) ≡ faultOfItem N h
-  fault-few p = ap (faultOf N (h .consequent)) (sym (supplied-few p))
+  fault-few p = ap (faultOf N (h .consequent)) (supplied-few h p)
 
   module _ (d : faultOfItem N h ≡ Done) where
     pub few : h .count ≤ 4
@@ -121,7 +103,7 @@ module _ (N : ℕ) (h : Handed) where
 
     module _ (e : Entry) (q : e ≡ entryOf just) where
       pub means : meaning e ≡ justOf N h
-      means = ap meaning q ∙ canonical-fits N (h .consequent) (take (h .count) (h .supports)) sound .1 ∙ ap (justificationOf N (h .consequent)) (sym (supplied-few few))
+      means = ap meaning q ∙ canonical-fits N (h .consequent) (take (h .count) (h .supports)) sound .1 ∙ ap (justificationOf N (h .consequent)) (supplied-few h few)
 
       pub entry-fits : N ≤ 128 → (e .count ≤ 4) × (e .consequent ≤ 128) × (allOf (λ s. leb s 128) (meaning e .supports) ≡ true)
       entry-fits p =
@@ -182,31 +164,15 @@ module _ (x : What) (r : Reply) where
   pub refused-lines : x ≡ Stages → Lines (Unwritten r) ≡ refusedAs x r
   refused-lines e = sym (ap (λ (y : What). refusedAs y r) e)
 
-module _ (m : List ℕ) (N : ℕ) where
-  pub word-over : (n : ℕ) → N < n → Refused Number ≡ wordIn m N n
-  word-over n h = sym (ap (λ (b : Bool). choose b (Refused Number) (readFrom m n)) (lt-ltb N n h))
+module _ (m : List ℕ) (N : ℕ) (out : List ℕ) (x : What) where
+  pub told-word : (n : ℕ) (a : Plain) → x ≡ Of n → a ≡ wordIn m N n → answered (Word a) out ≡ toldIn m N x out
+  told-word n a e p = ap (λ (b : Plain). answered (Word b) out) p ∙ sym (ap (λ (y : What). toldIn m N y out) e)
 
-  pub word-read : (n : ℕ) (a : Plain) → n ≤ N → a ≡ readFrom m n → a ≡ wordIn m N n
-  word-read n a h e = e ∙ sym (ap (λ (b : Bool). choose b (Refused Number) (readFrom m n)) (le-ltb N n h))
+  pub told-fill : (r : Reply) (after : List ℕ) → x ≡ Context → r ≡ fillReply N (length out) → after ≡ fillBytes m N out → answered (Filled r) after ≡ toldIn m N x out
+  told-fill r after e p q = ap₂ (λ (y : Reply) (b : List ℕ). answered (Filled y) b) p q ∙ sym (ap (λ (y : What). toldIn m N y out) e)
 
-  module _ (out : List ℕ) where
-    pub fill-short : length out < N + 1 → answered (Filled Short) out ≡ filledIn m N out
-    unfolding filledIn
-    fill-short h = rw (lt-ltb (length out) (N + 1) h)
-
-    pub fill-done : N + 1 ≤ length out → (after : List ℕ) → after ≡ table (N + 1) (λ n. byteOf (readFrom m n)) ++ drop (N + 1) out → answered (Filled Done) after ≡ filledIn m N out
-    unfolding filledIn
-    fill-done h after e = ap (answered (Filled Done)) e ∙ rw (le-ltb (length out) (N + 1) h)
-
-    module _ (x : What) where
-      pub told-word : (n : ℕ) (a : Plain) → x ≡ Of n → a ≡ wordIn m N n → answered (Word a) out ≡ toldIn m N x out
-      told-word n a e p = ap (λ (b : Plain). answered (Word b) out) p ∙ sym (ap (λ (y : What). toldIn m N y out) e)
-
-      pub told-fill : (r : Reply) (after : List ℕ) → x ≡ Context → answered (Filled r) after ≡ filledIn m N out → answered (Filled r) after ≡ toldIn m N x out
-      told-fill r after e p = p ∙ sym (ap (λ (y : What). toldIn m N y out) e)
-
-      pub told-lines : (w : Written) (after : List ℕ) → x ≡ Stages → record { answer = w; bytes = after } ≡ fitted (rowsIn (N + 1) m) out → answered (Lines w) after ≡ toldIn m N x out
-      told-lines w after e p = ap wroteAs p ∙ sym (ap (λ (y : What). toldIn m N y out) e)
+  pub told-lines : (w : Written) (after : List ℕ) → x ≡ Stages → record { answer = w; bytes = after } ≡ putOf m N out → answered (Lines w) after ≡ toldIn m N x out
+  told-lines w after e p = ap wroteAs p ∙ sym (ap (λ (y : What). toldIn m N y out) e)
 
 module _ (c : Chase) (q : Query) (out : List ℕ) where
   pub finish-fault : (r : Told) → (numberOf (c .reply) ≡ 0 → ⊥) → r ≡ refusedAs (q .what) (c .reply) → answered r out ≡ finishOf c q out

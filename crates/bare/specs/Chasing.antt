@@ -1,9 +1,9 @@
 -- A list that is being followed, item by item. Assumes nothing.
 use mathlib.Core.Bool.{Bool, _&&_, _||_, false, not}
-use mathlib.Core.List.{List, _++_}
+use mathlib.Core.List.{List}
 use Prim.Native.Nat.{_+_, _<_, _≤_, ℕ}
 use lib.Dec.{ltb}
-use lib.ListN.{drop, getD, length, replicate}
+use lib.ListN.{getD, length, replicate}
 use Rattle.bare.specs.Bare.{Answered, answered, faultOfItem, justOf, overCounts, refusedAs, wroteAs}
 use Rattle.bare.specs.declared.Query.{Query}
 use Rattle.bare.specs.declared.Chase.{Chase}
@@ -12,16 +12,12 @@ use Rattle.bare.specs.declared.What.{What}
 use Rattle.bare.specs.declared.What.the-variants.{Context, Number as Of, Stages}
 use Rattle.following.specs.Marks.{givenBy, markBy, sown}
 use Rattle.handed.specs.declared.Handed.{Handed}
-use Rattle.lent.specs.Lent.{fitted}
-use Rattle.plain.specs.Plainly.{byteOf, readFrom}
-use Rattle.plain.specs.declared.Plain.{Plain}
-use Rattle.plain.specs.declared.Plain.the-variants.{Refused}
+use Rattle.plain.specs.Plainly.{fillBytes, fillReply, wordIn}
 use Rattle.replies.specs.declared.Reply.{Reply}
-use Rattle.replies.specs.declared.Reply.the-variants.{Counts, Done, Number, Short}
-use Rattle.stagetext.specs.Stagetext.{rowsIn}
+use Rattle.replies.specs.declared.Reply.the-variants.{Counts, Done, Number}
+use Rattle.stagetext.specs.Stagetext.{putOf}
 use Rattle.store.specs.Calls.{isDone}
 use Rattle.theory.specs.Lists.{choose}
-use Rattle.theory.specs.Places.{table}
 use Rattle.theory.specs.Sets.{inRange}
 use Rattle.theory.specs.Stages.{Justification}
 
@@ -69,18 +65,10 @@ stepOf c h = choose (not (isDone (faultOfItem (c .top) h))) (haltOf c (faultOfIt
 
 -- ---- after the last
 
-abbrev pub wordIn : List ℕ → ℕ → ℕ → Plain
-wordIn m N n = choose (ltb N n) (Refused Number) (readFrom m n)
-
-unfoldable pub filledIn : List ℕ → ℕ → List ℕ → Answered
-filledIn m N out =
-    choose (ltb (length out) (N + 1)) (answered (Filled Short) out)
-    (answered (Filled Done) (table (N + 1) (λ n. byteOf (readFrom m n)) ++ drop (N + 1) out))
-
 abbrev pub toldIn : List ℕ → ℕ → What → List ℕ → Answered
 toldIn m N (Of n) out = answered (Word (wordIn m N n)) out
-toldIn m N Context out = filledIn m N out
-toldIn m N Stages out = wroteAs (fitted (rowsIn (N + 1) m) out)
+toldIn m N Context out = answered (Filled (fillReply N (length out))) (fillBytes m N out)
+toldIn m N Stages out = wroteAs (putOf m N out)
 
 unfoldable pub finishOf : Chase → Query → List ℕ → Answered
 finishOf c q out =

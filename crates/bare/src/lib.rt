@@ -13,9 +13,8 @@ ghost use Rattle.theory.specs.Lists.{choose};
 ghost use Rattle.theory.specs.Sets.{inRange};
 ghost use Rattle.following.specs.Marks.{markBy};
 ghost use Rattle.replies.specs.declared.Reply.the-variants.{Done};
-ghost use Rattle.bare.specs.declared.Told.the-variants.{Filled};
 ghost use Rattle.bare.specs.Bare.{Answers, answered, faultOfItem, justOf, overCounts, refusedAs};
-ghost use Rattle.bare.specs.Chasing.{Going, againOf, begunOf, filledIn, finishOf, followOf, haltOf, onwardOf, stepOf, toldIn, wordIn};
+ghost use Rattle.bare.specs.Chasing.{Going, againOf, begunOf, finishOf, followOf, haltOf, onwardOf, stepOf, toldIn};
 
 // What is asked of a list: of a number, of every number, or every stage.
 pub enum What {
@@ -82,7 +81,7 @@ fn begin(items: usize, ask: Query) -> Chase
     let a = ask.assumptions as u8;
     let top = a + ask.claims as u8;
     let set = start(ask.set, a);
-    let marks = plain::sown(set, a);
+    let marks = plain::sown(set);
     Chase {
         reply: Reply::Done,
         assumptions: a,
@@ -236,40 +235,14 @@ fn refused(what: What, reply: Reply) -> Told
     }
 }
 
-// The word for n; 4 where n is above the highest number.
-fn word(marks: [u8; 129], top: u8, n: u32) -> Plain
-    requires { ⌜ top ≤ 128 ⌝ }
-    ensures { λ r. ⌜ r ≡ wordIn marks top n ⌝ }
-{
-    let highest = top as u32;
-    if highest < n {
-        return Plain::Refused(Reply::Number);
-    }
-    plain::read(marks, n as usize)
-}
-
-// The bytes of all numbers; 15 where there are too few.
-fn fill(marks: [u8; 129], top: u8, out: &mut [u8]) -> Reply
-    requires { ⌜ top ≤ 128 ⌝ }
-    ensures { λ r. ⌜ answered (Filled r) (now (out .exit)) ≡ filledIn marks top (now (out .entry)) ⌝ }
-{
-    let end = top as usize + 1;
-    if out.len() < end {
-        return Reply::Short;
-    }
-    plain::fill(marks, end, out);
-    Reply::Done
-}
-
 // What the marks say to what is asked.
 fn tell(marks: [u8; 129], top: u8, what: What, out: &mut [u8]) -> Told
-    requires { ⌜ top ≤ 128 ⌝ }
     ensures { λ r. ⌜ answered r (now (out .exit)) ≡ toldIn marks top what (now (out .entry)) ⌝ }
 {
     match what {
-        What::Number(n) => Told::Word(word(marks, top, n)),
-        What::Context => Told::Filled(fill(marks, top, out)),
-        What::Stages => Told::Lines(stagetext::put(marks, top + 1, out)),
+        What::Number(n) => Told::Word(plain::word(marks, top, n)),
+        What::Context => Told::Filled(plain::fill(marks, top, out)),
+        What::Stages => Told::Lines(stagetext::put(marks, top, out)),
     }
 }
 
@@ -283,11 +256,11 @@ fn finish(chase: Chase, ask: Query, out: &mut [u8]) -> Told
     if replies::number(reply) != 0 {
         return refused(what, reply);
     }
-    if sets::low(ask.set, chase.assumptions) {
-        let marks = chase.marks;
-        return tell(marks, chase.top, what, out);
+    if !sets::low(ask.set, chase.assumptions) {
+        return refused(what, Reply::Number);
     }
-    refused(what, Reply::Number)
+    let marks = chase.marks;
+    tell(marks, chase.top, what, out)
 }
 
 // What is asked of a bare list, any number of items: the items judged in order, then followed stage by stage.
@@ -301,10 +274,20 @@ pub fn ask(query: Query, list: &[Handed], out: &mut [u8]) -> Told
     finish(chase, query, out)
 }
 
-// Of the first n of a list by value: a caller of this one takes no slice of items.
-pub fn ask_some(query: Query, list: [Handed; 256], n: usize, out: &mut [u8]) -> Told
+// Of the first n of a list by value.
+fn ask_first(query: Query, list: [Handed; 256], n: usize, out: &mut [u8]) -> Told
     requires { ⌜ n ≤ 256 ⌝ }
     ensures { λ r. ⌜ Answers query (take n list) (now (out .entry)) r (now (out .exit)) ⌝ }
 {
     ask(query, &list[..n], out)
+}
+
+// .. and of all where n is more: a caller of this one takes no slice of items.
+pub fn ask_some(query: Query, list: [Handed; 256], n: usize, out: &mut [u8]) -> Told
+    ensures { λ r. ⌜ Answers query (take n list) (now (out .entry)) r (now (out .exit)) ⌝ }
+{
+    if 256 < n {
+        return ask_first(query, list, 256, out);
+    }
+    ask_first(query, list, n, out)
 }

@@ -2,31 +2,30 @@
 use mathlib.Core.Bool.{false, true}
 use mathlib.Core.List.{List}
 use mathlib.Core.Path.{_∙_, _≡_, ap}
-use Prim.Native.Nat.{_<_, _≤_, ℕ}
-use borrow.Author.Tests.{le-ltb, lt-ltb}
+use Prim.Native.Nat.{ℕ}
+use borrow.Author.Tests.{le-ltb}
 use Rattle.lent.proofs.Fits.{hands}
-use Rattle.lent.specs.Lent.{Leaves, fitted}
+use Rattle.lent.specs.Lent.{Leaves, fitted, kept}
 use Rattle.lines.specs.Lines.{CaseLined, Lined, RefusalLined, caseText, headingOf, lineOf, lineText, refusalText}
 use Rattle.lent.specs.declared.Written.{Written}
 use Rattle.lent.specs.declared.Written.the-variants.{Refused}
+use Rattle.replies.specs.Replies.{numberOf}
 use Rattle.replies.specs.declared.Reply.{Reply}
-use Rattle.replies.specs.declared.Reply.the-variants.{Number, Shape}
+use Rattle.replies.specs.declared.Reply.the-variants.{Shape}
+use Rattle.store.proofs.Reading.{Readable, refused-number}
+use Rattle.store.specs.Reading.{refusalOf}
 use Rattle.store.specs.Shape.{rightShape, top}
 use Rattle.store.specs.declared.Store.{Store}
 
 module _ (s : Store) (out : List ℕ) where
   module _ (n : ℕ) where
-    pub line-shape : rightShape s ≡ false → Lined s n out (record { answer = Refused Shape; store = s }) out
+    pub line-refused : (r : Reply) → r ≡ refusalOf s n 0 → (numberOf r ≡ 0 → ⊥) → Lined s n out (record { answer = Refused r; store = s }) out
     unfolding lineOf
-    line-shape e = hands s (rw e)
+    line-refused r e d = hands s (refused-number s n r e d (λ x. kept x out) (fitted (lineText s n) out))
 
-    pub line-number : rightShape s ≡ true → top (s .held) < n → Lined s n out (record { answer = Refused Number; store = s }) out
+    pub line-rest : Readable s n 0 → {t : List ℕ} → t ≡ lineText s n → {r : Written} {after : List ℕ} → Leaves (fitted t out) r after → Lined s n out (record { answer = r; store = s }) after
     unfolding lineOf
-    line-number e h = hands s (rw (e, lt-ltb (top (s .held)) n h))
-
-    pub line-rest : rightShape s ≡ true → n ≤ top (s .held) → {t : List ℕ} → t ≡ lineText s n → {r : Written} {after : List ℕ} → Leaves (fitted t out) r after → Lined s n out (record { answer = r; store = s }) after
-    unfolding lineOf
-    line-rest e h f l = hands s (l ∙ ap (λ (x : List ℕ). fitted x out) f ∙ rw (e, le-ltb (top (s .held)) n h))
+    line-rest k f l = hands s (l ∙ ap (λ (x : List ℕ). fitted x out) f ∙ rw (k .right, le-ltb (top (s .held)) n (k .number)))
 
   pub case-shape : rightShape s ≡ false → CaseLined s out (record { answer = Refused Shape; store = s }) out
   unfolding headingOf

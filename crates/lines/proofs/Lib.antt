@@ -1,4 +1,4 @@
-pub mod Bounds
+pub mod Follows
 pub mod Fits
 pub mod Longest
-pub mod Rows
+pub mod Told

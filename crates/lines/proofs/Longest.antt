@@ -7,10 +7,9 @@ use native.Mathlib.Omega.{arith}
 use lib.Dec.{lit<}
 use lib.ListN.{drop, getD, length, length-take}
 use borrow.Author.Tests.{le-ltb}
-use Rattle.lines.proofs.Bounds.{bounded}
 use Rattle.lent.specs.Lent.{fitted}
 use Rattle.lent.specs.declared.Written.the-variants.{Length}
-use Rattle.lines.specs.Lines.{caseText, headingOf, lineOf, lineText, lineWith, longest, refusalText, wordOf}
+use Rattle.lines.specs.Lines.{caseText, headingOf, lineOf, lineText, longest, refusalText}
 use Rattle.replies.proofs.Laws.{two-digits}
 use Rattle.replies.specs.Replies.{numberOf}
 use Rattle.replies.specs.declared.Reply.{Reply}
@@ -20,6 +19,8 @@ use Rattle.store.specs.declared.Store.{Store}
 use Rattle.text.proofs.Digits.{digits-most}
 use Rattle.text.proofs.Lengths.{heading-length, refusal-length, row-length}
 use Rattle.text.specs.Texts.{word}
+use Rattle.wording.proofs.Bounds.{bounded}
+use Rattle.wording.specs.Wording.{lineWith, wordOf}
 
 -- ---- how long a line can be
 

@@ -1,7 +1,7 @@
 -- The lines of the listing, as document 01 has them, and the calls that write them into lent bytes. Assumes nothing.
-use mathlib.Core.Bool.{Bool, not}
-use mathlib.Core.List.{List, [], _∷_}
-use Prim.Native.Nat.{_*_, _+_, suc, zero, ℕ}
+use mathlib.Core.Bool.{not}
+use mathlib.Core.List.{List}
+use Prim.Native.Nat.{_*_, _+_, ℕ}
 use lib.Dec.{ltb}
 use Rattle.lent.specs.Lent.{Hands, Leaves, Wrote, fitted, kept}
 use Rattle.lent.specs.declared.Listed.{Listed}
@@ -9,26 +9,16 @@ use Rattle.lent.specs.declared.Written.{Written}
 use Rattle.replies.specs.Replies.{numberOf}
 use Rattle.replies.specs.declared.Reply.{Reply}
 use Rattle.replies.specs.declared.Reply.the-variants.{Number, Shape}
-use Rattle.stages.specs.declared.Lists.{Lists}
-use Rattle.store.specs.Reading.{heldFromAll, listHeld}
+use Rattle.store.specs.Reading.{heldFromAll}
 use Rattle.store.specs.Shape.{rightShape, top}
 use Rattle.store.specs.declared.Store.{Store}
-use Rattle.text.specs.Texts.{heading, refusal, row, word}
+use Rattle.text.specs.Texts.{heading, refusal}
 use Rattle.theory.specs.Lists.{choose}
+use Rattle.wording.specs.Wording.{lineWith}
 
 -- ---- the lines
 
--- the word of n, whose list is l, c telling whether n follows from all assumptions together: `nogood` for 0; for the others `supported`; where the label is empty `contradicted` or `unsupported`
-unfoldable pub wordOf : ℕ → List ℕ → Bool → List ℕ
-wordOf zero l c = word " nogood"
-wordOf (suc i) [] c = choose c (word " contradicted") (word " unsupported")
-wordOf (suc i) (E ∷ l) c = word " supported"
-
--- the number, its word and the members of its list
-unfoldable pub lineWith : Lists → ℕ → Bool → List ℕ
-lineWith t n c = row 32 n (wordOf n (listHeld t n) c) (listHeld t n)
-
--- .. by the justifications held
+-- the line of n, the third word by the justifications held
 unfoldable pub lineText : Store → ℕ → List ℕ
 lineText s n = lineWith (s .lists) n (heldFromAll s n)
 

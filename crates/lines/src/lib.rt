@@ -2,54 +2,16 @@
 use lent::Listed;
 use lent::Written;
 use replies::Reply;
-use sets::Set;
 use store::Store;
 ghost use mathlib.Core.Bool.{true};
 ghost use mathlib.Core.Path.{_≡_};
 ghost use Prim.Native.Nat.{_≤_};
 ghost use Rattle.store.specs.Reading.{contradictedIn};
 ghost use Rattle.store.specs.Shape.{rightShape};
-ghost use Rattle.text.specs.Texts.{row};
-ghost use Rattle.text.specs.Writing.{Put, Room};
-ghost use Rattle.lines.specs.Lines.{CaseLined, Lined, RefusalLined, lineWith, wordOf};
+ghost use Rattle.lines.specs.Lines.{CaseLined, Lined, RefusalLined};
 
 // No line of a store of right shape is longer, and no line of a refusal.
 pub const LONGEST: usize = 2857;
-
-// The text of the line of n with its list; follows tells whether n follows from all assumptions together.
-fn worded(n: u32, list: &[Set], follows: bool, out: &mut [u8]) -> usize
-    requires { ⌜ Room (row 32 n (wordOf n (now list) follows) (now list)) 0 (now out) ⌝ }
-    ensures { λ r. ⌜ Put (row 32 n (wordOf n (now (list .entry)) follows) (now (list .entry))) 0 (now (out .entry)) (now (out .exit)) r ⌝ }
-{
-    if n == 0 {
-        return text::line(n, b" nogood", list, out);
-    }
-    if 0 < list.len() {
-        return text::line(n, b" supported", list, out);
-    }
-    if follows {
-        return text::line(n, b" contradicted", list, out);
-    }
-    text::line(n, b" unsupported", list, out)
-}
-
-// The text of the line of n; the shape was looked at. Where the label is empty, follows tells whether n follows from all assumptions together.
-pub fn lined(store: Store, n: u32, follows: bool, out: &mut [u8]) -> usize
-    requires { ⌜ (rightShape store ≡ true) × (n ≤ 128) × Room (lineWith (store .lists) n follows) 0 (now out) ⌝ }
-    ensures { λ r. ⌜ Put (lineWith (store .lists) n follows) 0 (now (out .entry)) (now (out .exit)) r ⌝ }
-{
-    let lists = store.lists;
-    if n == 0 {
-        let count = lists.count;
-        let nogoods = lists.nogoods;
-        return worded(n, &nogoods[..count], follows, out);
-    }
-    let i = (n - 1) as usize;
-    let from = 12 * i;
-    let to = from + lists.sizes[i] as usize;
-    let members = lists.members;
-    worded(n, &members[from..to], follows, out)
-}
 
 // Whether the line of n says `contradicted`; the justifications are followed only where the label is empty.
 fn contradicted(store: Store, n: u32) -> bool
@@ -72,22 +34,16 @@ fn contradicted(store: Store, n: u32) -> bool
 pub fn line(store: Store, n: u32, out: &mut [u8]) -> Listed
     ensures { λ r. ⌜ Lined store n (now (out .entry)) r (now (out .exit)) ⌝ }
 {
-    if !store.shape() {
+    let reply = store.refusal(n, 0);
+    if replies::number(reply) != 0 {
         return Listed {
-            answer: Written::Refused(Reply::Shape),
-            store,
-        };
-    }
-    let held = store.held;
-    if ((held.assumptions + held.claims) as u32) < n {
-        return Listed {
-            answer: Written::Refused(Reply::Number),
+            answer: Written::Refused(reply),
             store,
         };
     }
     let mut text = [0u8; LONGEST];
     let follows = contradicted(store, n);
-    let end = lined(store, n, follows, &mut text);
+    let end = wording::lined(store, n, follows, &mut text);
     let answer = lent::fit(&text[..end], out);
     Listed { answer, store }
 }

@@ -5,10 +5,10 @@ use mathlib.Core.Logic.{⊎-elim}
 use mathlib.Core.Path.{_∙_, _≡_, ap, ap₂, refl, sym}
 use Prim.Native.Nat.{_+_, _<_, _≤_, suc, zero, ℕ}
 use native.Mathlib.Omega.{arith}
-use lib.Dec.{leb, ltb}
-use lib.ListN.{drop, getD, length, replicate, set}
-use borrow.Author.Tests.{le-ltb, lt-leb, lt-ltb, ltb-false, ltb-true}
-use Rattle.asking.specs.Asking.{Left, contextReply, left}
+use lib.Dec.{ltb}
+use lib.ListN.{List·getD-eq-default, drop, getD, length, replicate, set}
+use borrow.Author.Tests.{eq-eqb, le-ltb, lt-ltb, ltb-false, ltb-true, ne-eqb}
+use Rattle.asking.specs.Asking.{contextReply, left}
 use Rattle.following.proofs.Passing.{getD-any}
 use Rattle.following.proofs.Places.{held-placed}
 use Rattle.following.proofs.Staging.{Placed}
@@ -16,19 +16,24 @@ use Rattle.following.specs.First.{sinceOf}
 use Rattle.following.specs.Marks.{marksOf, sown}
 use Rattle.following.specs.Promised.{Followable}
 use Rattle.plain.proofs.Since.{since-ever}
-use Rattle.plain.specs.Plainly.{Chasable, byteOf, plainAfter, plainBy, plainBytes, plainOf, readFrom}
+use Rattle.plain.specs.Plainly.{byteOf, fillBytes, fillReply, followedOf, plainAfter, plainBy, plainBytes, plainOf, readFrom, wordIn}
+use Rattle.plain.specs.declared.Followed.{Followed}
 use Rattle.plain.specs.declared.Plain.{Plain}
 use Rattle.plain.specs.declared.Plain.the-variants.{Inconsistent, Refused, Supported, Unsupported}
 use Rattle.plain.specs.declared.Told.{Told}
-use Rattle.replies.specs.declared.Reply.the-variants.{Done, Number, Shape, Short}
-use Rattle.rules.specs.Held.{heldRight, saidBy}
-use Rattle.rules.specs.declared.Held.{Held}
+use Rattle.replies.specs.Replies.{numberOf}
+use Rattle.replies.specs.declared.Reply.{Reply}
+use Rattle.replies.specs.declared.Reply.the-variants.{Done, Number, Short}
+use Rattle.rules.specs.Held.{saidBy}
 use Rattle.sets.proofs.Membership.{range-members}
 use Rattle.stages.proofs.Tables.{replicate-table, set-table, table-same}
-use Rattle.store.specs.Calls.{answer}
-use Rattle.store.specs.Shape.{heldFits, rightShape, top}
+use Rattle.store.proofs.Reading.{Readable, refused}
+use Rattle.store.proofs.Shapes.{Fitting}
+use Rattle.store.specs.Calls.{answer, isDone}
+use Rattle.store.specs.Reading.{refusalOf}
+use Rattle.store.specs.Shape.{top}
 use Rattle.store.specs.declared.Store.{Store}
-use Rattle.theory.proofs.Lists.{and-left, and-right, clash, either, not-so}
+use Rattle.theory.proofs.Lists.{either, not-so}
 use Rattle.theory.proofs.Places.{getD-table}
 use Rattle.theory.specs.Demands.{carries, contradicts}
 use Rattle.theory.specs.Lists.{choose}
@@ -72,22 +77,6 @@ sow-end E a k m h r e = e ∙ table-same 129 (sowing E k) (λ n. choose (among E
     ap₂ (λ (b c : Bool). choose (b && c) 0 255) t none ∙ ap (λ (b : Bool). choose b 0 255) (sym none))
     (either (ltb n k)))
 
--- ---- what is held
-module _ (h : Held) where
-  pub fits-few : heldFits h ≡ true → (h .assumptions ≤ 32) × (h .claims ≤ 96) × (heldRight h ≡ true)
-  unfolding heldFits
-  fits-few t =
-      let a : Bool = leb (h .assumptions) 32 in
-      let b : Bool = leb (h .claims) 96 in
-      let r = and-right a (b && heldRight h) t in
-      (leb-true′ (h .assumptions) 32 (and-left a (b && heldRight h) t), leb-true′ (h .claims) 96 (and-left b (heldRight h) r), and-right b (heldRight h) r)
-    where
-      leb-true′ : (x y : ℕ) → leb x y ≡ true → x ≤ y
-      leb-true′ x y e = ⊎-elim (λ (t : ltb y x ≡ true). absurd (clash e (lt-leb x y (ltb-true y x t)))) (λ (t : ltb y x ≡ false). ltb-false y x t) (either (ltb y x))
-
-  pub followable : heldFits h ≡ true → Followable h
-  followable t = let f = fits-few t in record { right = f .2; low = omega (arith, f .0, f .1) }
-
 -- ---- what the marks say
 module _ (m : List ℕ) (long : length m ≡ 129) where
   pub read-struck : (n : ℕ) → getD m 0 0 < 255 → Inconsistent ≡ readFrom m n
@@ -106,6 +95,13 @@ module _ (m : List ℕ) (long : length m ≡ 129) where
     unfolding readFrom
     read-no h = sym (ap₂ (λ (b c : Bool). choose b Inconsistent (choose c Supported Unsupported)) free (le-ltb (getD m n 255) 255 (omega (arith, getD-any m n 0 255 (omega arith)))))
 
+  pub read-above : (n : ℕ) → 255 ≤ getD m 0 0 → 128 < n → Unsupported ≡ readFrom m n
+  unfolding readFrom
+  read-above n f h =
+      sym
+      (ap₂ (λ (b c : Bool). choose b Inconsistent (choose c Supported Unsupported)) (le-ltb (getD m 0 255) 255 (omega (arith, getD-any m 0 0 255 (omega arith))))
+      (le-ltb (getD m n 255) 255 (omega (arith, List·getD-eq-default m 255 {n = n} (omega arith)))))
+
 -- the marks of the first stages give the answers
 module _ (J : List Justification) (w : Placed J) (E : ℕ) (m : List ℕ) (e : m ≡ table 129 (sinceOf J E)) where
   pub read-plain : (n : ℕ) → n ≤ 128 → readFrom m n ≡ plainBy J E n
@@ -122,59 +118,89 @@ module _ (J : List Justification) (w : Placed J) (E : ℕ) (m : List ℕ) (e : m
   pub bytes-plain : (end : ℕ) → end ≤ 129 → table end (λ n. byteOf (readFrom m n)) ≡ table end (λ n. byteOf (plainBy J E n))
   bytes-plain end l = table-same end (λ n. byteOf (readFrom m n)) (λ n. byteOf (plainBy J E n)) 0 (λ n q. ap byteOf (read-plain n (omega arith)))
 
+pub word-over : (m : List ℕ) (N n : ℕ) → N < n → Refused Number ≡ wordIn m N n
+word-over m N n h = rw (lt-ltb N n h)
+
+pub word-read : (m : List ℕ) (N n : ℕ) → n ≤ N → (r : Plain) → r ≡ readFrom m n → r ≡ wordIn m N n
+word-read m N n h r e = rw (le-ltb N n h) e
+
+-- ---- the bytes, where they fit and where not
+module _ (m : List ℕ) (N : ℕ) (out : List ℕ) where
+  pub fill-short : length out < N + 1 → (Short ≡ fillReply N (length out)) × (out ≡ fillBytes m N out)
+  unfolding fillBytes
+  fill-short h =
+      let e : ltb (length out) (N + 1) ≡ true = lt-ltb (length out) (N + 1) h in
+      (sym (ap (λ (b : Bool). choose b Short Done) e), sym (ap (λ (b : Bool). choose b out (table (N + 1) (λ n. byteOf (readFrom m n)) ++ drop (N + 1) out)) e))
+
+  pub fill-done : N + 1 ≤ length out → (after : List ℕ) → after ≡ table (N + 1) (λ n. byteOf (readFrom m n)) ++ drop (N + 1) out → (Done ≡ fillReply N (length out)) × (after ≡ fillBytes m N out)
+  unfolding fillBytes
+  fill-done h after q =
+      let e : ltb (length out) (N + 1) ≡ false = le-ltb (length out) (N + 1) h in
+      (sym (ap (λ (b : Bool). choose b Short Done) e), q ∙ sym (ap (λ (b : Bool). choose b out (table (N + 1) (λ n. byteOf (readFrom m n)) ++ drop (N + 1) out)) e))
+
 -- ---- the calls
 module _ (s : Store) where
-  pub shape-fits : rightShape s ≡ true → heldFits (s .held) ≡ true
-  unfolding rightShape
-  shape-fits t = and-left (heldFits (s .held)) _ t
+  pub followable : Fitting (s .held) → Followable (s .held)
+  followable f = record { right = f .right; low = omega (arith, f .few, f .claims) }
 
-  pub few : rightShape s ≡ true → (s .held .assumptions ≤ 32) × (s .held .claims ≤ 96)
-  few t = let f = fits-few (s .held) (shape-fits t) in (f .0, f .1)
-
-  pub placed : rightShape s ≡ true → Placed (saidBy (s .held))
-  placed t = held-placed (s .held) (followable (s .held) (shape-fits t))
-
-  pub chasable : (E : ℕ) → rightShape s ≡ true → inRange (s .held .assumptions) E ≡ true → Chasable (s .held) E
-  chasable E t r = record { fits = shape-fits t; low = r }
+  pub placed : Fitting (s .held) → Placed (saidBy (s .held))
+  placed f = held-placed (s .held) (followable f)
 
   abbrev told : Plain → Told
   told a = record { answer = a; store = s }
 
-  pub question-shape : (n E : ℕ) → rightShape s ≡ false → told (Refused Shape) ≡ told (plainOf s n E)
-  unfolding plainOf
-  question-shape n E h = rw h
+  abbrev marks : ℕ → List ℕ
+  marks E = table 129 (sinceOf (saidBy (s .held)) E)
 
-  pub question-number : (n E : ℕ) → rightShape s ≡ true → top (s .held) < n → told (Refused Number) ≡ told (plainOf s n E)
-  unfolding plainOf
-  question-number n E h k = rw (h, lt-ltb (top (s .held)) n k)
+  abbrev both : Reply → List ℕ → Followed
+  both r m = record { reply = r; marks = m }
 
-  pub question-set : (n E : ℕ) → rightShape s ≡ true → n ≤ top (s .held) → inRange (s .held .assumptions) E ≡ false → told (Refused Number) ≡ told (plainOf s n E)
-  unfolding plainOf
-  question-set n E h k r = rw (h, le-ltb (top (s .held)) n k, r)
+  module _ (n E : ℕ) where
+    module _ (r : Reply) (e : r ≡ refusalOf s n E) where
+      pub followed-refused : (numberOf r ≡ 0 → ⊥) → both r (replicate 129 255) ≡ followedOf s n E
+      unfolding followedOf
+      followed-refused d =
+          ap (λ (b : Bool). both r (choose b (marks E) (replicate 129 255))) (sym (ne-eqb (numberOf r) 0 d))
+          ∙ ap (λ (t : Reply). both t (choose (isDone t) (marks E) (replicate 129 255))) e
 
-  pub question-says : (n E : ℕ) → rightShape s ≡ true → n ≤ top (s .held) → inRange (s .held .assumptions) E ≡ true → (m : List ℕ) → m ≡ table 129 (sinceOf (saidBy (s .held)) E) → (a : Plain) → a ≡ readFrom m n → told a ≡ told (plainOf s n E)
-  unfolding plainOf
-  question-says n E h k r m p a e = rw (h, le-ltb (top (s .held)) n k, r) (ap told (e ∙ read-plain (saidBy (s .held)) (placed h) E m p n (omega (arith, few h))))
+      pub followed-done : numberOf r ≡ 0 → (m : List ℕ) → m ≡ marks E → both r m ≡ followedOf s n E
+      unfolding followedOf
+      followed-done z m q =
+          ap (both r) q ∙ ap (λ (b : Bool). both r (choose b (marks E) (replicate 129 255))) (sym (eq-eqb (numberOf r) 0 z))
+          ∙ ap (λ (t : Reply). both t (choose (isDone t) (marks E) (replicate 129 255))) e
 
-  module _ (E : ℕ) (out : List ℕ) where
-    abbrev goal : Left
-    goal = left (answer (contextReply s E (length out)) s) (plainAfter s E out)
+    -- what a call that followed knows
+    module _ (f : Followed) (e : f ≡ followedOf s n E) where
+      pub followed-reply : f .reply ≡ refusalOf s n E
+      unfolding followedOf
+      followed-reply = ap (λ (x : Followed). x .reply) e
 
-    pub context-shape : rightShape s ≡ false → left (answer Shape s) out ≡ goal
-    unfolding contextReply plainAfter
-    context-shape h = rw h
+      pub followed-marks : numberOf (f .reply) ≡ 0 → f .marks ≡ marks E
+      unfolding followedOf
+      followed-marks z =
+          ap (λ (x : Followed). x .marks) e
+          ∙ ap (λ (b : Bool). choose b (marks E) (replicate 129 255)) (eq-eqb (numberOf (refusalOf s n E)) 0 (ap numberOf (sym followed-reply) ∙ z))
 
-    pub context-set : rightShape s ≡ true → inRange (s .held .assumptions) E ≡ false → left (answer Number s) out ≡ goal
-    unfolding contextReply plainAfter
-    context-set h r = rw (h, r)
+    pub question-refused : (r : Reply) → r ≡ refusalOf s n E → (numberOf r ≡ 0 → ⊥) → told (Refused r) ≡ told (plainOf s n E)
+    unfolding plainOf
+    question-refused r e d = ap told (refused s n E r e d Refused (plainBy (saidBy (s .held)) E n))
 
-    pub context-short : rightShape s ≡ true → inRange (s .held .assumptions) E ≡ true → length out < top (s .held) + 1 → left (answer Short s) out ≡ goal
-    unfolding contextReply plainAfter
-    context-short h r k = rw (h, r, lt-ltb (length out) (top (s .held) + 1) k)
+    pub question-says : Readable s n E → (m : List ℕ) → m ≡ marks E → (a : Plain) → a ≡ readFrom m n → told a ≡ told (plainOf s n E)
+    unfolding plainOf
+    question-says k m p a e =
+        rw (k .right, le-ltb (top (s .held)) n (k .number), k .set)
+        (ap told (e ∙ read-plain (saidBy (s .held)) (placed (k .fit)) E m p n (omega (arith, k .number, k .fit .few, k .fit .claims))))
 
-    pub context-done : rightShape s ≡ true → inRange (s .held .assumptions) E ≡ true → top (s .held) + 1 ≤ length out → (m : List ℕ) → m ≡ table 129 (sinceOf (saidBy (s .held)) E)
-        → (after : List ℕ) → after ≡ table (top (s .held) + 1) (λ n. byteOf (readFrom m n)) ++ drop (top (s .held) + 1) out → left (answer Done s) after ≡ goal
-    unfolding contextReply plainAfter plainBytes
-    context-done h r k m p after e =
-        rw (h, r, le-ltb (length out) (top (s .held) + 1) k)
-        (ap (left (answer Done s)) (e ∙ ap (λ (l : List ℕ). l ++ drop (top (s .held) + 1) out) (bytes-plain (saidBy (s .held)) (placed h) E m p (top (s .held) + 1) (omega (arith, few h)))))
+  -- the context, once the store and the set are not refused
+  pub context-filled : (E : ℕ) (out : List ℕ) → Readable s 0 E → (m : List ℕ) → m ≡ marks E → (r : Reply) → r ≡ fillReply (top (s .held)) (length out) → (after : List ℕ) → after ≡ fillBytes m (top (s .held)) out
+      → left (answer r s) after ≡ left (answer (contextReply s E (length out)) s) (plainAfter s E out)
+  unfolding contextReply plainAfter plainBytes fillBytes
+  context-filled E out k m p r e after q =
+      ap₂ (λ (x : Reply) (y : List ℕ). left (answer x s) y) e q
+      ∙ ap (λ (b : List ℕ). left (answer (choose (ltb (length out) (top (s .held) + 1)) Short Done) s) (choose (ltb (length out) (top (s .held) + 1)) out (b ++ drop (top (s .held) + 1) out)))
+      (bytes-plain (saidBy (s .held)) (placed (k .fit)) E m p (top (s .held) + 1) (omega (arith, k .fit .few, k .fit .claims)))
+      ∙ rw (k .right, k .set) (go (ltb (length out) (top (s .held) + 1)) (table (top (s .held) + 1) (λ n. byteOf (plainBy (saidBy (s .held)) E n)) ++ drop (top (s .held) + 1) out))
+    where
+      go : (b : Bool) (x : List ℕ) → left (answer (choose b Short Done) s) (choose b out x) ≡ left (answer (choose b Short Done) s) (choose (isDone (choose b Short Done)) x out)
+      go true x = refl
+      go false x = refl

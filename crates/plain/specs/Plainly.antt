@@ -1,21 +1,23 @@
 -- Question and context without labels: read from what follows from the set, stage by stage. Assumes nothing.
-use mathlib.Core.Bool.{_||_, not, true}
+use mathlib.Core.Bool.{_||_, not}
 use mathlib.Core.List.{List, _++_}
 use mathlib.Core.Path.{_≡_}
 use Prim.Native.Nat.{_+_, ℕ}
 use lib.Dec.{ltb}
-use lib.ListN.{drop, getD, length}
+use lib.ListN.{drop, getD, length, replicate}
 use Rattle.asking.specs.Asking.{contextReply, left}
 use Rattle.following.specs.First.{sinceOf}
+use Rattle.plain.specs.declared.Followed.{Followed}
 use Rattle.plain.specs.declared.Plain.{Plain}
 use Rattle.plain.specs.declared.Plain.the-variants.{Inconsistent, Refused, Supported, Unsupported}
 use Rattle.plain.specs.declared.Told.{Told}
 use Rattle.replies.specs.Replies.{numberOf}
-use Rattle.replies.specs.declared.Reply.the-variants.{Number, Shape}
+use Rattle.replies.specs.declared.Reply.{Reply}
+use Rattle.replies.specs.declared.Reply.the-variants.{Done, Number, Shape, Short}
 use Rattle.rules.specs.Held.{saidBy}
-use Rattle.rules.specs.declared.Held.{Held}
 use Rattle.store.specs.Calls.{answer, isDone}
-use Rattle.store.specs.Shape.{heldFits, rightShape, top}
+use Rattle.store.specs.Reading.{refusalOf}
+use Rattle.store.specs.Shape.{rightShape, top}
 use Rattle.store.specs.declared.Outcome.{Outcome}
 use Rattle.store.specs.declared.Store.{Store}
 use Rattle.theory.specs.Demands.{carries, contradicts}
@@ -32,14 +34,13 @@ plainBy J E n = choose (contradicts J E) Inconsistent (choose (carries J E n) Su
 unfoldable pub readFrom : List ℕ → ℕ → Plain
 readFrom m n = choose (ltb (getD m 0 255) 255) Inconsistent (choose (ltb (getD m n 255) 255) Supported Unsupported)
 
--- r has for each number the first stage at which it follows from E
-abbrev pub Chased : Held → ℕ → List ℕ → Type 0
-Chased h E r = r ≡ table 129 (sinceOf (saidBy h) E)
+-- the word for n; 4 where n is above N
+abbrev pub wordIn : List ℕ → ℕ → ℕ → Plain
+wordIn m N n = choose (ltb N n) (Refused Number) (readFrom m n)
 
--- what is held fits, and E is a set of its assumptions
-pub record Chasable (h : Held) (E : ℕ) : Type 0 where
-  pub fits : heldFits h ≡ true
-  pub low : inRange (h .assumptions) E ≡ true
+-- for each number the first stage at which it follows from E; or the refusal of a call that reads n and E, and no marks
+unfoldable pub followedOf : Store → ℕ → ℕ → Followed
+followedOf s n E = record { reply = refusalOf s n E; marks = choose (isDone (refusalOf s n E)) (table 129 (sinceOf (saidBy (s .held)) E)) (replicate 129 255) }
 
 -- ---- question
 
@@ -61,6 +62,13 @@ byteOf Inconsistent = 2
 byteOf Supported = 1
 byteOf Unsupported = 0
 byteOf (Refused r) = 0
+
+-- the bytes of 0 to N, read from marks: 15 where there are fewer, and then all are kept; else those after them are kept
+abbrev pub fillReply : ℕ → ℕ → Reply
+fillReply N room = choose (ltb room (N + 1)) Short Done
+
+unfoldable pub fillBytes : List ℕ → ℕ → List ℕ → List ℕ
+fillBytes m N out = choose (ltb (length out) (N + 1)) out (table (N + 1) (λ n. byteOf (readFrom m n)) ++ drop (N + 1) out)
 
 -- the bytes of 0 to A + M
 unfoldable pub plainBytes : Store → ℕ → List ℕ

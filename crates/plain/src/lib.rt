@@ -1,19 +1,15 @@
 // The plain path: question and context without labels, from what follows from the set, stage by stage.
 use replies::Reply;
-use rules::Held;
 use sets::Set;
 use store::Outcome;
 use store::Store;
-ghost use mathlib.Core.Bool.{true};
-ghost use mathlib.Core.List.{_++_};
 ghost use mathlib.Core.Path.{_≡_};
 ghost use Prim.Native.Nat.{_≤_};
-ghost use lib.ListN.{drop, length};
+ghost use lib.ListN.{length};
 ghost use Rattle.theory.specs.Lists.{choose};
-ghost use Rattle.theory.specs.Places.{table};
-ghost use Rattle.theory.specs.Sets.{among, inRange};
+ghost use Rattle.theory.specs.Sets.{among};
 ghost use Rattle.following.specs.Marks.{sown};
-ghost use Rattle.plain.specs.Plainly.{Chasable, Chased, Contexted, Questioned, byteOf, readFrom};
+ghost use Rattle.plain.specs.Plainly.{Contexted, Questioned, byteOf, fillBytes, fillReply, followedOf, readFrom, wordIn};
 
 // What a set is to a number.
 pub enum Plain {
@@ -28,6 +24,12 @@ pub struct Told {
     pub store: Store,
 }
 
+// The reply to a call that reads, and for each number the first stage at which it follows.
+pub struct Followed {
+    pub reply: Reply,
+    pub marks: [u8; 129],
+}
+
 // The mark of assumption k at stage 0.
 fn first(e: Set, k: u32) -> u8
     requires { ⌜ (1 ≤ k) × (k ≤ 32) ⌝ }
@@ -40,13 +42,12 @@ fn first(e: Set, k: u32) -> u8
 }
 
 // The marks of stage 0: those of the assumptions in e.
-pub fn sown(e: Set, a: u8) -> [u8; 129]
-    requires { ⌜ (a ≤ 32) × (inRange a e ≡ true) ⌝ }
+pub fn sown(e: Set) -> [u8; 129]
     ensures { λ r. ⌜ r ≡ sown e ⌝ }
 {
     let mut marks = [255u8; 129];
     let mut k = 1u8;
-    while k <= a {
+    while k <= 32 {
         let at = k as usize;
         marks[at] = first(e, k as u32);
         k += 1;
@@ -54,22 +55,29 @@ pub fn sown(e: Set, a: u8) -> [u8; 129]
     marks
 }
 
-// For each number the first stage at which it follows from e; 255 where it never does.
-pub fn chased(held: Held, e: Set) -> [u8; 129]
-    requires { ⌜ Chasable held e ⌝ }
-    ensures { λ r. ⌜ Chased held e r ⌝ }
+// For each number the first stage at which it follows from e, 255 where it never does; or why a call that reads n and e is refused.
+pub fn follow(store: Store, n: u32, e: Set) -> Followed
+    ensures { λ r. ⌜ r ≡ followedOf store n e ⌝ }
 {
-    let start = sown(e, held.assumptions);
-    following::stages(held, start)
+    let reply = store.refusal(n, e);
+    if replies::number(reply) != 0 {
+        let marks = [255u8; 129];
+        return Followed { reply, marks };
+    }
+    let start = sown(e);
+    let marks = following::stages(store.held, start);
+    Followed { reply, marks }
 }
 
-// What the marks say of n.
-pub fn read(marks: [u8; 129], n: usize) -> Plain
-    requires { ⌜ n ≤ 128 ⌝ }
+// What the marks say of n; no number above 128 has one.
+fn read(marks: [u8; 129], n: usize) -> Plain
     ensures { λ r. ⌜ r ≡ readFrom marks n ⌝ }
 {
     if marks[0] < 255 {
         return Plain::Inconsistent;
+    }
+    if 128 < n {
+        return Plain::Unsupported;
     }
     if marks[n] < 255 {
         return Plain::Supported;
@@ -77,39 +85,36 @@ pub fn read(marks: [u8; 129], n: usize) -> Plain
     Plain::Unsupported
 }
 
+// The word for n; 4 where n is above the highest number.
+pub fn word(marks: [u8; 129], top: u8, n: u32) -> Plain
+    ensures { λ r. ⌜ r ≡ wordIn marks top n ⌝ }
+{
+    let highest = top as u32;
+    if highest < n {
+        return Plain::Refused(Reply::Number);
+    }
+    read(marks, n as usize)
+}
+
 // Whether e is inconsistent, supports n, or neither.
 pub fn question(store: Store, n: u32, e: Set) -> Told
     ensures { λ r. ⌜ Questioned store n e r ⌝ }
 {
-    if store.shape() {
-        let held = store.held;
-        let a = held.assumptions;
-        let top = (a + held.claims) as u32;
-        if top < n {
-            return Told {
-                answer: Plain::Refused(Reply::Number),
-                store,
-            };
-        }
-        if sets::low(e, a) {
-            let marks = chased(held, e);
-            let answer = read(marks, n as usize);
-            return Told { answer, store };
-        }
+    let followed = follow(store, n, e);
+    let reply = followed.reply;
+    if replies::number(reply) != 0 {
         return Told {
-            answer: Plain::Refused(Reply::Number),
+            answer: Plain::Refused(reply),
             store,
         };
     }
-    Told {
-        answer: Plain::Refused(Reply::Shape),
-        store,
-    }
+    let marks = followed.marks;
+    let answer = read(marks, n as usize);
+    Told { answer, store }
 }
 
 // The byte of n.
 fn byte(marks: [u8; 129], n: usize) -> u8
-    requires { ⌜ n ≤ 128 ⌝ }
     ensures { λ r. ⌜ r ≡ byteOf (readFrom marks n) ⌝ }
 {
     let told = read(marks, n);
@@ -121,47 +126,36 @@ fn byte(marks: [u8; 129], n: usize) -> u8
     }
 }
 
-// The bytes of the numbers below the end.
-pub fn fill(marks: [u8; 129], end: usize, out: &mut [u8])
-    requires { ⌜ (end ≤ 129) × (end ≤ length (now out)) ⌝ }
-    ensures { λ _. ⌜ now (out .exit) ≡ table end (λ n. byteOf (readFrom marks n)) ++ drop end (now (out .entry)) ⌝ }
+// The bytes of the numbers up to top; 15 where there are too few.
+pub fn fill(marks: [u8; 129], top: u8, out: &mut [u8]) -> Reply
+    ensures { λ r. ⌜ (r ≡ fillReply top (length (now (out .entry)))) × (now (out .exit) ≡ fillBytes marks top (now (out .entry))) ⌝ }
 {
+    let end = top as usize + 1;
+    if out.len() < end {
+        return Reply::Short;
+    }
     let mut i = 0;
     while i < end {
         out[i] = byte(marks, i);
         i += 1;
     }
+    Reply::Done
 }
 
 // What e is to every number, a byte each.
 pub fn context(store: Store, e: Set, out: &mut [u8]) -> Outcome
     ensures { λ r. ⌜ Contexted store e (now (out .entry)) r (now (out .exit)) ⌝ }
 {
-    if store.shape() {
-        let held = store.held;
-        let a = held.assumptions;
-        if sets::low(e, a) {
-            let end = (a + held.claims) as usize + 1;
-            if out.len() < end {
-                return Outcome {
-                    reply: Reply::Short,
-                    store,
-                };
-            }
-            let marks = chased(held, e);
-            fill(marks, end, out);
-            return Outcome {
-                reply: Reply::Done,
-                store,
-            };
-        }
+    let followed = follow(store, 0, e);
+    let refusal = followed.reply;
+    if replies::number(refusal) != 0 {
         return Outcome {
-            reply: Reply::Number,
+            reply: refusal,
             store,
         };
     }
-    Outcome {
-        reply: Reply::Shape,
-        store,
-    }
+    let held = store.held;
+    let marks = followed.marks;
+    let reply = fill(marks, held.assumptions + held.claims, out);
+    Outcome { reply, store }
 }

@@ -13,7 +13,8 @@ use borrow.Author.Tests.{ne-eqb}
 use Rattle.asking.specs.Asking.{byteOf, firstIn, memberAt, memberOf, questionOf, reasoned, standing}
 use Rattle.asking.specs.declared.Answer.{Answer}
 use Rattle.asking.specs.declared.Answer.the-variants.{Inconsistent, Refused, Supported, Unsupported}
-use Rattle.lines.specs.Lines.{caseText, lineText, lineWith, wordOf}
+use Rattle.lines.specs.Lines.{caseText, lineText}
+use Rattle.wording.specs.Wording.{lineWith, wordOf}
 use Rattle.promises.proofs.Form.{Form, form-a, form-count, form-m}
 use Rattle.promises.proofs.Naming.{first-one, named-first, named-within, none-within}
 use Rattle.promises.proofs.Right.{form-right}

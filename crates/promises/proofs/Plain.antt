@@ -17,12 +17,11 @@ use Rattle.bare.specs.declared.Query.{Query}
 use Rattle.bare.specs.declared.Told.the-variants.{Filled, Word}
 use Rattle.bare.specs.declared.What.the-variants.{Context, Number as Of, Stages}
 use Rattle.following.proofs.First.{since-129}
-use Rattle.following.proofs.Places.{held-placed}
 use Rattle.following.proofs.Staging.{Placed}
 use Rattle.following.specs.First.{sinceOf, upTo}
 use Rattle.handed.specs.declared.Handed.{Handed}
 use Rattle.lent.specs.Lent.{fitted, kept}
-use Rattle.plain.proofs.Laws.{followable, shape-fits}
+use Rattle.plain.proofs.Laws.{followable, placed}
 use Rattle.plain.specs.Plainly.{byteOf, plainAfter, plainBy, plainBytes, plainOf}
 use Rattle.plain.specs.declared.Plain.{Plain}
 use Rattle.plain.specs.declared.Plain.the-variants.{Inconsistent, Refused, Supported, Unsupported}
@@ -43,6 +42,7 @@ use Rattle.rules.specs.Held.{saidBy}
 use Rattle.stages.proofs.Tables.{table-same}
 use Rattle.stagetext.proofs.Longest.{stages-length}
 use Rattle.stagetext.specs.Stagetext.{lastStage, latest, longest, stageLine, stageText, stagesOf}
+use Rattle.store.proofs.Shapes.{shape-elim}
 use Rattle.store.specs.Calls.{isDone}
 use Rattle.store.specs.Shape.{rightShape, top}
 use Rattle.store.specs.declared.Store.{Store}
@@ -188,7 +188,7 @@ module _ {A M : ℕ} {H : List Justification} {s : Store} (f : Form A M H s) whe
   }
 
   held-are-placed : Placed J
-  held-are-placed = held-placed (s .held) (followable (s .held) (shape-fits s right))
+  held-are-placed = placed s (shape-elim s right .0)
 
   text-by : (E : ℕ) → stageText (top (s .held)) J E ≡ stageText (A + M) H E
   text-by E = ap (λ (n : ℕ). stageText n J E) tops ∙ text-same J H same-held held-are-placed put-placed E (A + M)
@@ -303,8 +303,8 @@ bare-told q l out a m d h =
 -- ---- bytes enough
 held-enough : (s : Store) → rightShape s ≡ true → (E : ℕ) → length (stageText (top (s .held)) (saidBy (s .held)) E) ≤ longest
 held-enough s r E =
-    let f = followable (s .held) (shape-fits s r) in
-    stages-length (saidBy (s .held)) (held-placed (s .held) f) E (top (s .held)) (f .low)
+    let f = shape-elim s r .0 in
+    stages-length (saidBy (s .held)) (placed s f) E (top (s .held)) (followable s f .low)
 
 bare-enough : (A M : ℕ) (l : List Handed) → A ≤ 32 → M ≤ 96 → faultsOf (A + M) l ≡ Done → (E : ℕ) → length (stageText (A + M) (barely (A + M) l) E) ≤ longest
 bare-enough A M l a m d E = let low : A + M ≤ 128 = omega arith in stages-length (barely (A + M) l) (bare-placed (A + M) low l d) E (A + M) low

@@ -12,7 +12,8 @@ use Rattle.promises.specs.Calls.{ours}
 use Rattle.promises.specs.Season.{OneByOne, afterEach, numbersEach, passing}
 use Rattle.replies.specs.Replies.{numberOf}
 use Rattle.replies.specs.declared.Reply.the-variants.{Done}
-use Rattle.season.proofs.Folds.{all-done, give-many, supplied-few}
+use Rattle.handed.proofs.Supplied.{supplied-few}
+use Rattle.season.proofs.Folds.{all-done, give-many}
 use Rattle.season.specs.Season.{addedAll, giveOf, repliesOf}
 use Rattle.store.specs.Calls.{addOf, answer, isDone}
 use Rattle.store.specs.declared.Outcome.{Outcome}

@@ -27,8 +27,8 @@ use Rattle.listing.proofs.printed as printed-at
 use Rattle.listing.proofs.printed.Reads as printed-reads
 use Rattle.labels.proofs.stirred as stirred-at
 use Rattle.labels.proofs.stirred.Reads as stirred-reads
-use Rattle.lines.proofs.lined as lined-at
-use Rattle.lines.proofs.lined.Reads as lined-reads
+use Rattle.wording.proofs.lined as lined-at
+use Rattle.wording.proofs.lined.Reads as lined-reads
 use Rattle.lines.proofs.case_line as case-line-at
 use Rattle.lines.proofs.case_line.Reads as case-line-reads
 use Rattle.lines.proofs.line as line-at
@@ -98,8 +98,14 @@ use Rattle.stages.proofs.start as start-at
 use Rattle.stages.proofs.start.Reads as start-reads
 use Rattle.store.proofs.Store.add as add-at
 use Rattle.store.proofs.Store.add.Reads as add-reads
-use Rattle.store.proofs.Store.entering as entering-at
-use Rattle.store.proofs.Store.entering.Reads as entering-reads
+use Rattle.store.proofs.Store.after as after-at
+use Rattle.store.proofs.Store.after.Reads as after-reads
+use Rattle.store.proofs.Store.refusal as store-refusal-at
+use Rattle.store.proofs.Store.refusal.Reads as store-refusal-reads
+use Rattle.changing.proofs.less as less-at
+use Rattle.changing.proofs.less.Reads as less-reads
+use Rattle.changing.proofs.more as more-at
+use Rattle.changing.proofs.more.Reads as more-reads
 use Rattle.store.proofs.Store.open as open-at
 use Rattle.store.proofs.Store.open.Reads as open-reads
 use Rattle.store.proofs.Store.shape as shape-at
@@ -129,10 +135,10 @@ use Rattle.following.proofs.mark as following-mark-at
 use Rattle.following.proofs.mark.Reads as following-mark-reads
 use Rattle.plain.proofs.sown as sown-at
 use Rattle.plain.proofs.sown.Reads as sown-reads
-use Rattle.plain.proofs.chased as chased-at
-use Rattle.plain.proofs.chased.Reads as chased-reads
-use Rattle.plain.proofs.read as plain-read-at
-use Rattle.plain.proofs.read.Reads as plain-read-reads
+use Rattle.plain.proofs.follow as follow-at
+use Rattle.plain.proofs.follow.Reads as follow-reads
+use Rattle.plain.proofs.word as plain-word-at
+use Rattle.plain.proofs.word.Reads as plain-word-reads
 use Rattle.plain.proofs.fill as plain-fill-at
 use Rattle.plain.proofs.fill.Reads as plain-fill-reads
 use Rattle.plain.proofs.question as plainly-at
@@ -164,7 +170,10 @@ Once T P = (κs : Lfts (T .signature .lifetimes)) (a : Args (T .signature) κs) 
 pub record OnceEach : Type 0 where
   pub open-one : Once open-at.ended open-reads.Learnt
   pub add-one : Once add-at.ended add-reads.Learnt
-  pub entering-one : Once entering-at.ended entering-reads.Learnt
+  pub more-one : Once more-at.ended more-reads.Learnt
+  pub less-one : Once less-at.ended less-reads.Learnt
+  pub after-one : Once after-at.ended after-reads.Learnt
+  pub store-refusal-one : Once store-refusal-at.ended store-refusal-reads.Learnt
   pub add-all-one : Once add-all-at.ended (allAdded ours)
   pub add-some-one : Once add-some-at.ended add-some-reads.Learnt
   pub withdraw-one : Once withdraw-at.ended withdraw-reads.Learnt
@@ -225,8 +234,8 @@ pub record OnceEach : Type 0 where
   pub following-stages-one : Once following-stages-at.ended following-stages-reads.Learnt
   pub following-mark-one : Once following-mark-at.ended following-mark-reads.Learnt
   pub sown-one : Once sown-at.ended sown-reads.Learnt
-  pub chased-one : Once chased-at.ended chased-reads.Learnt
-  pub plain-read-one : Once plain-read-at.ended plain-read-reads.Learnt
+  pub follow-one : Once follow-at.ended follow-reads.Learnt
+  pub plain-word-one : Once plain-word-at.ended plain-word-reads.Learnt
   pub plain-fill-one : Once plain-fill-at.ended plain-fill-reads.Learnt
   pub plainly-one : Once plainly-at.ended plainly-reads.Learnt
   pub plain-context-one : Once plain-context-at.ended plain-context-reads.Learnt

@@ -10,7 +10,8 @@ use Rattle.asking.specs.Asking.{firstIn, memberNumber, memberOf, memberSet, que
 use Rattle.asking.specs.declared.Answer.the-variants.{Unsupported}
 use Rattle.casefile.proofs.Cases.{listed as spells, listedCase}
 use Rattle.casefile.specs.Load.{loadOf}
-use Rattle.lines.specs.Lines.{lineText, lineWith, wordOf}
+use Rattle.lines.specs.Lines.{lineText}
+use Rattle.wording.specs.Wording.{lineWith, wordOf}
 use Rattle.numbers.specs.Numbers.{numberAt, numberFrom, replied, secondFrom}
 use Rattle.promises.proofs.Answers.{line-by, line-text, member-by, question-by}
 use Rattle.promises.proofs.Form.{Form, form-a, form-settled, made-form}

@@ -20,7 +20,8 @@ use Rattle.handed.specs.Supplied.{suppliedBy}
 use Rattle.items.specs.Items.{Item, headerFrom, numbersFrom, recordFrom, unless}
 use Rattle.lent.specs.Lent.{fitted, kept, writtenLength}
 use Rattle.lent.specs.declared.Written.the-variants.{Length, Refused as Unwritten}
-use Rattle.lines.specs.Lines.{refusalText, wordOf}
+use Rattle.lines.specs.Lines.{refusalText}
+use Rattle.wording.specs.Wording.{wordOf}
 use Rattle.numbers.specs.Numbers.{numberFrom, secondFrom}
 use Rattle.plain.specs.Plainly.{byteOf, plainBy}
 use Rattle.plain.specs.declared.Plain.{Plain}

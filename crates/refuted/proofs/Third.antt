@@ -10,7 +10,7 @@ use borrow.Author.Tests.{le-ltb}
 use Rattle.casefile.specs.Case.{Case, caseOf, recordsFrom, whole}
 use Rattle.items.specs.Items.{Item, headerFrom, numbersFrom, recordFrom, unless}
 use Rattle.lent.specs.Lent.{fitted}
-use Rattle.lines.specs.Lines.{lineWith, wordOf}
+use Rattle.wording.specs.Wording.{lineWith, wordOf}
 use Rattle.lent.specs.declared.Written.{Written}
 use Rattle.lent.specs.declared.Written.the-variants.{Length, Refused}
 use Rattle.numbers.specs.Numbers.{numberFrom, secondFrom}

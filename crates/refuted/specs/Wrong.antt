@@ -19,7 +19,7 @@ use Rattle.handed.specs.declared.Handed.{Handed}
 use Rattle.items.specs.Items.{Item}
 use Rattle.lent.specs.Lent.{Wrote, fitted, kept}
 use Rattle.lent.specs.declared.Written.the-variants.{Refused as Unwritten}
-use Rattle.lines.specs.Lines.{lineWith}
+use Rattle.wording.specs.Wording.{lineWith}
 use Rattle.plain.specs.declared.Plain.the-variants.{Refused as Unsaid}
 use Rattle.promises.specs.Calls.{Ask, Calls, Read, caseLine, context, file, line, listAll, member, ours, plainContext, plainly, question, reads, stageLines}
 use Rattle.promises.specs.Demand1.{Refusals}

@@ -8,6 +8,7 @@ use native.Mathlib.Numerals.{add-one}
 use native.Mathlib.Omega.{arith}
 use native.Mathlib.Nat.{not-suc-le-zero, le-of-suc-le-suc}
 use lib.ListN.{drop, getD, length, set, take}
+use lib.Seq.{take-length}
 use borrow.Author.Tests.{le-ltb, lt-ltb}
 use Rattle.replies.specs.Replies.{numberOf}
 use Rattle.replies.specs.declared.Reply.the-variants.{Done, Shape, Short, Supports}
@@ -67,10 +68,6 @@ unfolding repliesOf
 bytes-none s [] zs = refl
 bytes-none s (r ∷ l) zs = refl
 
-take-all : (l : List Handed) → take (length l) l ≡ l
-take-all [] = refl
-take-all (r ∷ l) = ap (λ (y : List Handed). r ∷ y) (take-all l)
-
 -- the shape is kept
 pub all-right : (s : Store) (l : List Handed) → rightShape s ≡ true → rightShape (addedAll s l) ≡ true
 unfolding addedAll
@@ -82,10 +79,6 @@ all-right s (h ∷ l) t = all-right (giveOf s h .store) l (add-right s t (h .con
 pub supplied-five : (h : Handed) → 4 < h .count → 0 ∷ 0 ∷ 0 ∷ 0 ∷ 0 ∷ [] ≡ suppliedBy h
 unfolding suppliedBy
 supplied-five h p = rw (lt-ltb 4 (h .count) p)
-
-pub supplied-few : (h : Handed) → h .count ≤ 4 → take (h .count) (h .supports) ≡ suppliedBy h
-unfolding suppliedBy
-supplied-few h p = rw (le-ltb 4 (h .count) p)
 
 -- more than four: 6, whatever they are
 pub give-many : (s : Store) (h : Handed) → rightShape s ≡ true → 4 < h .count → answer Supports s ≡ giveOf s h
@@ -163,5 +156,5 @@ module _ (s : Store) (l : List Handed) (zs : List ℕ) where
             subst Both (begun-short s (length l) (length zs) q p ∙ sym e) (ap (answer Short) (sym (store-none s l)) ∙ r .0, sym (bytes-none s l zs) ∙ r .1)
         | no p ↦
             let r = all-done q (omega (arith, p)) in
-            subst Both (begun-done s (length l) (length zs) q (omega (arith, p)) ∙ sym e) (ap (λ (k : List Handed). answer Done (addedAll s k)) (take-all l) ∙ r .0, ap (λ (k : List Handed). repliesOf s k ++ drop (length l) zs) (take-all l) ∙ r .1)
+            subst Both (begun-done s (length l) (length zs) q (omega (arith, p)) ∙ sym e) (ap (λ (k : List Handed). answer Done (addedAll s k)) (take-length l) ∙ r .0, ap (λ (k : List Handed). repliesOf s k ++ drop (length l) zs) (take-length l) ∙ r .1)
       ]

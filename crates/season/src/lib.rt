@@ -36,7 +36,8 @@ fn give(store: Store, item: Handed) -> Outcome
     }
     let supports = item.supports;
     let n = item.count;
-    store.entering(item.consequent, &supports[..n])
+    let changed = changing::more(store.held, item.consequent, &supports[..n]);
+    store.after(changed)
 }
 
 // .. with the reply's number.
@@ -57,21 +58,21 @@ fn step(store: Store, item: Handed) -> Numbered
 fn begin(store: Store, items: usize, bytes: usize) -> Begun
     ensures { λ r. ⌜ r ≡ begunOf store items bytes ⌝ }
 {
-    if store.shape() {
-        if bytes < items {
-            return Begun {
-                reply: Reply::Short,
-                turns: 0,
-            };
-        }
+    if !store.shape() {
         return Begun {
-            reply: Reply::Done,
-            turns: items,
+            reply: Reply::Shape,
+            turns: 0,
+        };
+    }
+    if bytes < items {
+        return Begun {
+            reply: Reply::Short,
+            turns: 0,
         };
     }
     Begun {
-        reply: Reply::Shape,
-        turns: 0,
+        reply: Reply::Done,
+        turns: items,
     }
 }
 
@@ -100,10 +101,20 @@ pub fn add_all(store: Store, list: &[Handed], out: &mut [u8]) -> Outcome
     finish(begun, st)
 }
 
-// The first n of a list by value: a caller of this one takes no slice of items.
-pub fn add_some(store: Store, list: [Handed; 256], n: usize, out: &mut [u8]) -> Outcome
+// The first n of a list by value.
+fn add_first(store: Store, list: [Handed; 256], n: usize, out: &mut [u8]) -> Outcome
     requires { ⌜ n ≤ 256 ⌝ }
     ensures { λ r. ⌜ (r ≡ addAllOf store (take n list) (now (out .entry))) × (now (out .exit) ≡ bytesAfter store (take n list) (now (out .entry))) ⌝ }
 {
     add_all(store, &list[..n], out)
+}
+
+// .. and all where n is more: a caller of this one takes no slice of items.
+pub fn add_some(store: Store, list: [Handed; 256], n: usize, out: &mut [u8]) -> Outcome
+    ensures { λ r. ⌜ (r ≡ addAllOf store (take n list) (now (out .entry))) × (now (out .exit) ≡ bytesAfter store (take n list) (now (out .entry))) ⌝ }
+{
+    if 256 < n {
+        return add_first(store, list, 256, out);
+    }
+    add_first(store, list, n, out)
 }

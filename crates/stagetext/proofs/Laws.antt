@@ -13,17 +13,21 @@ use Rattle.following.proofs.Passing.{marked-no, marked-yes}
 use Rattle.following.proofs.Staging.{Placed}
 use Rattle.following.specs.First.{sinceOf}
 use Rattle.following.specs.Marks.{marked}
-use Rattle.lent.specs.Lent.{Wrote, fitted, kept}
-use Rattle.lent.specs.declared.Listed.{Listed}
+use Rattle.lent.proofs.Fits.{fitted-long, fitted-short, hands}
+use Rattle.lent.specs.Lent.{fitted, kept}
 use Rattle.lent.specs.declared.Written.{Written}
 use Rattle.lent.specs.declared.Written.the-variants.{Length, Refused}
 use Rattle.plain.proofs.Laws.{placed}
 use Rattle.plain.proofs.Since.{since-by}
-use Rattle.replies.specs.declared.Reply.the-variants.{Number, Shape, Short}
+use Rattle.replies.specs.Replies.{numberOf}
+use Rattle.replies.specs.declared.Reply.{Reply}
+use Rattle.replies.specs.declared.Reply.the-variants.{Number, Short}
 use Rattle.rules.specs.Held.{saidBy}
 use Rattle.stagetext.proofs.Upto.{upto, upto-few, upto-length, upto-none}
-use Rattle.stagetext.specs.Stagetext.{bodyOf, lastStage, latest, partOf, rowOf, rowsIn, rowsOf, stageLine, stageText, stagesOf}
-use Rattle.store.specs.Shape.{rightShape, top}
+use Rattle.stagetext.specs.Stagetext.{StagesLined, bodyOf, lastStage, latest, partOf, putOf, rowOf, rowsIn, rowsOf, stageLine, stageText, stagesOf}
+use Rattle.store.proofs.Reading.{Readable, refused-set}
+use Rattle.store.specs.Reading.{refusalOf}
+use Rattle.store.specs.Shape.{top}
 use Rattle.store.specs.declared.Store.{Store}
 use Rattle.text.proofs.Digits.{digits-more, digits-most, digits-one}
 use Rattle.text.proofs.Writing.{Left, front-kept, left-start}
@@ -34,7 +38,6 @@ use Rattle.theory.proofs.Lists.{each-same, those-same}
 use Rattle.theory.proofs.Places.{getD-table}
 use Rattle.theory.specs.Lists.{choose, each, keep, numbersBelow, those}
 use Rattle.theory.specs.Places.{table}
-use Rattle.theory.specs.Sets.{inRange}
 use Rattle.theory.specs.Stages.{Justification, follows}
 
 -- ---- digits
@@ -144,63 +147,43 @@ module _ (J : List Justification) (w : Placed J) (E N : ℕ) (low : N ≤ 128) w
   unfolding rowsOf stageText lastStage
   text-is = each-same (rowOf (N + 1) M) (stageLine N J E) (numbersBelow (latest 0 M + 1)) (λ k m. row-is k (omega (arith, below-elim (latest 0 M + 1) m, latest-low M 0 (omega arith))))
 
--- ---- the call
-module _ (s : Store) (E : ℕ) (out : List ℕ) where
-  is-shape : rightShape s ≡ false → stagesOf s E out ≡ kept Shape out
-  unfolding stagesOf
-  is-shape h = rw h
+-- ---- the rows into lent bytes
+pub put-above : (m : List ℕ) (N : ℕ) (out : List ℕ) → 128 < N → kept Number out ≡ putOf m N out
+unfolding putOf
+put-above m N out h = rw (lt-ltb 128 N h)
 
-  is-number : rightShape s ≡ true → inRange (s .held .assumptions) E ≡ false → stagesOf s E out ≡ kept Number out
-  unfolding stagesOf
-  is-number h r = rw (h, r)
+pub put-within : (m : List ℕ) (N : ℕ) (out : List ℕ) → N ≤ 128 → fitted (rowsIn (N + 1) m) out ≡ putOf m N out
+unfolding putOf
+put-within m N out h = rw (le-ltb 128 N h)
 
-  is-text : rightShape s ≡ true → inRange (s .held .assumptions) E ≡ true → stagesOf s E out ≡ fitted (stageText (top (s .held)) (saidBy (s .held)) E) out
-  unfolding stagesOf
-  is-text h r = rw (h, r)
+module _ (m : List ℕ) (N count : ℕ) (out : List ℕ) (low : N ≤ 128) (c : count ≡ latest 0 m + 1) where
+  counted : rowsOf (N + 1) m count ≡ rowsIn (N + 1) m
+  counted = ap (rowsOf (N + 1) m) c
 
-fitted-short : (t out : List ℕ) → length out < length t → fitted t out ≡ kept Short out
-unfolding fitted
-fitted-short t out h = rw (lt-ltb (length out) (length t) h)
+  pub put-short : length out < length (rowsOf (N + 1) m count) → kept Short out ≡ putOf m N out
+  put-short k = fitted-short (rowsIn (N + 1) m) out (omega (arith, k, ap length counted)) ∙ put-within m N out low
 
-fitted-full : (t out : List ℕ) → length t ≤ length out → fitted t out ≡ record { answer = Length (length t); bytes = t ++ drop (length t) out }
-unfolding fitted
-fitted-full t out h = rw (le-ltb (length out) (length t) h)
-
-module _ (m : List ℕ) (end count : ℕ) (out : List ℕ) (c : count ≡ latest 0 m + 1) where
-  counted : rowsOf end m count ≡ rowsIn end m
-  counted = ap (rowsOf end m) c
-
-  pub put-short : length out < length (rowsOf end m count) → kept Short out ≡ fitted (rowsIn end m) out
-  put-short k = sym (fitted-short (rowsIn end m) out (omega (arith, k, ap length counted)))
-
-  pub put-done : length (rowsOf end m count) ≤ length out → (n : ℕ) (after : List ℕ) → Put (rowsOf end m count) 0 out after n → record { answer = Length n; bytes = after } ≡ fitted (rowsIn end m) out
+  pub put-done : length (rowsOf (N + 1) m count) ≤ length out → (n : ℕ) (after : List ℕ) → Put (rowsOf (N + 1) m count) 0 out after n → record { answer = Length n; bytes = after } ≡ putOf m N out
   put-done k n after p =
-      let T : List ℕ = rowsIn end m in
+      let T : List ℕ = rowsIn (N + 1) m in
       let g : Put T 0 out after n = subst (λ (x : List ℕ). Put x 0 out after n) counted p in
       let z : n ≡ length T = omega (arith, g .next) in
-      ap₂ (λ (x : ℕ) (l : List ℕ). record { answer = Length x; bytes = l }) z (front-kept g) ∙ sym (fitted-full T out (omega (arith, k, ap length counted)))
+      ap (λ (x : ℕ). record { answer = Length x; bytes = after }) z ∙ fitted-long T out (omega (arith, k, ap length counted)) (front-kept g) ∙ put-within m N out low
 
+-- ---- the call
 module _ (s : Store) (E : ℕ) (out : List ℕ) where
-  abbrev listed : Written → Listed
-  listed a = record { answer = a; store = s }
+  pub lines-refused : (r : Reply) → r ≡ refusalOf s 0 E → (numberOf r ≡ 0 → ⊥) → StagesLined s E out (record { answer = Refused r; store = s }) out
+  unfolding stagesOf
+  lines-refused r e d = hands s (refused-set s E r e d (λ x. kept x out) (fitted (stageText (top (s .held)) (saidBy (s .held)) E) out))
 
-  abbrev goal : Listed → List ℕ → Type 0
-  goal r after = (r ≡ listed (stagesOf s E out .answer)) × (after ≡ stagesOf s E out .bytes)
-
-  from-wrote : (w : Wrote) → stagesOf s E out ≡ w → goal (listed (w .answer)) (w .bytes)
-  from-wrote w e = (ap (λ (x : Wrote). listed (x .answer)) (sym e), ap (λ (x : Wrote). x .bytes) (sym e))
-
-  pub lines-shape : rightShape s ≡ false → goal (listed (Refused Shape)) out
-  lines-shape h = from-wrote (kept Shape out) (is-shape s E out h)
-
-  pub lines-set : rightShape s ≡ true → inRange (s .held .assumptions) E ≡ false → goal (listed (Refused Number)) out
-  lines-set h r = from-wrote (kept Number out) (is-number s E out h r)
-
-  pub lines-put : rightShape s ≡ true → inRange (s .held .assumptions) E ≡ true → (m : List ℕ) → m ≡ table 129 (sinceOf (saidBy (s .held)) E) → (end : ℕ) → end ≡ top (s .held) + 1 → top (s .held) ≤ 128
-      → (r : Written) (after : List ℕ) → record { answer = r; bytes = after } ≡ fitted (rowsIn end m) out → goal (listed r) after
-  lines-put h r m e end q low a after p =
-      from-wrote (record { answer = a; bytes = after })
-      (is-text s E out h r ∙ ap (λ (t : List ℕ). fitted t out) (sym (text-is (saidBy (s .held)) (placed s h) E (top (s .held)) low) ∙ ap₂ rowsIn (sym q) (sym e)) ∙ sym p)
+  pub lines-put : Readable s 0 E → (m : List ℕ) → m ≡ table 129 (sinceOf (saidBy (s .held)) E) → (r : Written) (after : List ℕ) → record { answer = r; bytes = after } ≡ putOf m (top (s .held)) out
+      → StagesLined s E out (record { answer = r; store = s }) after
+  unfolding stagesOf
+  lines-put k m e r after p =
+      let N : ℕ = top (s .held) in
+      let low : N ≤ 128 = omega (arith, k .fit .few, k .fit .claims) in
+      hands s
+      (p ∙ sym (put-within m N out low) ∙ ap (λ (t : List ℕ). fitted t out) (ap (rowsIn (N + 1)) e ∙ text-is (saidBy (s .held)) (placed s (k .fit)) E N low) ∙ rw (k .right, k .set))
 
 -- ---- the same texts, one part after the other
 module _ (m : List ℕ) (end k at : ℕ) (b : List ℕ) where

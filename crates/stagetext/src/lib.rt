@@ -10,10 +10,10 @@ ghost use Prim.Native.Nat.{_≤_};
 ghost use lib.Dec.{ltb};
 ghost use lib.ListN.{length};
 ghost use Rattle.theory.specs.Lists.{choose};
-ghost use Rattle.lent.specs.Lent.{Leaves, fitted};
+ghost use Rattle.lent.specs.Lent.{Leaves};
 ghost use Rattle.text.specs.Texts.{digits};
 ghost use Rattle.text.specs.Writing.{Put, Room};
-ghost use Rattle.stagetext.specs.Stagetext.{StagesLined, bodyOf, latest, partOf, rowOf, rowsIn, rowsOf};
+ghost use Rattle.stagetext.specs.Stagetext.{StagesLined, bodyOf, latest, partOf, putOf, rowOf, rowsOf};
 
 // No text of stages is longer.
 pub const LONGEST: usize = 53300;
@@ -146,11 +146,15 @@ fn rows(marks: [u8; 129], end: u8, count: u8, out: &mut [u8]) -> usize
     next
 }
 
-// The lines of all stages up to the last with something new, where there is room for them; the length is known before a byte is written.
-pub fn put(marks: [u8; 129], end: u8, out: &mut [u8]) -> Written
-    requires { ⌜ end ≤ 129 ⌝ }
-    ensures { λ r. ⌜ Leaves (fitted (rowsIn end marks) (now (out .entry))) r (now (out .exit)) ⌝ }
+// The lines of all stages up to the last with something new, where there is room for them; 4 where top is no number's.
+// The length is known before a byte is written.
+pub fn put(marks: [u8; 129], top: u8, out: &mut [u8]) -> Written
+    ensures { λ r. ⌜ Leaves (putOf marks top (now (out .entry))) r (now (out .exit)) ⌝ }
 {
+    if 128 < top {
+        return Written::Refused(Reply::Number);
+    }
+    let end = top + 1;
     let count = last(&marks) + 1;
     if out.len() < rows_width(marks, end, count) {
         return Written::Refused(Reply::Short);
@@ -162,22 +166,16 @@ pub fn put(marks: [u8; 129], end: u8, out: &mut [u8]) -> Written
 pub fn lines(store: Store, e: Set, out: &mut [u8]) -> Listed
     ensures { λ r. ⌜ StagesLined store e (now (out .entry)) r (now (out .exit)) ⌝ }
 {
-    if store.shape() {
-        let held = store.held;
-        let a = held.assumptions;
-        if sets::low(e, a) {
-            let marks = plain::chased(held, e);
-            let end = a + held.claims + 1;
-            let answer = put(marks, end, out);
-            return Listed { answer, store };
-        }
+    let followed = plain::follow(store, 0, e);
+    let reply = followed.reply;
+    if replies::number(reply) != 0 {
         return Listed {
-            answer: Written::Refused(Reply::Number),
+            answer: Written::Refused(reply),
             store,
         };
     }
-    Listed {
-        answer: Written::Refused(Reply::Shape),
-        store,
-    }
+    let held = store.held;
+    let marks = followed.marks;
+    let answer = put(marks, held.assumptions + held.claims, out);
+    Listed { answer, store }
 }

@@ -1,19 +1,17 @@
 -- A store of right shape keeps it, whatever is added. Assumes nothing.
 use mathlib.Core.Bool.{Bool, false, not, true}
 use mathlib.Core.List.{List}
-use mathlib.Core.Path.{_≡_, refl, subst, sym}
+use mathlib.Core.Path.{_≡_, refl}
 use Prim.Native.Nat.{_+_, ℕ}
-use native.Mathlib.Omega.{arith}
 use lib.Dec.{leb}
-use borrow.Author.Tests.{eqb-true, leb-false}
+use borrow.Author.Tests.{eqb-true, leb-false, not-false}
 use Rattle.replies.proofs.Laws.{zero-done}
 use Rattle.replies.specs.Replies.{numberOf}
 use Rattle.replies.specs.declared.Reply.{Reply}
 use Rattle.replies.specs.declared.Reply.the-variants.{Already, Done, Full, Shape}
-use Rattle.rules.proofs.Laws.{canonical-fits}
-use Rattle.rules.specs.Held.{entryOf, heldOf, heldRight, meaning, put, saidBy}
+use Rattle.rules.specs.Held.{heldOf, heldRight, put, saidBy}
 use Rattle.rules.specs.Items.{faultOf, justificationOf, sameJustification}
-use Rattle.store.proofs.Judging.{larger-right, larger-said}
+use Rattle.store.proofs.Changes.{larger}
 use Rattle.store.proofs.Right.{settled-right}
 use Rattle.store.proofs.Shapes.{Fitting, shape-elim}
 use Rattle.store.specs.Calls.{addOf, answer, isDone, joinedBy, ofVerdict, storeOf}
@@ -31,12 +29,8 @@ either : (b : Bool) (x y : Outcome) → (b ≡ true → Right x) → (b ≡ fals
 either true x y f g = f refl
 either false x y f g = g refl
 
-done-fault : (r : Reply) (b : Bool) → isDone r ≡ b → not b ≡ false → r ≡ Done
-done-fault r true e q = zero-done r (eqb-true (numberOf r) 0 e)
-done-fault r false e q = absurd (no q)
-  where
-    no : _≡_ {A = Bool} true false → ⊥
-    no z = let k : _≡_ {A = ℕ} 0 1 = cc in omega arith
+done-fault : (r : Reply) → not (isDone r) ≡ false → r ≡ Done
+done-fault r q = zero-done r (eqb-true (numberOf r) 0 (not-false (isDone r) q))
 
 module _ (s : Store) (right : rightShape s ≡ true) where
   abbrev A : ℕ
@@ -72,17 +66,12 @@ module _ (s : Store) (right : rightShape s ≡ true) where
     join-right : x ≡ Done → Right (joinedBy s j)
     unfolding joinedBy
     join-right d =
-        let p = canonical-fits (A + M) c l d in
-        let Larger : Justification → Type 0 = λ i. (heldRight (heldOf A M (put i J)) ≡ true) × (saidBy (heldOf A M (put i J)) ≡ put i J) in
         either (someOf (sameJustification j) J) (answer Already s) (choose (leb 256 (s .held .count)) (answer Full s) (storeOf s A M (put j J))) (λ _. right)
         (λ new. either (leb 256 (s .held .count)) (answer Full s) (storeOf s A M (put j J)) (λ _. right)
-        (λ k.
-        let n : someOf (sameJustification (meaning (entryOf j))) J ≡ false = subst (λ (i : Justification). someOf (sameJustification i) J ≡ false) (sym (p .1)) new in
-        let w : Larger j = subst Larger (p .1) (larger-right s (entryOf j) right (p .0) n (leb-false 256 (s .held .count) k), larger-said s (entryOf j) right (p .0) n (leb-false 256 (s .held .count) k)) in
-        stored (put j J) (w .0) (w .1)))
+        (λ k. let w = larger s right c l d new (leb-false 256 (s .held .count) k) in stored (put j J) (w .right) (w .said)))
 
     pub add-right : Right (addOf s c l)
     unfolding addOf
     add-right =
         either (not (rightShape s)) (answer Shape s) (choose (not (isDone x)) (answer x s) (joinedBy s j)) (λ _. right)
-        (λ _. either (not (isDone x)) (answer x s) (joinedBy s j) (λ _. right) (λ f. join-right (done-fault x (isDone x) refl f)))
+        (λ _. either (not (isDone x)) (answer x s) (joinedBy s j) (λ _. right) (λ f. join-right (done-fault x f)))

@@ -12,15 +12,15 @@ use Rattle.store.specs.declared.Store.{Store}
 use Rattle.theory.proofs.Lists.{and-left, and-right}
 
 module _ (h : Held) where
-  pub fits-a : 32 < h .assumptions → heldFits h ≡ false
+  pub fits-a : 32 < h .assumptions → false ≡ heldFits h
   unfolding heldFits
   fits-a p = rw (lt-leb (h .assumptions) 32 p)
 
-  pub fits-m : h .assumptions ≤ 32 → 96 < h .claims → heldFits h ≡ false
+  pub fits-m : h .assumptions ≤ 32 → 96 < h .claims → false ≡ heldFits h
   unfolding heldFits
   fits-m a p = rw (le-leb (h .assumptions) 32 a, lt-leb (h .claims) 96 p)
 
-  pub fits-rest : h .assumptions ≤ 32 → h .claims ≤ 96 → heldFits h ≡ heldRight h
+  pub fits-rest : h .assumptions ≤ 32 → h .claims ≤ 96 → heldRight h ≡ heldFits h
   unfolding heldFits
   fits-rest a m = rw (le-leb (h .assumptions) 32 a, le-leb (h .claims) 96 m)
 

@@ -4,6 +4,7 @@ use mathlib.Core.List.{List, []}
 use mathlib.Core.Path.{_≡_}
 use Prim.Native.Nat.{_+_, ℕ}
 use lib.Dec.{eqb, leb, ltb}
+use Rattle.changing.specs.declared.Changed.{Changed}
 use Rattle.replies.specs.Replies.{numberOf}
 use Rattle.replies.specs.declared.Reply.{Reply}
 use Rattle.replies.specs.declared.Reply.the-variants.{Already, Counts, Done, Full, Label, Nogoods, Shape, Unheld}
@@ -64,6 +65,14 @@ JudgedAnew h r = r ≡ judgedOf h
 
 abbrev pub isDone : Reply → Bool
 isDone r = eqb (numberOf r) 0
+
+-- o; a refusal hands back s
+abbrev pub elseKept : Store → Outcome → Outcome
+elseKept s o = choose (isDone (o .reply)) o (answer (o .reply) s)
+
+-- the store of what is held after a change, judged anew; a refusal, of the change or by the stages, hands back s
+unfoldable pub afterOf : Store → Changed → Outcome
+afterOf s c = choose (isDone (c .reply)) (elseKept s (judgedOf (c .held))) (answer (c .reply) s)
 
 -- the shape, the faults of the item, then what is done with the justification that it makes
 abbrev pub checkedOf : Store → ℕ → List ℕ → (Justification → Outcome) → Outcome

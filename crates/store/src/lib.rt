@@ -1,14 +1,14 @@
 // The store by value: its shape, opening, judging what is held, adding, withdrawing.
+use changing::Changed;
 use replies::Reply;
-use rules::Entry;
 use rules::Held;
+use sets::Set;
 use stages::Lists;
-ghost use mathlib.Core.Bool.{true};
 ghost use mathlib.Core.Path.{_≡_};
-ghost use Prim.Native.Nat.{_+_, _≤_};
-ghost use Rattle.rules.specs.Held.{fitting, meaning};
-ghost use Rattle.store.specs.Shape.{rightShape, RightShape, top};
-ghost use Rattle.store.specs.Calls.{startStore, Opened, JudgedAnew, Added, joinedBy, Withdrawn, partedFrom};
+ghost use Prim.Native.Nat.{_≤_};
+ghost use Rattle.store.specs.Shape.{RightShape, heldFits};
+ghost use Rattle.store.specs.Reading.{refusalOf};
+ghost use Rattle.store.specs.Calls.{Added, JudgedAnew, Opened, Withdrawn, afterOf, startStore};
 
 // What is held, and the labels and nogoods at its depth.
 #[repr(C)]
@@ -33,39 +33,40 @@ fn start(a: u8, m: u8) -> Store
     Store { held, lists }
 }
 
+// Whether what is held fits: the counts within the limits, and the justifications in their shape.
+fn held_fits(held: Held) -> bool
+    ensures { λ r. ⌜ r ≡ heldFits held ⌝ }
+{
+    if 32 < held.assumptions {
+        return false;
+    }
+    if 96 < held.claims {
+        return false;
+    }
+    held.right()
+}
+
 // The store of the justifications held, judged anew from stage 0; or the refusal.
 pub fn judged(held: Held) -> Outcome
     ensures { λ r. ⌜ JudgedAnew held r ⌝ }
 {
-    if 32 < held.assumptions {
+    if !held_fits(held) {
         return Outcome {
             reply: Reply::Shape,
             store: start(0, 0),
         };
     }
-    if 96 < held.claims {
+    let told = stages::judge(held);
+    let reply = told.reply;
+    if replies::number(reply) != 0 {
         return Outcome {
-            reply: Reply::Shape,
+            reply,
             store: start(0, 0),
         };
     }
-    if held.right() {
-        let told = stages::judge(held);
-        let reply = told.reply;
-        if replies::number(reply) != 0 {
-            return Outcome {
-                reply,
-                store: start(0, 0),
-            };
-        }
-        let lists = told.lists;
-        let store = Store { held, lists };
-        return Outcome { reply, store };
-    }
-    Outcome {
-        reply: Reply::Shape,
-        store: start(0, 0),
-    }
+    let lists = told.lists;
+    let store = Store { held, lists };
+    Outcome { reply, store }
 }
 
 impl Store {
@@ -74,18 +75,31 @@ impl Store {
         ensures { λ r. ⌜ RightShape self r ⌝ }
     {
         let held = self.held;
+        if !held_fits(held) {
+            return false;
+        }
+        let lists = self.lists;
         let a = held.assumptions;
-        if 32 < a {
-            return false;
+        shape::right(lists, a, a + held.claims)
+    }
+
+    // Why a call that reads n and e is refused: the shape, then n above the highest number or an assumption in e above the last; else done.
+    pub fn refusal(self, n: u32, e: Set) -> Reply
+        ensures { λ r. ⌜ r ≡ refusalOf self n e ⌝ }
+    {
+        if !self.shape() {
+            return Reply::Shape;
         }
-        if 96 < held.claims {
-            return false;
+        let held = self.held;
+        let a = held.assumptions;
+        let top = (a + held.claims) as u32;
+        if top < n {
+            return Reply::Number;
         }
-        if held.right() {
-            let lists = self.lists;
-            return shape::right(lists, a, a + held.claims);
+        if !sets::low(e, a) {
+            return Reply::Number;
         }
-        false
+        Reply::Done
     }
 
     // A store that holds nothing, of so many assumptions and claims.
@@ -110,57 +124,18 @@ impl Store {
         }
     }
 
-    // The store with one justification more; or the refusal and the store as it was.
-    pub fn add(self, consequent: u32, supports: &[u32]) -> Outcome
-        ensures { λ r. ⌜ Added self consequent (now (supports .entry)) r ⌝ }
+    // The store of what is held after a change, judged anew; or the refusal and the store as it was.
+    pub fn after(self, changed: Changed) -> Outcome
+        ensures { λ r. ⌜ r ≡ afterOf self changed ⌝ }
     {
-        if self.shape() {
-            return self.entering(consequent, supports);
-        }
-        Outcome {
-            reply: Reply::Shape,
-            store: self,
-        }
-    }
-
-    // The same of a store that is known to have the right shape.
-    pub fn entering(self, consequent: u32, supports: &[u32]) -> Outcome
-        requires { ⌜ rightShape self ≡ true ⌝ }
-        ensures { λ r. ⌜ Added self consequent (now (supports .entry)) r ⌝ }
-    {
-        let held = self.held;
-        let top = held.assumptions + held.claims;
-        let fault = rules::fault(top, consequent, supports);
-        if replies::number(fault) != 0 {
+        let refusal = changed.reply;
+        if replies::number(refusal) != 0 {
             return Outcome {
-                reply: fault,
+                reply: refusal,
                 store: self,
             };
         }
-        let entry = rules::canonical(top, consequent, supports);
-        self.taking(entry)
-    }
-
-    // The same of a justification in its canonical form.
-    fn taking(self, entry: Entry) -> Outcome
-        requires { ⌜ (rightShape self ≡ true) × (fitting (top (self .held)) entry ≡ true) ⌝ }
-        ensures { λ r. ⌜ r ≡ joinedBy self (meaning entry) ⌝ }
-    {
-        let held = self.held;
-        if held.holds(entry) {
-            return Outcome {
-                reply: Reply::Already,
-                store: self,
-            };
-        }
-        if 256 <= held.count {
-            return Outcome {
-                reply: Reply::Full,
-                store: self,
-            };
-        }
-        let next = held.insert(entry);
-        let out = judged(next);
+        let out = judged(changed.held);
         let reply = out.reply;
         if replies::number(reply) != 0 {
             return Outcome { reply, store: self };
@@ -168,44 +143,31 @@ impl Store {
         out
     }
 
+    // The store with one justification more; or the refusal and the store as it was.
+    pub fn add(self, consequent: u32, supports: &[u32]) -> Outcome
+        ensures { λ r. ⌜ Added self consequent (now (supports .entry)) r ⌝ }
+    {
+        if !self.shape() {
+            return Outcome {
+                reply: Reply::Shape,
+                store: self,
+            };
+        }
+        let changed = changing::more(self.held, consequent, supports);
+        self.after(changed)
+    }
+
     // The store without one justification that it holds; or the refusal and the store as it was.
     pub fn withdraw(self, consequent: u32, supports: &[u32]) -> Outcome
         ensures { λ r. ⌜ Withdrawn self consequent (now (supports .entry)) r ⌝ }
     {
-        if self.shape() {
-            let held = self.held;
-            let top = held.assumptions + held.claims;
-            let reply = rules::fault(top, consequent, supports);
-            if replies::number(reply) != 0 {
-                return Outcome { reply, store: self };
-            }
-            let entry = rules::canonical(top, consequent, supports);
-            return self.parting(entry);
+        if !self.shape() {
+            return Outcome {
+                reply: Reply::Shape,
+                store: self,
+            };
         }
-        Outcome {
-            reply: Reply::Shape,
-            store: self,
-        }
-    }
-
-    // The same of a justification in its canonical form.
-    fn parting(self, entry: Entry) -> Outcome
-        requires { ⌜ (rightShape self ≡ true) × (fitting (top (self .held)) entry ≡ true) ⌝ }
-        ensures { λ r. ⌜ r ≡ partedFrom self (meaning entry) ⌝ }
-    {
-        let held = self.held;
-        if held.holds(entry) {
-            let rest = held.remove(entry);
-            let out = judged(rest);
-            let reply = out.reply;
-            if replies::number(reply) != 0 {
-                return Outcome { reply, store: self };
-            }
-            return out;
-        }
-        Outcome {
-            reply: Reply::Unheld,
-            store: self,
-        }
+        let changed = changing::less(self.held, consequent, supports);
+        self.after(changed)
     }
 }

@@ -1,7 +1,6 @@
--- `bare::tell` meets its contract. Assumes nothing.
-use native.Mathlib.Omega.{arith}
-use Rattle.bare.proofs.Steps.{told-fill, told-lines, told-word}
+-- `bare::tell` meets its contract, one way of asking after the other. Assumes nothing.
 use borrow.Author.Needs.{needs}
+use Rattle.bare.proofs.Steps.{told-fill, told-lines, told-word}
 use Rattle.bare.proofs.tell.Statement.{statement}
 use Rattle.bare.proofs.tell.Tie as tie
 
@@ -20,26 +19,36 @@ fill-requires c κs = search needs
 enum-told-2 : tie.Need-enum-told-2
 enum-told-2 c = search needs
 
-add-put : tie.Need-add-put
-add-put c = omega (arith, c .before .before .before .pre)
-
 put-requires : tie.Need-put-requires
-put-requires c κs = omega (arith, c .before .before .before .before .pre)
+put-requires c κs = search needs
 
 returns : tie.Need-returns
-returns c = told-word (c .before .before .before .before .before .args .marks) (c .before .before .before .before .before .args .top) (c .before .before .before .before .before .args .out .now) (c .before .before .before .before .before .args .what) _ _ (c .before .before .what .given .1) (c .word .ensures)
+returns c = let a = c .before .before .before .before .before .args in told-word (a .marks) (a .top) (a .out .now) (a .what) _ _ (c .before .before .what .given .1) (c .word .ensures)
 
 same-length : tie.Need-same-length
 same-length c = search needs
 
 returns-2 : tie.Need-returns-2
-returns-2 c = told-fill (c .before .before .before .before .before .before .before .args .marks) (c .before .before .before .before .before .before .before .args .top) (c .before .before .before .before .before .before .before .args .out .now) (c .before .before .before .before .before .before .before .args .what) _ _ (c .before .before .before .before .enum-told .given .1) (c .before .before .fill .ensures)
+returns-2 c = let a = c .before .before .before .before .before .before .before .args in told-fill (a .marks) (a .top) (a .out .now) (a .what) _ _ (c .before .before .before .before .enum-told .given .1) (c .before .before .fill .ensures .0) (c .before .before .fill .ensures .1)
 
 same-length-2 : tie.Need-same-length-2
 same-length-2 c = search needs
 
 returns-3 : tie.Need-returns-3
-returns-3 c = told-lines (c .before .before .before .before .before .before .before .args .marks) (c .before .before .before .before .before .before .before .args .top) (c .before .before .before .before .before .before .before .args .out .now) (c .before .before .before .before .before .before .before .args .what) _ _ (c .before .before .before .before .enum-told2 .given .1) (c .before .before .put .ensures)
+returns-3 c = let a = c .before .before .before .before .before .before .before .args in told-lines (a .marks) (a .top) (a .out .now) (a .what) _ _ (c .before .before .before .before .enum-told2 .given .1) (c .before .before .put .ensures)
 
 pub tell-spec : {M : Type 1} → statement M
-tell-spec = tie.close (tie.spec enum-known-what word-requires enum-told fill-requires enum-told-2 add-put put-requires returns same-length returns-2 same-length-2 returns-3)
+tell-spec =
+    tie.close
+    (tie.spec
+    enum-known-what
+    word-requires
+    enum-told
+    fill-requires
+    enum-told-2
+    put-requires
+    returns
+    same-length
+    returns-2
+    same-length-2
+    returns-3)

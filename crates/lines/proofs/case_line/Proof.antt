@@ -4,7 +4,7 @@ use mathlib.Core.Path.{_∙_, _≡_, sym}
 use native.Mathlib.Omega.{arith}
 use borrow.Author.Tests.{not-false, not-true}
 use lib.Seq.{length-take-le}
-use Rattle.lines.proofs.Bounds.{bounded}
+use Rattle.wording.proofs.Bounds.{bounded}
 use Rattle.lines.proofs.Longest.{case-length}
 use Rattle.lines.proofs.Fits.{case-rest, case-shape}
 use Rattle.lines.specs.Lines.{caseText}

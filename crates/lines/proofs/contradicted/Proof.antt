@@ -6,7 +6,7 @@ use native.Mathlib.Omega.{arith}
 use borrow.Author.Needs.{needs}
 use lib.ListN.{getD, length}
 use Rattle.following.proofs.Places.{all-told}
-use Rattle.lines.proofs.Bounds.{followable}
+use Rattle.lines.proofs.Follows.{followable}
 use Rattle.store.proofs.Reading.{unlabelled-no, unlabelled-yes}
 use Rattle.store.specs.Reading.{contradictedIn, heldFromAll, unlabelled}
 use Rattle.lines.proofs.contradicted.Statement.{statement}

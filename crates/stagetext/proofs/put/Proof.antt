@@ -2,10 +2,16 @@
 use mathlib.Core.Path.{ap}
 use Prim.Native.Nat.{_+_, ℕ}
 use native.Mathlib.Omega.{arith}
-use Rattle.stagetext.proofs.Laws.{latest-low, put-done, put-short}
 use borrow.Author.Needs.{needs}
+use Rattle.stagetext.proofs.Laws.{latest-low, put-above, put-done, put-short}
 use Rattle.stagetext.proofs.put.Statement.{statement}
 use Rattle.stagetext.proofs.put.Tie as tie
+
+returns : tie.Need-returns
+returns c = let a = c .before .before .args in put-above (a .t1) (a .top) (a .out .now) (c .if1 .taken)
+
+add-end : tie.Need-add-end
+add-end c = search needs
 
 slice-aggregate-last : tie.Need-slice-aggregate-last
 slice-aggregate-last c = search needs
@@ -14,36 +20,38 @@ last-requires : tie.Need-last-requires
 last-requires c κs = search needs
 
 add-count : tie.Need-add-count
-add-count c = omega (arith, c .last .ensures, latest-low (c .before .before .before .args .t1) 0 (omega arith))
+add-count c = omega (arith, c .last .ensures, latest-low (c .before .before .before .before .args .t1) 0 (omega arith))
 
 rows-width-requires : tie.Need-rows-width-requires
-rows-width-requires c κs = search needs
+rows-width-requires c κs = omega (arith, c .before .before .if1 .left)
 
-returns : tie.Need-returns
-returns c =
-    let a = c .before .before .before .before .before .args in
-    put-short (a .t1) (a .end) _ (a .out .now) (ap (λ (x : ℕ). x + 1) (c .before .before .last .ensures)) (omega (arith, c .if1 .taken, c .before .rows-width .ensures))
+returns-2 : tie.Need-returns-2
+returns-2 c =
+    let a = c .before .before .before .before .before .before .args in
+    put-short (a .t1) (a .top) _ (a .out .now) (c .before .before .before .before .if1 .left) (ap (λ (x : ℕ). x + 1) (c .before .before .last .ensures)) (omega (arith, c .if2 .taken, c .before .rows-width .ensures))
 
 rows-requires : tie.Need-rows-requires
-rows-requires c κs = (c .before .before .before .before .before .before .pre, omega (arith, c .before .if1 .left, c .before .before .rows-width .ensures))
+rows-requires c κs = (omega (arith, c .before .before .before .before .before .if1 .left), omega (arith, c .before .if2 .left, c .before .before .rows-width .ensures))
 
 same-length : tie.Need-same-length
 same-length c = search needs
 
-returns-2 : tie.Need-returns-2
-returns-2 c =
-    let a = c .before .before .before .before .before .before .before .before .before .args in
-    put-done (a .t1) (a .end) _ (a .out .now) (ap (λ (x : ℕ). x + 1) (c .before .before .before .before .before .before .last .ensures)) (omega (arith, c .before .before .before .before .if1 .left, c .before .before .before .before .before .rows-width .ensures)) _ _ (c .before .before .rows .ensures)
+returns-3 : tie.Need-returns-3
+returns-3 c =
+    let a = c .before .before .before .before .before .before .before .before .before .before .args in
+    put-done (a .t1) (a .top) _ (a .out .now) (c .before .before .before .before .before .before .before .before .if1 .left) (ap (λ (x : ℕ). x + 1) (c .before .before .before .before .before .before .last .ensures)) (omega (arith, c .before .before .before .before .if2 .left, c .before .before .before .before .before .rows-width .ensures)) _ _ (c .before .before .rows .ensures)
 
 pub put-spec : {M : Type 1} → statement M
 put-spec =
     tie.close
     (tie.spec
+    returns
+    add-end
     slice-aggregate-last
     last-requires
     add-count
     rows-width-requires
-    returns
+    returns-2
     rows-requires
     same-length
-    returns-2)
+    returns-3)

@@ -1,74 +1,34 @@
--- `withdraw` meets its contract: the refusals in their order, then the rest. Assumes nothing.
-use mathlib.Core.Path.{_∙_, ap, sym}
+-- `withdraw` meets its contract: the shape, the change, then what is held judged anew. Assumes nothing.
+use mathlib.Core.Bool.{true}
+use mathlib.Core.Path.{_∙_, _≡_, ap, sym}
 use native.Mathlib.Omega.{arith}
 use borrow.Author.Needs.{needs}
-use Rattle.replies.proofs.Laws.{zero-done}
-use Rattle.replies.specs.Replies.{numberOf}
-use Rattle.replies.specs.declared.Reply.{Reply}
-use Rattle.rules.proofs.Laws.{canonical-fits}
-use Rattle.rules.specs.Held.{fitting, meaning}
-use Rattle.rules.specs.Items.{faultOf}
-use Rattle.rules.specs.declared.Entry.{Entry}
-use Rattle.store.proofs.Judging.{withdraw-fault, withdraw-item, withdraw-shape}
+use borrow.Author.Tests.{not-false, not-true}
+use Rattle.store.proofs.Changes.{less-withdrawn}
+use Rattle.store.proofs.Judging.{withdraw-shape}
 use Rattle.store.proofs.Shapes.{shape-elim}
-use Rattle.store.specs.Calls.{answer, partedFrom}
-use Rattle.store.specs.Shape.{top}
+use Rattle.store.specs.Calls.{afterOf}
+use Rattle.store.specs.Shape.{rightShape}
 use Rattle.store.proofs.Store.withdraw.Statement.{statement}
 use Rattle.store.proofs.Store.withdraw.Tie as tie
+
+right : (c : tie.Else1) → rightShape (c .before .before .before .args .self) ≡ true
+right c = sym (c .before .shape .ensures) ∙ not-false _ (c .if1 .left)
 
 shape-requires : tie.Need-shape-requires
 shape-requires c κs = search needs
 
-add-top : tie.Need-add-top
-add-top c = omega (arith, shape-elim (c .before .before .before .before .before .args .self) (sym (c .before .before .before .shape .ensures) ∙ c .before .before .if1 .taken) .0 .few, shape-elim (c .before .before .before .before .before .args .self) (sym (c .before .before .before .shape .ensures) ∙ c .before .before .if1 .taken) .0 .claims)
-
-fault-requires : tie.Need-fault-requires
-fault-requires c κs = search needs
-
-number-requires : tie.Need-number-requires
-number-requires c κs = search needs
-
 returns : tie.Need-returns
-returns c =
-    let a = c .before .before .before .before .before .before .before .before .args in
-    ap (λ (r : Reply). answer r (a .self)) (c .before .before .fault .ensures)
-    ∙ withdraw-fault (a .self) (a .consequent) (a .supports .now) (sym (c .before .before .before .before .before .before .shape .ensures) ∙ c .before .before .before .before .before .if1 .taken) (λ z. c .if2 .taken (c .before .number .ensures ∙ ap numberOf (c .before .before .fault .ensures) ∙ z))
+returns c = let a = c .before .before .before .args in withdraw-shape (a .self) (a .consequent) (a .supports .now) (sym (c .before .shape .ensures) ∙ not-true _ (c .if1 .taken))
 
-canonical-requires : tie.Need-canonical-requires
-canonical-requires c κs =
-    let a = c .before .before .before .before .before .before .before .before .args in
-    let f = shape-elim (a .self) (sym (c .before .before .before .before .before .before .shape .ensures) ∙ c .before .before .before .before .before .if1 .taken) .0 in
-    (omega (arith, f .few, f .claims), zero-done (faultOf (top (a .self .held)) (a .consequent) (a .supports .now)) (ap numberOf (sym (c .before .before .fault .ensures)) ∙ sym (c .before .number .ensures) ∙ c .if2 .left))
+less-requires : tie.Need-less-requires
+less-requires c κs = let f = shape-elim (c .before .before .before .args .self) (right c) .0 in (f .right, omega (arith, f .few, f .claims))
 
-parting-requires : tie.Need-parting-requires
-parting-requires c κs =
-    let a = c .before .before .before .before .before .before .before .before .before .args in
-    let d = zero-done (faultOf (top (a .self .held)) (a .consequent) (a .supports .now)) (ap numberOf (sym (c .before .before .before .fault .ensures)) ∙ sym (c .before .before .number .ensures) ∙ c .before .if2 .left) in
-    (sym (c .before .before .before .before .before .before .before .shape .ensures) ∙ c .before .before .before .before .before .before .if1 .taken, ap (fitting (top (a .self .held))) (c .canonical .ensures) ∙ canonical-fits (top (a .self .held)) (a .consequent) (a .supports .now) d .0)
+after-requires : tie.Need-after-requires
+after-requires c κs = search needs
 
 returns-2 : tie.Need-returns-2
-returns-2 c =
-    let a = c .before .before .before .before .before .before .before .before .before .before .args in
-    let z = ap numberOf (sym (c .before .before .before .before .fault .ensures)) ∙ sym (c .before .before .before .number .ensures) ∙ c .before .before .if2 .left in
-    let d = zero-done (faultOf (top (a .self .held)) (a .consequent) (a .supports .now)) z in
-    c .parting .ensures
-    ∙ ap (λ (e : Entry). partedFrom (a .self) (meaning e)) (c .before .canonical .ensures)
-    ∙ ap (partedFrom (a .self)) (canonical-fits (top (a .self .held)) (a .consequent) (a .supports .now) d .1)
-    ∙ withdraw-item (a .self) (a .consequent) (a .supports .now) (sym (c .before .before .before .before .before .before .before .before .shape .ensures) ∙ c .before .before .before .before .before .before .before .if1 .taken) z
-
-returns-3 : tie.Need-returns-3
-returns-3 c = let a = c .before .before .before .args in withdraw-shape (a .self) (a .consequent) (a .supports .now) (sym (c .before .shape .ensures) ∙ c .if1 .left)
+returns-2 c = let a = c .before .before .before .before .before .args in c .after .ensures ∙ ap (afterOf (a .self)) (c .before .less .ensures) ∙ less-withdrawn (a .self) (right (c .before .before)) (a .consequent) (a .supports .now)
 
 pub withdraw-spec : {M : Type 1} → statement M
-withdraw-spec =
-    tie.close
-    (tie.spec
-    shape-requires
-    add-top
-    fault-requires
-    number-requires
-    returns
-    canonical-requires
-    parting-requires
-    returns-2
-    returns-3)
+withdraw-spec = tie.close (tie.spec shape-requires returns less-requires after-requires returns-2)

@@ -1,0 +1,19 @@
+-- The supports of an item, and a list that is handed over by value. Assumes nothing.
+use mathlib.Core.List.{List}
+use mathlib.Core.Path.{_∙_, _≡_, sym}
+use Prim.Native.Nat.{_<_, _≤_, ℕ}
+use native.Mathlib.Omega.{arith}
+use lib.ListN.{length, take}
+use lib.Seq.{take-all}
+use borrow.Author.Tests.{le-ltb}
+use Rattle.handed.specs.Supplied.{suppliedBy}
+use Rattle.handed.specs.declared.Handed.{Handed}
+
+-- an item of four supports or fewer
+pub supplied-few : (h : Handed) → h .count ≤ 4 → take (h .count) (h .supports) ≡ suppliedBy h
+unfolding suppliedBy
+supplied-few h p = rw (le-ltb 4 (h .count) p)
+
+-- the first n of a list of m are all, where n is more
+pub taken-all : (l : List Handed) (m n : ℕ) → length l ≡ m → m < n → take m l ≡ take n l
+taken-all l m n e h = take-all m l (omega (arith, e)) ∙ sym (take-all n l (omega (arith, e, h)))

@@ -1,0 +1,108 @@
+-- `wording::lined` meets its contract. Assumes nothing.
+use mathlib.Core.Path.{_≡_, sym}
+use Prim.Native.Nat.{_-_, _≤_}
+use native.Mathlib.Omega.{arith}
+use lib.ListN.{getD, length, take}
+use lib.Seq.{length-take-le}
+use Rattle.wording.proofs.Bounds.{bounded}
+use Rattle.wording.proofs.Rows.{labelOf, text-label, text-nogoods}
+use Rattle.wording.specs.Wording.{lineWith, wordOf}
+use Rattle.text.proofs.Writing.{Left, left-as}
+use Rattle.text.specs.Texts.{row}
+use borrow.Author.Needs.{needs}
+use Rattle.wording.proofs.lined.Statement.{statement}
+use Rattle.wording.proofs.lined.Tie as tie
+
+nogoods : (c : tie.Then1) → let s = c .before .before .before in let l = s .args .store .lists in let n = s .args .n in let out = s .args .out .now in let x = take (l .count) (l .nogoods) in
+    Left (row 32 n (wordOf n x (s .args .follows)) x) 0 out (lineWith l n (s .args .follows)) 0 out
+nogoods c = let s = c .before .before .before in left-as (text-nogoods (s .args .store .lists) (s .args .n) (s .args .follows) (c .if1 .taken)) (s .pre .2)
+
+label : (c : tie.Else1) → let s = c .before .before .before in let l = s .args .store .lists in let n = s .args .n in let out = s .args .out .now in let x = labelOf l (n - 1) in
+    Left (row 32 n (wordOf n x (s .args .follows)) x) 0 out (lineWith l n (s .args .follows)) 0 out
+label c = let s = c .before .before .before in left-as (text-label (s .args .store .lists) (s .args .n) (s .args .follows) (c .if1 .left)) (s .pre .2)
+
+size : (c : tie.Else1) → let s = c .before .before .before in getD (s .args .store .lists .sizes) (s .args .n - 1) 0 ≤ 12
+size c = let s = c .before .before .before in bounded (s .args .store) (s .pre .0) .sizes (s .args .n - 1) (omega arith)
+
+few : (s : tie.Start) → s .args .store .lists .count ≤ length (s .args .store .lists .nogoods)
+few s = bounded (s .args .store) (s .pre .0) .nogoods
+
+long : (s : tie.Start) → length (s .args .store .lists .members) ≡ 1536
+long s = search needs
+
+array-share-prefix-nogoods : tie.Need-array-share-prefix-nogoods
+array-share-prefix-nogoods c = few (c .before .before .before .before)
+
+slice-aggregate-worded : tie.Need-slice-aggregate-worded
+slice-aggregate-worded c = let s = c .before .before .before .before .before in sym (length-take-le _ (s .args .store .lists .nogoods) (few s))
+
+worded-requires : tie.Need-worded-requires
+worded-requires c κs = nogoods (c .before .before .before) .room
+
+same-length : tie.Need-same-length
+same-length c = search needs
+
+returns : tie.Need-returns
+returns c = nogoods (c .before .before .before .before .before .before) .done _ _ (c .before .before .worded .ensures)
+
+sub-i : tie.Need-sub-i
+sub-i c = search needs
+
+cast-i : tie.Need-cast-i
+cast-i c = search needs
+
+mul-from : tie.Need-mul-from
+mul-from c = search needs
+
+element-copy-out-to : tie.Need-element-copy-out-to
+element-copy-out-to c = search needs
+
+cast-to : tie.Need-cast-to
+cast-to c = search needs
+
+add-to : tie.Need-add-to
+add-to c = omega (arith, size (c .before))
+
+mul-worded : tie.Need-mul-worded
+mul-worded c = search needs
+
+sub-worded : tie.Need-sub-worded
+sub-worded c = search needs
+
+part-worded-start : tie.Need-part-worded-start
+part-worded-start c = search needs
+
+part-worded-end : tie.Need-part-worded-end
+part-worded-end c = omega (arith, long (c .before .before .before .before .before .before), size (c .before .before .before))
+
+worded-requires-2 : tie.Need-worded-requires-2
+worded-requires-2 c κs = label (c .before .before .before .before .before) .room
+
+same-length-2 : tie.Need-same-length-2
+same-length-2 c = search needs
+
+returns-2 : tie.Need-returns-2
+returns-2 c = label (c .before .before .before .before .before .before .before .before) .done _ _ (c .before .before .worded2 .ensures)
+
+pub lined-spec : {M : Type 1} → statement M
+lined-spec =
+    tie.close
+    (tie.spec
+    array-share-prefix-nogoods
+    slice-aggregate-worded
+    worded-requires
+    same-length
+    returns
+    sub-i
+    cast-i
+    mul-from
+    element-copy-out-to
+    cast-to
+    add-to
+    mul-worded
+    sub-worded
+    part-worded-start
+    part-worded-end
+    worded-requires-2
+    same-length-2
+    returns-2)

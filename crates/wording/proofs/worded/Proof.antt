@@ -1,0 +1,114 @@
+-- `wording::worded` meets its contract. Assumes nothing.
+use mathlib.Core.Bool.{Bool}
+use mathlib.Core.List.{List}
+use mathlib.Core.Path.{_∙_, _≡_, ap}
+use Prim.Native.Nat.{ℕ}
+use Rattle.wording.proofs.Rows.{word-nogood, word-none, word-some}
+use Rattle.wording.specs.Wording.{wordOf}
+use Rattle.text.proofs.Writing.{Left, left-as}
+use Rattle.text.specs.Texts.{row, word}
+use Rattle.theory.specs.Lists.{choose}
+use borrow.Author.Needs.{needs}
+use Rattle.wording.proofs.worded.Statement.{statement}
+use Rattle.wording.proofs.worded.Tie as tie
+
+-- the line of s with the words given
+abbrev Worded : tie.Start → List ℕ → Type 0
+Worded s words =
+    let n = s .args .n in let l = s .args .list .now in let out = s .args .out .now in
+    Left (row 32 n words l) 0 out (row 32 n (wordOf n l (s .args .follows)) l) 0 out
+
+worded : (s : tie.Start) (words : List ℕ) → wordOf (s .args .n) (s .args .list .now) (s .args .follows) ≡ words → Worded s words
+worded s words e = left-as (ap (λ (w : List ℕ). row 32 (s .args .n) w (s .args .list .now)) e) (s .pre)
+
+nogood : (c : tie.Then1) → Worded (c .before .before .before) (word " nogood")
+nogood c = worded (c .before .before .before) (word " nogood") (word-nogood _ _ _ (c .if1 .taken))
+
+some : (c : tie.Then2) → Worded (c .before .before .before .before) (word " supported")
+some c = worded (c .before .before .before .before) (word " supported") (word-some _ _ _ (c .before .if1 .left) (c .if2 .taken))
+
+empty : (c : tie.Else2) → wordOf (c .before .before .before .before .args .n) (c .before .before .before .before .args .list .now) (c .before .before .before .before .args .follows) ≡ choose (c .before .before .before .before .args .follows) (word " contradicted") (word " unsupported")
+empty c = word-none _ _ _ (c .before .if1 .left) (c .if2 .left)
+
+against : (c : tie.Then3) → Worded (c .before .before .before .before .before) (word " contradicted")
+against c = worded (c .before .before .before .before .before) (word " contradicted") (empty (c .before) ∙ ap (λ (b : Bool). choose b (word " contradicted") (word " unsupported")) (c .if3 .taken))
+
+none : (c : tie.Else3) → Worded (c .before .before .before .before .before) (word " unsupported")
+none c = worded (c .before .before .before .before .before) (word " unsupported") (empty (c .before) ∙ ap (λ (b : Bool). choose b (word " contradicted") (word " unsupported")) (c .if3 .left))
+
+slice-aggregate-line : tie.Need-slice-aggregate-line
+slice-aggregate-line c = search needs
+
+line-requires : tie.Need-line-requires
+unfolding word
+line-requires c κs = nogood (c .before .before) .room
+
+same-length : tie.Need-same-length
+same-length c = search needs
+
+returns : tie.Need-returns
+unfolding word
+returns c = nogood (c .before .before .before .before .before) .done _ _ (c .before .before .line .ensures)
+
+slice-aggregate-line-2 : tie.Need-slice-aggregate-line-2
+slice-aggregate-line-2 c = search needs
+
+line-requires-2 : tie.Need-line-requires-2
+unfolding word
+line-requires-2 c κs = some (c .before .before) .room
+
+same-length-2 : tie.Need-same-length-2
+same-length-2 c = search needs
+
+returns-2 : tie.Need-returns-2
+unfolding word
+returns-2 c = some (c .before .before .before .before .before) .done _ _ (c .before .before .line2 .ensures)
+
+slice-aggregate-line-3 : tie.Need-slice-aggregate-line-3
+slice-aggregate-line-3 c = search needs
+
+line-requires-3 : tie.Need-line-requires-3
+unfolding word
+line-requires-3 c κs = against (c .before .before) .room
+
+same-length-3 : tie.Need-same-length-3
+same-length-3 c = search needs
+
+returns-3 : tie.Need-returns-3
+unfolding word
+returns-3 c = against (c .before .before .before .before .before) .done _ _ (c .before .before .line3 .ensures)
+
+slice-aggregate-line-4 : tie.Need-slice-aggregate-line-4
+slice-aggregate-line-4 c = search needs
+
+line-requires-4 : tie.Need-line-requires-4
+unfolding word
+line-requires-4 c κs = none (c .before .before) .room
+
+same-length-4 : tie.Need-same-length-4
+same-length-4 c = search needs
+
+returns-4 : tie.Need-returns-4
+unfolding word
+returns-4 c = none (c .before .before .before .before .before) .done _ _ (c .before .before .line4 .ensures)
+
+pub worded-spec : {M : Type 1} → statement M
+worded-spec =
+    tie.close
+    (tie.spec
+    slice-aggregate-line
+    line-requires
+    same-length
+    returns
+    slice-aggregate-line-2
+    line-requires-2
+    same-length-2
+    returns-2
+    slice-aggregate-line-3
+    line-requires-3
+    same-length-3
+    returns-3
+    slice-aggregate-line-4
+    line-requires-4
+    same-length-4
+    returns-4)
