@@ -2,6 +2,8 @@ pub mod Steps
 pub mod Faults
 pub mod Scan
 pub mod Entries
+pub mod Keys
+pub mod Placed
 pub mod Taking
 pub mod Moving
 pub mod Putting

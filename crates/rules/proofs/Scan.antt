@@ -10,11 +10,12 @@ use lib.Dec.{eqb, leb}
 use lib.ListN.{List·getD-map, drop, drop-of-length-le, getD, length, length-map, take}
 use lib.Seq.{drop-cons, getD-take, length-take-le}
 use borrow.Author.Tests.{eq-eqb, eqb-true, le-leb, leb-true, lt-leb}
-use Rattle.rules.proofs.Steps.{all-first, any-hit, any-miss, beyond, fitting-count}
+use Rattle.rules.proofs.Steps.{all-first, and-first, beyond, fitting-count}
 use Rattle.rules.specs.Held.{fitting, heldRight, meaning, ordered, saidBy, unusedEntry}
 use Rattle.rules.specs.Placing.{placeOf}
 use Rattle.rules.specs.declared.Entry.{Entry}
 use Rattle.rules.specs.declared.Held.{Held}
+use Rattle.slices.proofs.Laws.{any-hit, any-miss}
 use Rattle.theory.proofs.Lists.{and-left, and-right}
 use Rattle.theory.proofs.Places.{any-end}
 use Rattle.theory.specs.Lists.{allOf, choose, someOf}
@@ -105,17 +106,19 @@ module _ (h : Held) where
     abbrev N : ℕ
     N = h .assumptions + h .claims
 
-    pub right-out : allOf (fitting N) (take (h .count) (h .entries)) ≡ false → false ≡ heldRight h
-    unfolding heldRight
-    right-out p = rw (le-leb (h .count) 256 few, eq-eqb (length (h .entries)) 256 long, p)
+    -- in range and in order
+    abbrev placed : Bool
+    placed = allOf (fitting N) (take (h .count) (h .entries)) && ordered (saidBy h)
 
-    pub right-mixed : allOf (fitting N) (take (h .count) (h .entries)) ≡ true → ordered (saidBy h) ≡ false → false ≡ heldRight h
+    pub right-out : placed ≡ false → false ≡ heldRight h
     unfolding heldRight
-    right-mixed p q = rw (le-leb (h .count) 256 few, eq-eqb (length (h .entries)) 256 long, p, q)
+    right-out p = rw (le-leb (h .count) 256 few, eq-eqb (length (h .entries)) 256 long) (sym (and-first (allOf (fitting N) (take (h .count) (h .entries))) (ordered (saidBy h)) _ p))
 
-    pub right-rest : allOf (fitting N) (take (h .count) (h .entries)) ≡ true → ordered (saidBy h) ≡ true → (r : Bool) → r ≡ allOf unusedEntry (drop (h .count) (h .entries)) → r ≡ heldRight h
+    pub right-rest : placed ≡ true → (r : Bool) → r ≡ allOf unusedEntry (drop (h .count) (h .entries)) → r ≡ heldRight h
     unfolding heldRight
-    right-rest p q r e = rw (le-leb (h .count) 256 few, eq-eqb (length (h .entries)) 256 long, p, q) e
+    right-rest p r e =
+        let F : Bool = allOf (fitting N) (take (h .count) (h .entries)) in
+        rw (le-leb (h .count) 256 few, eq-eqb (length (h .entries)) 256 long, and-left F (ordered (saidBy h)) p, and-right F (ordered (saidBy h)) p) e
 
 -- what a right shape says
 pub record Right (h : Held) : Type 0 where

@@ -4,6 +4,7 @@ use mathlib.Core.List.{List, [], _∷_, map}
 use mathlib.Core.Path.{_∙_, _≡_, ap, ap₂, refl, sym}
 use Prim.Native.Nat.{_%_, _*_, _+_, _-_, _<_, _^_, _≤_, suc, zero, ℕ}
 use native.Mathlib.Nat.{le-of-suc-le-suc, not-suc-le-zero}
+use native.Mathlib.Decide.{decLe}
 use native.Mathlib.Numerals.{add-one}
 use native.Mathlib.Omega.{arith}
 use lib.Dec.{eqb, leb, ltb}
@@ -11,13 +12,13 @@ use lib.ListN.{drop, drop-of-length-le, getD, length, length-map, length-take, t
 use lib.Seq.{drop-cons, getD-take, length-take-le}
 use borrow.Author.Tests.{eq-eqb, eqb-true, le-leb, le-ltb, leb-true, lt-leb, lt-ltb, ltb-true, ne-eqb}
 use borrow.Rule.Slice.PartAt.{part-to-end}
-use Rattle.rules.specs.Held.{climbs, fitting, meaning, unusedEntry}
+use Rattle.rules.specs.Held.{climbs, fitting, meaning}
 use Rattle.rules.specs.Items.{sameJustification}
 use Rattle.rules.specs.declared.Entry.{Entry}
+use Rattle.slices.proofs.Laws.{any-hit, any-miss, same-length}
 use Rattle.theory.proofs.Lists.{and-intro, and-left, and-right, clash, same-test}
-use Rattle.theory.proofs.Places.{any-step}
 use Rattle.theory.specs.Judge.{sameSets}
-use Rattle.theory.specs.Lists.{alike, allOf, someOf}
+use Rattle.theory.specs.Lists.{allOf, someOf}
 use Rattle.theory.specs.Stages.{Justification, ahead, lesser}
 
 -- what is read past the last place
@@ -29,13 +30,6 @@ pub length-mapped : (X Y : Type 0) (f : X → Y) (l : List X) (n : ℕ) → leng
 length-mapped X Y f l n p = sym (length-map l f) ∙ p
 
 -- ---- a list, one by one
-module _ {X : Type 0} (p : X → Bool) (l : List X) (i : ℕ) (z : X) (h : i < length l) where
-  pub any-hit : p (getD l i z) ≡ true → someOf p (drop i l) ≡ true
-  any-hit t = any-step p l i z h ∙ ap (λ (b : Bool). b || someOf p (drop (i + 1) l)) t
-
-  pub any-miss : p (getD l i z) ≡ false → someOf p (drop i l) ≡ someOf p (drop (i + 1) l)
-  any-miss t = any-step p l i z h ∙ ap (λ (b : Bool). b || someOf p (drop (i + 1) l)) t
-
 pub all-at : {X : Type 0} (p : X → Bool) (l : List X) (i : ℕ) (z : X) → allOf p l ≡ true → i < length l → p (getD l i z) ≡ true
 unfolding allOf
 all-at p [] i z h k = absurd (not-suc-le-zero k)
@@ -55,9 +49,13 @@ pub to-end : {X : Type 0} (l : List X) (n m : ℕ) → length l ≡ m → take (
 to-end l n m e = ap (λ (k : ℕ). take (k - n) (drop n l)) (sym e) ∙ part-to-end l n
 
 -- ---- numbers that rise
-and-none : (a : Bool) → a && false ≡ false
+pub and-none : (a : Bool) → a && false ≡ false
 and-none true = refl
 and-none false = refl
+
+and-all : (a : Bool) → a && true ≡ a
+and-all true = refl
+and-all false = refl
 
 module _ (N p : ℕ) (l : List ℕ) (i : ℕ) where
   climbs-step : i < length l → climbs N p (drop i l) ≡ ltb p (getD l i 0) && (leb (getD l i 0) N && climbs N (getD l i 0) (drop (i + 1) l))
@@ -79,23 +77,42 @@ module _ (N p : ℕ) (l : List ℕ) (i : ℕ) where
   abbrev rest-right : ℕ → ℕ → ℕ → Bool
   rest-right n q j = climbs N q (drop j l) && not (someOf (eqb n) (drop j l))
 
-  pub climbs-low : (n : ℕ) → i < length l → getD l i 0 ≤ p → rest-right n p i ≡ false
+  climbs-low : (n : ℕ) → i < length l → getD l i 0 ≤ p → rest-right n p i ≡ false
   climbs-low n h k = ap (λ (b : Bool). b && not (someOf (eqb n) (drop i l))) (step-low h k)
 
-  pub climbs-high : (n : ℕ) → i < length l → p < getD l i 0 → N < getD l i 0 → rest-right n p i ≡ false
+  climbs-high : (n : ℕ) → i < length l → p < getD l i 0 → N < getD l i 0 → rest-right n p i ≡ false
   climbs-high n h k m = ap (λ (b : Bool). b && not (someOf (eqb n) (drop i l))) (step-high h k m)
 
-  pub climbs-own : (n : ℕ) → i < length l → getD l i 0 ≡ n → rest-right n p i ≡ false
+  climbs-own : (n : ℕ) → i < length l → getD l i 0 ≡ n → rest-right n p i ≡ false
   climbs-own n h e = ap (λ (b : Bool). climbs N p (drop i l) && not b) (any-hit (eqb n) l i 0 h (eq-eqb n (getD l i 0) (sym e))) ∙ and-none (climbs N p (drop i l))
 
-  pub climbs-more : (n : ℕ) → i < length l → p < getD l i 0 → getD l i 0 ≤ N → (getD l i 0 ≡ n → ⊥) → rest-right n p i ≡ rest-right n (getD l i 0) (i + 1)
+  climbs-more : (n : ℕ) → i < length l → p < getD l i 0 → getD l i 0 ≤ N → (getD l i 0 ≡ n → ⊥) → rest-right n p i ≡ rest-right n (getD l i 0) (i + 1)
   climbs-more n h k m e =
       ap₂ (λ (a b : Bool). a && not b) (step-more h k m)
       (any-miss (eqb n) l i 0 h (ne-eqb n (getD l i 0) (λ q. e (sym q))))
 
-  pub climbs-end : (n : ℕ) → length l ≤ i → rest-right n p i ≡ true
+  climbs-end : (n : ℕ) → length l ≤ i → rest-right n p i ≡ true
   unfolding climbs someOf
   climbs-end n h = ap (λ (m : List ℕ). climbs N p m && not (someOf (eqb n) m)) (drop-of-length-le l {i = i} h)
+
+  -- .. and what came last is at most N: looked at once, at the end
+  pub rises-low : (n : ℕ) → i < length l → getD l i 0 ≤ p → leb p N && rest-right n p i ≡ false
+  rises-low n h k = ap (λ (b : Bool). leb p N && b) (climbs-low n h k) ∙ and-none (leb p N)
+
+  pub rises-own : (n : ℕ) → i < length l → getD l i 0 ≡ n → leb p N && rest-right n p i ≡ false
+  rises-own n h e = ap (λ (b : Bool). leb p N && b) (climbs-own n h e) ∙ and-none (leb p N)
+
+  pub rises-more : (n : ℕ) → i < length l → p < getD l i 0 → (getD l i 0 ≡ n → ⊥) → leb p N && rest-right n p i ≡ leb (getD l i 0) N && rest-right n (getD l i 0) (i + 1)
+  rises-more n h k e = elim (decLe (getD l i 0) N) [
+    | yes m ↦ ap₂ _&&_ (le-leb p N (omega arith)) (climbs-more n h k m e) ∙ ap (λ (b : Bool). b && rest-right n (getD l i 0) (i + 1)) (sym (le-leb (getD l i 0) N m))
+    | no m ↦ ap (λ (b : Bool). leb p N && b) (climbs-high n h k (omega arith)) ∙ and-none (leb p N) ∙ ap (λ (b : Bool). b && rest-right n (getD l i 0) (i + 1)) (sym (lt-leb (getD l i 0) N (omega arith)))
+  ]
+
+  pub rises-start : (b : Bool) → b ≡ leb 0 N && b
+  rises-start b = ap (λ (t : Bool). t && b) (sym (le-leb 0 N (omega arith)))
+
+  pub rises-end : (n : ℕ) → length l ≤ i → leb p N && rest-right n p i ≡ leb p N
+  rises-end n h = ap (λ (b : Bool). leb p N && b) (climbs-end n h) ∙ and-all (leb p N)
 
 -- ---- four bytes as one number
 pub word-ends : (a b c d n : ℕ) → a < 256 → b < 256 → c < 256 → d < 256 → n ≤ 4
@@ -132,7 +149,7 @@ four (a ∷ b ∷ c ∷ []) e = absurd (omega arith)
 four (a ∷ b ∷ c ∷ d ∷ []) e = refl
 four (a ∷ b ∷ c ∷ d ∷ x ∷ l) e = absurd (omega arith)
 
-and-first : (a b c : Bool) → a && b ≡ false → a && (b && c) ≡ false
+pub and-first : (a b c : Bool) → a && b ≡ false → a && (b && c) ≡ false
 and-first true true c e = clash refl e
 and-first true false c e = refl
 and-first false b c e = refl
@@ -159,19 +176,6 @@ module _ (N : ℕ) (e : Entry) where
       let u : Bool = climbs N 0 (take (e .count) (e .supports)) in
       let v : Bool = not (someOf (eqb (e .consequent)) (take (e .count) (e .supports))) in
       rw (le-leb (e .consequent) N h, le-leb (e .count) 4 k, and-left u v t, and-right u v t, eq-eqb (length (e .supports)) 4 q) p
-
-module _ (e : Entry) where
-  pub unused-head : (e .consequent ≡ 0 → ⊥) → false ≡ unusedEntry e
-  unfolding unusedEntry
-  unused-head h = rw (ne-eqb (e .consequent) 0 h)
-
-  pub unused-count : e .consequent ≡ 0 → (e .count ≡ 0 → ⊥) → false ≡ unusedEntry e
-  unfolding unusedEntry
-  unused-count h k = rw (eq-eqb (e .consequent) 0 h, ne-eqb (e .count) 0 k)
-
-  pub unused-rest : e .consequent ≡ 0 → e .count ≡ 0 → length (e .supports) ≡ 4 → (r : Bool) → r ≡ allOf (eqb 0) (e .supports) → r ≡ unusedEntry e
-  unfolding unusedEntry
-  unused-rest h k q r p = rw (eq-eqb (e .consequent) 0 h, eq-eqb (e .count) 0 k, eq-eqb (length (e .supports)) 4 q) p
 
 pub fitting-count : (N : ℕ) (e : Entry) → fitting N e ≡ true → e .count ≤ 4
 unfolding fitting
@@ -225,36 +229,6 @@ module _ (r t : Justification) where
     unfolding ahead
     ahead-same q b p =
         rw (le-ltb (r .consequent) (t .consequent) (omega arith), eq-eqb (r .consequent) (t .consequent) e, le-ltb (length (r .supports)) (length (t .supports)) (omega arith), eq-eqb (length (r .supports)) (length (t .supports)) q) p
-
--- ---- two lists of one length
-module _ (a b : List ℕ) (i : ℕ) where
-  same-step : i < length a → i < length b → sameSets (drop i a) (drop i b) ≡ eqb (getD a i 0) (getD b i 0) && sameSets (drop (i + 1) a) (drop (i + 1) b)
-  unfolding sameSets alike
-  same-step h k =
-      ap₂ sameSets (drop-cons a i 0 h) (drop-cons b i 0 k)
-      ∙ ap (λ (j : ℕ). eqb (getD a i 0) (getD b i 0) && sameSets (drop j a) (drop j b)) (sym (add-one i))
-
-  pub same-miss : i < length a → i < length b → (getD a i 0 ≡ getD b i 0 → ⊥) → sameSets (drop i a) (drop i b) ≡ false
-  same-miss h k n = same-step h k ∙ rw (ne-eqb (getD a i 0) (getD b i 0) n)
-
-  pub same-hit : i < length a → i < length b → getD a i 0 ≡ getD b i 0 → sameSets (drop i a) (drop i b) ≡ sameSets (drop (i + 1) a) (drop (i + 1) b)
-  same-hit h k e = same-step h k ∙ ap (λ (t : Bool). t && sameSets (drop (i + 1) a) (drop (i + 1) b)) (eq-eqb (getD a i 0) (getD b i 0) e)
-
-  pub same-end : length a ≤ i → length b ≤ i → sameSets (drop i a) (drop i b) ≡ true
-  unfolding sameSets alike
-  same-end h k = ap₂ sameSets (drop-of-length-le a {i = i} h) (drop-of-length-le b {i = i} k)
-
--- lists of different lengths differ
-pub same-length : (a b : List ℕ) → (length a ≡ length b → ⊥) → sameSets a b ≡ false
-unfolding sameSets alike
-same-length [] [] h = absurd (h refl)
-same-length [] (y ∷ b) h = refl
-same-length (x ∷ a) [] h = refl
-same-length (x ∷ a) (y ∷ b) h = go (eqb x y) (same-length a b (λ e. h (ap suc e)))
-  where
-    go : (t : Bool) → sameSets a b ≡ false → t && sameSets a b ≡ false
-    go true e = e
-    go false e = refl
 
 module _ (r t : Justification) where
   pub same-head : (r .consequent ≡ t .consequent → ⊥) → false ≡ sameJustification r t

@@ -2,17 +2,18 @@
 mod lists;
 
 use replies::Reply;
-ghost use mathlib.Core.Bool.{true};
+ghost use mathlib.Core.Bool.{_&&_, true};
 ghost use mathlib.Core.List.{map};
 ghost use mathlib.Core.Path.{_≡_};
 ghost use Prim.Native.Nat.{_+_, _-_, _<_, _≤_};
+ghost use lib.Dec.{eqb};
 ghost use lib.ListN.{drop, length, take};
 ghost use Rattle.theory.specs.Lists.{allOf, someOf};
 ghost use Rattle.theory.specs.Stages.{ahead};
 ghost use Rattle.replies.specs.declared.Reply.the-variants.{Done};
 ghost use Rattle.rules.specs.Held.{fitting, heldRight, meaning, ordered, saidBy, unusedEntry};
 ghost use Rattle.rules.specs.Items.{faultOf, sameJustification};
-ghost use Rattle.rules.specs.Placing.{insertAt, partly, placeOf, removeAt, withEntries};
+ghost use Rattle.rules.specs.Placing.{Bytes, insertAt, keyOf, partly, placeOf, removeAt, withEntries};
 ghost use Rattle.rules.specs.Promised.{Canonical, Faulted, HoldingNothing, Inserted, IsHeld, IsRight, Removed};
 
 // A justification in its place: its supports rising, unused places zero.
@@ -43,13 +44,13 @@ pub fn fault(top: u8, consequent: u32, supports: &[u32]) -> Reply
     if highest < consequent {
         return Reply::Number;
     }
-    if lists::over(supports, highest) {
+    if slices::over(supports, highest) {
         return Reply::Number;
     }
-    if lists::has(supports, 0) {
+    if slices::has(supports, 0) {
         return Reply::Falsity;
     }
-    if lists::has(supports, consequent) {
+    if slices::has(supports, consequent) {
         return Reply::Itself;
     }
     Reply::Done
@@ -79,7 +80,7 @@ impl Entry {
         requires { ⌜ (self ≡ partly (self .consequent) (now l) n) × (length (now l) ≤ 4) × (n ≤ 128) ⌝ }
         ensures { λ r. ⌜ r ≡ partly (self .consequent) (now (l .entry)) (n + 1) ⌝ }
     {
-        if lists::has(l, n as u32) {
+        if slices::has(l, n as u32) {
             let count = self.count;
             let at = count as usize;
             self.supports[at] = n;
@@ -108,18 +109,23 @@ impl Entry {
         false
     }
 
-    // Whether every field is zero.
-    fn unused(self) -> bool
-        ensures { λ r. ⌜ r ≡ unusedEntry self ⌝ }
+    // A number that is zero where every field is.
+    fn bits(self) -> u64
+        ensures { λ r. ⌜ eqb 0 r ≡ unusedEntry self ⌝ }
     {
-        if self.consequent != 0 {
-            return false;
-        }
-        if self.count != 0 {
-            return false;
-        }
-        let supports = self.supports;
-        lists::ends(supports[0], supports[1], supports[2], supports[3], 0)
+        let s = self.supports;
+        let word = lists::value(s[3], s[2], s[1], s[0]);
+        let head = self.consequent as u64 + 256 * (self.count as u64);
+        head | word
+    }
+
+    // The six bytes as one number, the consequent first: of two in range the one with the lesser number stands before the other.
+    fn key(self) -> u64
+        ensures { λ r. ⌜ (r ≡ keyOf self) × Bytes self ⌝ }
+    {
+        let s = self.supports;
+        let word = lists::value(s[0], s[1], s[2], s[3]);
+        1099511627776 * (self.consequent as u64) + 4294967296 * (self.count as u64) + word
     }
 
     // Whether self stands before t.
@@ -161,7 +167,7 @@ impl Entry {
         let n = count as usize;
         let mine = self.supports;
         let theirs = t.supports;
-        lists::equal(&mine[..n], &theirs[..n])
+        slices::equal(&mine[..n], &theirs[..n])
     }
 }
 
@@ -192,11 +198,8 @@ impl Held {
             return false;
         }
         let top = self.assumptions as u16 + self.claims as u16;
-        if self.inrange(top) {
-            if self.inorder(top) {
-                return self.spare();
-            }
-            return false;
+        if self.inplace(top) {
+            return self.spare();
         }
         false
     }
@@ -236,58 +239,49 @@ impl Held {
         self.closed(at)
     }
 
-    // Whether the places in use are in range.
-    fn inrange(self, top: u16) -> bool
+    // Whether the places in use are in range, and each stands before the next.
+    fn inplace(self, top: u16) -> bool
         requires { ⌜ self .count ≤ 256 ⌝ }
-        ensures { λ r. ⌜ r ≡ allOf (fitting top) (take (self .count) (self .entries)) ⌝ }
+        ensures { λ r. ⌜ r ≡ allOf (fitting top) (take (self .count) (self .entries)) && ordered (saidBy self) ⌝ }
     {
         let count = self.count;
-        let mut j = 0;
-        while j < count {
-            let entry = self.entries[j];
-            if entry.fits(top) {
-                j += 1;
-            } else {
-                return false;
-            }
+        if count == 0 {
+            return true;
         }
-        true
-    }
-
-    // Whether each held justification stands before the next.
-    fn inorder(self, top: u16) -> bool
-        requires { ⌜ (self .count ≤ 256) × (allOf (fitting top) (take (self .count) (self .entries)) ≡ true) ⌝ }
-        ensures { λ r. ⌜ r ≡ ordered (saidBy self) ⌝ }
-    {
-        let count = self.count;
+        let first = self.entries[0];
+        if !first.fits(top) {
+            return false;
+        }
+        let mut last = first.key();
         let mut j = 1;
         while j < count {
-            let last = self.entries[j - 1];
             let entry = self.entries[j];
-            if last.comes(entry) {
-                j += 1;
-            } else {
+            if !entry.fits(top) {
                 return false;
             }
+            let key = entry.key();
+            if key <= last {
+                return false;
+            }
+            last = key;
+            j += 1;
         }
         true
     }
 
-    // Whether the other places are zero.
+    // Whether the other places are zero: one pass without an exit.
     fn spare(self) -> bool
         requires { ⌜ self .count ≤ 256 ⌝ }
         ensures { λ r. ⌜ r ≡ allOf unusedEntry (drop (self .count) (self .entries)) ⌝ }
     {
+        let mut seen = 0;
         let mut j = self.count;
         while j < 256 {
             let entry = self.entries[j];
-            if entry.unused() {
-                j += 1;
-            } else {
-                return false;
-            }
+            seen |= entry.bits();
+            j += 1;
         }
-        true
+        seen == 0
     }
 
     // How many held justifications stand before it.

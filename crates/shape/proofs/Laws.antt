@@ -16,6 +16,7 @@ use Rattle.labels.proofs.Selects.{at-mem}
 use Rattle.shape.proofs.Elim.{Listed, listed-elim, listed-intro}
 use Rattle.shape.proofs.Runs.{mem-place}
 use Rattle.shape.specs.Shape.{apart, labelRight, labelsRight, listed, listsRight, rowRight, standing, unionOf}
+use Rattle.slices.proofs.Laws.{none-of-both}
 use Rattle.stages.specs.declared.Lists.{Lists}
 use Rattle.theory.proofs.Depth.{length-below}
 use Rattle.theory.proofs.Judgement.{at-below}
@@ -40,36 +41,6 @@ module _ (l : List ℕ) (i : ℕ) where
 
 pub union-start : (l : List ℕ) → union 0 (unionOf l) ≡ unionOf l
 union-start l = or-zero-l (unionOf l)
-
--- the test written the other way round
-pub turned : (x : ℕ) → eqb x 0 ≡ eqb 0 x
-turned x = same-test (λ t. eq-eqb 0 x (sym (eqb-true x 0 t))) (λ t. eq-eqb x 0 (sym (eqb-true 0 x t)))
-
--- no bit in either
-pub none-of-both : (x y : ℕ) → eqb 0 (union x y) ≡ eqb 0 x && eqb 0 y
-none-of-both x y =
-    same-test
-    (λ t.
-    let z : 0 ≡ union x y = eqb-true 0 (union x y) t in
-    and-intro (eq-eqb 0 x (omega (arith, within-le x (union x y) (within-left x y)))) (eq-eqb 0 y (omega (arith, within-le y (union x y) (within-right x y)))))
-    (λ t. eq-eqb 0 (union x y) (sym (or-zero-l 0) ∙ ap₂ union (eqb-true 0 x (and-left (eqb 0 x) (eqb 0 y) t)) (eqb-true 0 y (and-right (eqb 0 x) (eqb 0 y) t))))
-
-module _ (l : List ℕ) (i seen : ℕ) (inv : eqb 0 seen && allOf (eqb 0) (drop i l) ≡ allOf (eqb 0) l) where
-  pub zero-on : i < length l → eqb 0 (union seen (getD l i 0)) && allOf (eqb 0) (drop (i + 1) l) ≡ allOf (eqb 0) l
-  zero-on h =
-      ap (λ (b : Bool). b && allOf (eqb 0) (drop (i + 1) l)) (none-of-both seen (getD l i 0))
-      ∙ and-three (eqb 0 seen) (eqb 0 (getD l i 0)) (allOf (eqb 0) (drop (i + 1) l)) ∙ ap (λ (b : Bool). eqb 0 seen && b) (sym (all-step (eqb 0) l i 0 h)) ∙ inv
-    where
-      and-three : (a b c : Bool) → (a && b) && c ≡ a && (b && c)
-      and-three true b c = refl
-      and-three false b c = refl
-
-  pub zero-end : length l ≤ i → eqb seen 0 ≡ allOf (eqb 0) l
-  zero-end h = turned seen ∙ and-true (eqb 0 seen) ∙ ap (λ (b : Bool). eqb 0 seen && b) (sym (all-end (eqb 0) l i h)) ∙ inv
-    where
-      and-true : (a : Bool) → a ≡ a && true
-      and-true true = refl
-      and-true false = refl
 
 low-both : (A x y : ℕ) → inRange A (union x y) ≡ inRange A x && inRange A y
 unfolding inRange

@@ -3,7 +3,6 @@ use sets::Set;
 use stages::Lists;
 ghost use mathlib.Core.Path.{_≡_};
 ghost use Prim.Native.Nat.{_≤_};
-ghost use lib.Dec.{eqb};
 ghost use lib.ListN.{length};
 ghost use Rattle.theory.specs.Lists.{allOf, numbersBelow, sortedBy};
 ghost use Rattle.shape.specs.Shape.{apart, labelsRight, ListsRight, rowRight, standing, unionOf};
@@ -60,19 +59,6 @@ fn all(l: &[Set]) -> Set
     seen
 }
 
-// Whether every size is zero: one pass without an exit.
-fn zeros(l: &[u8]) -> bool
-    ensures { λ r. ⌜ r ≡ allOf (eqb 0) (now (l .entry)) ⌝ }
-{
-    let mut seen = 0;
-    let mut i = 0;
-    while i < l.len() {
-        seen |= l[i];
-        i += 1;
-    }
-    seen == 0
-}
-
 // Whether count sets stand in order in their places, and the other places are zero.
 fn list(l: &[Set], count: usize) -> bool
     ensures { λ r. ⌜ r ≡ standing count (now (l .entry)) ⌝ }
@@ -111,7 +97,7 @@ fn labels<'a>(members: &'a [Set], sizes: &'a [u8], top: u8, a: u8) -> bool
     ensures { λ r. ⌜ r ≡ labelsRight a top (now (sizes .entry)) (now (members .entry)) ⌝ }
 {
     let n = top as usize;
-    if !zeros(&sizes[n..]) {
+    if !slices::zeros(&sizes[n..]) {
         return false;
     }
     let end = 12 * n;

@@ -7,13 +7,12 @@ use native.Mathlib.Omega.{arith}
 use lib.Dec.{eqb}
 use lib.ListN.{drop, getD, length, set, take}
 use lib.Seq.{getD-take, length-take-le, paste}
-use borrow.Author.Tests.{eq-eqb, ne-eqb, not-false, not-true}
+use borrow.Author.Tests.{not-false, not-true}
 use Rattle.labels.specs.declared.Built.{Built}
-use Rattle.rules.proofs.Steps.{same-end, same-hit, same-miss}
+use Rattle.slices.proofs.Laws.{same-end, same-hit, same-miss}
 use Rattle.stages.specs.Steps.{Put}
 use Rattle.theory.proofs.Judgement.{same-elim}
 use Rattle.theory.proofs.Lists.{not-so}
-use Rattle.theory.proofs.Places.{all-end, all-hit, all-miss}
 use Rattle.theory.specs.Judge.{sameSets}
 use Rattle.theory.specs.Lists.{allOf, choose}
 
@@ -42,15 +41,8 @@ module _ (news : Bool) (marks : List ℕ) where
   pub still-news : news ≡ true → false ≡ not news && allOf (eqb 0) marks
   still-news e = rw e
 
-  module _ (quiet : news ≡ false) (i : ℕ) (inv : allOf (eqb 0) marks ≡ allOf (eqb 0) (drop i marks)) where
-    pub still-marked : i < length marks → (getD marks i 0 ≡ 0 → ⊥) → false ≡ not news && allOf (eqb 0) marks
-    still-marked h n = let z : allOf (eqb 0) marks ≡ false = inv ∙ all-miss (eqb 0) marks i 0 h (ne-eqb 0 (getD marks i 0) (λ e. n (sym e))) in rw (quiet, z)
-
-    pub still-on : i < length marks → getD marks i 0 ≡ 0 → allOf (eqb 0) marks ≡ allOf (eqb 0) (drop (i + 1) marks)
-    still-on h e = inv ∙ all-hit (eqb 0) marks i 0 h (eq-eqb 0 (getD marks i 0) (sym e))
-
-    pub still-none : length marks ≤ i → true ≡ not news && allOf (eqb 0) marks
-    still-none h = let z : allOf (eqb 0) marks ≡ true = inv ∙ all-end (eqb 0) marks i h in rw (quiet, z)
+  pub still-quiet : news ≡ false → (r : Bool) → r ≡ allOf (eqb 0) marks → r ≡ not news && allOf (eqb 0) marks
+  still-quiet e r h = rw e h
 
 -- ---- a label put where it differs
 module _ (same : Bool) (at : ℕ) (label : Built) (later counts marks : List ℕ) (r : Bool) (e : r ≡ not same) where

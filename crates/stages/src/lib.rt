@@ -278,14 +278,7 @@ fn still(news: bool, marks: &[u8]) -> bool
     if news {
         return false;
     }
-    let mut i = 0;
-    while i < marks.len() {
-        if marks[i] != 0 {
-            return false;
-        }
-        i += 1;
-    }
-    true
+    slices::zeros(marks)
 }
 
 // Those of a list that contain no set struck.

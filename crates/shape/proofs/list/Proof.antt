@@ -6,7 +6,8 @@ use lib.Dec.{eqb}
 use lib.ListN.{drop}
 use lib.Seq.{length-take-le}
 use borrow.Rule.Slice.PartAt.{part-to-end}
-use Rattle.shape.proofs.Laws.{standing-long, standing-mixed, standing-rest, turned}
+use Rattle.shape.proofs.Laws.{standing-long, standing-mixed, standing-rest}
+use Rattle.slices.proofs.Laws.{turned}
 use Rattle.shape.specs.Shape.{unionOf}
 use borrow.Author.Needs.{needs}
 use Rattle.shape.proofs.list.Statement.{statement}

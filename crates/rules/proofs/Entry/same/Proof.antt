@@ -4,7 +4,7 @@ use native.Mathlib.Omega.{arith}
 use lib.ListN.{length}
 use lib.Seq.{length-take-le}
 use borrow.Author.Needs.{needs}
-use Rattle.rules.proofs.Steps.{as-long, differ-many, same-all, same-head}
+use Rattle.rules.proofs.Steps.{differ-many, same-all, same-head}
 use Rattle.rules.specs.Held.{meaning}
 use Rattle.rules.proofs.Entry.same.Statement.{statement}
 use Rattle.rules.proofs.Entry.same.Tie as tie
@@ -35,11 +35,7 @@ slice-aggregate-equal-2 : tie.Need-slice-aggregate-equal-2
 slice-aggregate-equal-2 c = let s = c .before .before .before .before .before .before .before .before .before .before in let e : length (s .args .t .supports) ≡ 4 = search needs in sym (length-take-le _ _ (omega (arith, s .pre .0)))
 
 equal-requires : tie.Need-equal-requires
-equal-requires c κs =
-    let s = c .before .before .before .before .before .before .before .before .before .before in
-    let e : length (s .args .self .supports) ≡ 4 = search needs in
-    let f : length (s .args .t .supports) ≡ 4 = search needs in
-    as-long (s .args .self) (s .args .t) e f (s .pre .0) (s .pre .1)
+equal-requires c κs = search needs
 
 returns-3 : tie.Need-returns-3
 returns-3 c =

@@ -2,7 +2,7 @@
 use mathlib.Core.Path.{_∙_, _≡_, sym}
 use lib.ListN.{length}
 use borrow.Author.Needs.{needs}
-use Rattle.rules.proofs.Scan.{right-many, right-mixed, right-out, right-rest}
+use Rattle.rules.proofs.Scan.{right-many, right-out, right-rest}
 use Rattle.rules.proofs.Steps.{length-mapped}
 use Rattle.rules.proofs.Held.right.Statement.{statement}
 use Rattle.rules.proofs.Held.right.Tie as tie
@@ -19,44 +19,23 @@ cast-top-2 c = search needs
 add-top : tie.Need-add-top
 add-top c = search needs
 
-inrange-requires : tie.Need-inrange-requires
-inrange-requires c κs = search needs
-
-inorder-requires : tie.Need-inorder-requires
-inorder-requires c κs = (c .before .before .before .before .if1 .left, sym (c .before .inrange .ensures) ∙ c .if2 .taken)
+inplace-requires : tie.Need-inplace-requires
+inplace-requires c κs = search needs
 
 spare-requires : tie.Need-spare-requires
 spare-requires c κs = search needs
 
 returns-2 : tie.Need-returns-2
 returns-2 c =
-    let s = c .before .before .before .before .before .before .before .before .before .args .self in
+    let s = c .before .before .before .before .before .before .before .args .self in
     let e : length (s .entries) ≡ 256 = search (needs, length-mapped) in
-    right-rest s (c .before .before .before .before .before .before .before .if1 .left) e (sym (c .before .before .before .before .inrange .ensures) ∙ c .before .before .before .if2 .taken) (sym (c .before .before .inorder .ensures) ∙ c .before .if3 .taken) _ (c .spare .ensures)
+    right-rest s (c .before .before .before .before .before .if1 .left) e (sym (c .before .before .inplace .ensures) ∙ c .before .if2 .taken) _ (c .spare .ensures)
 
 returns-3 : tie.Need-returns-3
 returns-3 c =
-    let s = c .before .before .before .before .before .before .before .before .args .self in
-    let e : length (s .entries) ≡ 256 = search (needs, length-mapped) in
-    right-mixed s (c .before .before .before .before .before .before .if1 .left) e (sym (c .before .before .before .inrange .ensures) ∙ c .before .before .if2 .taken) (sym (c .before .inorder .ensures) ∙ c .if3 .left)
-
-returns-4 : tie.Need-returns-4
-returns-4 c =
     let s = c .before .before .before .before .before .before .args .self in
     let e : length (s .entries) ≡ 256 = search (needs, length-mapped) in
-    right-out s (c .before .before .before .before .if1 .left) e (sym (c .before .inrange .ensures) ∙ c .if2 .left)
+    right-out s (c .before .before .before .before .if1 .left) e (sym (c .before .inplace .ensures) ∙ c .if2 .left)
 
 pub right-spec : {M : Type 1} → statement M
-right-spec =
-    tie.close
-    (tie.spec
-    returns
-    cast-top
-    cast-top-2
-    add-top
-    inrange-requires
-    inorder-requires
-    spare-requires
-    returns-2
-    returns-3
-    returns-4)
+right-spec = tie.close (tie.spec returns cast-top cast-top-2 add-top inplace-requires spare-requires returns-2 returns-3)

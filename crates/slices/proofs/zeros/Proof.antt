@@ -5,11 +5,11 @@ use Prim.Native.Nat.{_-_, _≤_}
 use native.Mathlib.Omega.{arith}
 use lib.Dec.{eqb}
 use lib.ListN.{drop, length}
-use Rattle.shape.proofs.Laws.{zero-end, zero-on}
+use Rattle.slices.proofs.Laws.{zero-end, zero-on}
 use Rattle.theory.specs.Lists.{allOf}
 use borrow.Author.Needs.{needs}
-use Rattle.shape.proofs.zeros.Statement.{statement}
-use Rattle.shape.proofs.zeros.Tie as tie
+use Rattle.slices.proofs.zeros.Statement.{statement}
+use Rattle.slices.proofs.zeros.Tie as tie
 
 abbrev Inv-loop : tie.InvT-loop
 Inv-loop l seen₀ i₀ seen i = (i ≤ length l) × (eqb 0 seen && allOf (eqb 0) (drop i l) ≡ allOf (eqb 0) l)
@@ -30,10 +30,10 @@ loop-less : tie.Need-loop-less Inv-loop μ-loop
 loop-less c = search needs
 
 loop-again : tie.Need-loop-again Inv-loop μ-loop
-loop-again c = let l = c .before .before .loop in (omega arith, zero-on _ (l .i) (l .seen) (l .inv .1) (omega arith))
+loop-again c = let l = c .before .before .loop in (omega arith, zero-on (eqb 0) _ (l .i) (l .seen) _ (l .inv .1) 0 _ (omega arith) refl)
 
 returns : tie.Need-returns Inv-loop μ-loop
-returns c = let l = c .before .loop in zero-end _ (l .i) (l .seen) (l .inv .1) (omega arith)
+returns c = let l = c .before .loop in zero-end (eqb 0) _ (l .i) (l .seen) _ (l .inv .1) (omega arith)
 
 pub zeros-spec : {M : Type 1} → statement M
 zeros-spec =

@@ -6,11 +6,11 @@ use lib.Dec.{eqb}
 use lib.ListN.{drop, length}
 use borrow.Author.Needs.{needs}
 use borrow.Author.Tests.{eq-eqb, ne-eqb}
-use Rattle.rules.proofs.Steps.{any-hit, any-miss}
+use Rattle.slices.proofs.Laws.{any-hit, any-miss}
 use Rattle.theory.proofs.Places.{any-end}
 use Rattle.theory.specs.Lists.{someOf}
-use Rattle.rules.proofs.lists.has.Statement.{statement}
-use Rattle.rules.proofs.lists.has.Tie as tie
+use Rattle.slices.proofs.has.Statement.{statement}
+use Rattle.slices.proofs.has.Tie as tie
 
 abbrev Inv-loop : tie.InvT-loop
 Inv-loop l n i₀ i = (i ≤ length l) × (someOf (eqb n) l ≡ someOf (eqb n) (drop i l))

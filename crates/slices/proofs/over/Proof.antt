@@ -6,11 +6,11 @@ use lib.Dec.{ltb}
 use lib.ListN.{drop, length}
 use borrow.Author.Needs.{needs}
 use borrow.Author.Tests.{le-ltb, lt-ltb}
-use Rattle.rules.proofs.Steps.{any-hit, any-miss}
+use Rattle.slices.proofs.Laws.{any-hit, any-miss}
 use Rattle.theory.proofs.Places.{any-end}
 use Rattle.theory.specs.Lists.{someOf}
-use Rattle.rules.proofs.lists.over.Statement.{statement}
-use Rattle.rules.proofs.lists.over.Tie as tie
+use Rattle.slices.proofs.over.Statement.{statement}
+use Rattle.slices.proofs.over.Tie as tie
 
 abbrev Inv-loop : tie.InvT-loop
 Inv-loop l top i₀ i = (i ≤ length l) × (someOf (ltb top) l ≡ someOf (ltb top) (drop i l))

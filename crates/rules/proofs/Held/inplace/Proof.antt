@@ -1,0 +1,116 @@
+-- `inplace` meets its contract. The loop: before the place looked at all is right, and its own number is known. Assumes nothing.
+use mathlib.Core.Path.{_∙_, _≡_, sym}
+use Prim.Native.Nat.{_-_, _≤_}
+use native.Mathlib.Omega.{arith}
+use lib.ListN.{length}
+use borrow.Author.Needs.{needs}
+use borrow.Author.Tests.{not-false, not-true}
+use Rattle.rules.proofs.Placed.{Past, first-in, first-out, past-end, past-mixed, past-none, past-on, past-out}
+use Rattle.rules.proofs.Steps.{length-mapped}
+use Rattle.rules.proofs.Held.inplace.Statement.{statement}
+use Rattle.rules.proofs.Held.inplace.Tie as tie
+
+abbrev Inv-loop : tie.InvT-loop
+Inv-loop top self count last₀ j₀ last j = Past top (self .entries) count j last
+
+abbrev μ-loop : tie.MeasureT-loop
+μ-loop top self count last₀ j₀ last j = count - j
+
+returns : tie.Need-returns Inv-loop μ-loop
+returns c = past-none (c .before .args .top) (c .before .args .t1 .entries) (c .before .args .t1 .count) (c .if1 .taken)
+
+element-copy-out-first : tie.Need-element-copy-out-first Inv-loop μ-loop
+element-copy-out-first c = search needs
+
+fits-requires : tie.Need-fits-requires Inv-loop μ-loop
+fits-requires c κs = search needs
+
+returns-2 : tie.Need-returns-2 Inv-loop μ-loop
+returns-2 c =
+    let a = c .before .before .before .before .args in
+    let e : length (a .t1 .entries) ≡ 256 = search (needs, length-mapped) in
+    let room : a .t1 .count ≤ length (a .t1 .entries) = omega (arith, c .before .before .before .before .pre) in
+    first-out (a .top) (a .t1 .entries) (a .t1 .count) room (omega (arith, c .before .before .before .if1 .left)) (sym (c .before .fits2 .ensures) ∙ not-true _ (c .if2 .taken))
+
+key-requires : tie.Need-key-requires Inv-loop μ-loop
+key-requires c κs = search needs
+
+loop-holds : tie.Need-loop-holds Inv-loop μ-loop
+loop-holds c =
+    let a = c .before .before .before .before .before .args in
+    let e : length (a .t1 .entries) ≡ 256 = search (needs, length-mapped) in
+    let room : a .t1 .count ≤ length (a .t1 .entries) = omega (arith, c .before .before .before .before .before .pre) in
+    first-in (a .top) (a .t1 .entries) (a .t1 .count) room (omega (arith, c .before .before .before .before .if1 .left)) (sym (c .before .before .fits2 .ensures) ∙ not-false _ (c .before .if2 .left)) _ (c .key .ensures .0) (c .key .ensures .1)
+
+mul-entry : tie.Need-mul-entry Inv-loop μ-loop
+mul-entry c = omega (arith, c .before .before .before .before .before .before .before .pre, c .loop-test .taken)
+
+element-copy-out-entry : tie.Need-element-copy-out-entry Inv-loop μ-loop
+element-copy-out-entry c =
+    let a = c .before .before .before .before .before .before .before .args in
+    let e : length (a .t1 .entries) ≡ 256 = search (needs, length-mapped) in
+    let room : a .t1 .count ≤ length (a .t1 .entries) = omega (arith, c .before .before .before .before .before .before .before .pre) in
+    omega (arith, c .loop-test .taken)
+
+fits-requires-2 : tie.Need-fits-requires-2 Inv-loop μ-loop
+fits-requires-2 c κs = search needs
+
+returns-3 : tie.Need-returns-3 Inv-loop μ-loop
+returns-3 c =
+    let a = c .before .before .before .before .before .before .before .before .before .before .args in
+    let e : length (a .t1 .entries) ≡ 256 = search (needs, length-mapped) in
+    let room : a .t1 .count ≤ length (a .t1 .entries) = omega (arith, c .before .before .before .before .before .before .before .before .before .before .pre) in
+    past-out (a .top) (a .t1 .entries) (a .t1 .count) room (c .before .before .before .before .loop .j) (c .before .before .before .before .loop .last) (c .before .before .before .before .loop .inv) (c .before .before .before .loop-test .taken) (sym (c .before .fits3 .ensures) ∙ not-true _ (c .if3 .taken))
+
+key-requires-2 : tie.Need-key-requires-2 Inv-loop μ-loop
+key-requires-2 c κs = search needs
+
+returns-4 : tie.Need-returns-4 Inv-loop μ-loop
+returns-4 c =
+    let a = c .before .before .before .before .before .before .before .before .before .before .before .before .args in
+    let e : length (a .t1 .entries) ≡ 256 = search (needs, length-mapped) in
+    let room : a .t1 .count ≤ length (a .t1 .entries) = omega (arith, c .before .before .before .before .before .before .before .before .before .before .before .before .pre) in
+    past-mixed (a .top) (a .t1 .entries) (a .t1 .count) room (c .before .before .before .before .before .before .loop .j) (c .before .before .before .before .before .before .loop .last) (c .before .before .before .before .before .before .loop .inv) (c .before .before .before .before .before .loop-test .taken) (sym (c .before .before .before .fits3 .ensures) ∙ not-false _ (c .before .before .if3 .left)) _ (c .before .key2 .ensures .0) (c .before .key2 .ensures .1) (c .if4 .taken)
+
+add-j : tie.Need-add-j Inv-loop μ-loop
+add-j c = omega (arith, c .before .before .before .before .before .before .before .before .before .before .before .before .pre, c .before .before .before .before .before .loop-test .taken)
+
+loop-less : tie.Need-loop-less Inv-loop μ-loop
+loop-less c = omega (arith, c .before .before .before .before .before .loop-test .taken)
+
+loop-again : tie.Need-loop-again Inv-loop μ-loop
+loop-again c =
+    let a = c .before .before .before .before .before .before .before .before .before .before .before .before .args in
+    let e : length (a .t1 .entries) ≡ 256 = search (needs, length-mapped) in
+    let room : a .t1 .count ≤ length (a .t1 .entries) = omega (arith, c .before .before .before .before .before .before .before .before .before .before .before .before .pre) in
+    past-on (a .top) (a .t1 .entries) (a .t1 .count) room (c .before .before .before .before .before .before .loop .j) (c .before .before .before .before .before .before .loop .last) (c .before .before .before .before .before .before .loop .inv) (c .before .before .before .before .before .loop-test .taken) (sym (c .before .before .before .fits3 .ensures) ∙ not-false _ (c .before .before .if3 .left)) _ (c .before .key2 .ensures .0) (c .before .key2 .ensures .1) (omega (arith, c .if4 .left))
+
+returns-5 : tie.Need-returns-5 Inv-loop μ-loop
+returns-5 c =
+    let a = c .before .before .before .before .before .before .before .args in
+    let e : length (a .t1 .entries) ≡ 256 = search (needs, length-mapped) in
+    let room : a .t1 .count ≤ length (a .t1 .entries) = omega (arith, c .before .before .before .before .before .before .before .pre) in
+    past-end (a .top) (a .t1 .entries) (a .t1 .count) room (c .before .loop .j) (c .before .loop .last) (c .before .loop .inv) (omega (arith, c .loop-test .left))
+
+pub inplace-spec : {M : Type 1} → statement M
+inplace-spec =
+    tie.close
+    (tie.spec
+    Inv-loop
+    μ-loop
+    returns
+    element-copy-out-first
+    fits-requires
+    returns-2
+    key-requires
+    loop-holds
+    mul-entry
+    element-copy-out-entry
+    fits-requires-2
+    returns-3
+    key-requires-2
+    returns-4
+    add-j
+    loop-less
+    loop-again
+    returns-5)
