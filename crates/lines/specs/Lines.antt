@@ -14,6 +14,7 @@ use Rattle.store.specs.Reading.{heldFromAll, listHeld}
 use Rattle.store.specs.Shape.{rightShape, top}
 use Rattle.store.specs.declared.Store.{Store}
 use Rattle.text.specs.Texts.{heading, refusal, row, word}
+use Rattle.theory.specs.Limits.{limits}
 use Rattle.theory.specs.Lists.{choose}
 
 -- ---- the lines
@@ -26,7 +27,7 @@ wordOf (suc i) (E ∷ l) c = word " supported"
 
 -- the number, its word and the members of its list
 unfoldable pub lineWith : Lists → ℕ → Bool → List ℕ
-lineWith t n c = row 32 n (wordOf n (listHeld t n) c) (listHeld t n)
+lineWith t n c = row (limits .assumptions) n (wordOf n (listHeld t n) c) (listHeld t n)
 
 -- .. by the justifications held
 unfoldable pub lineText : Store → ℕ → List ℕ
@@ -40,9 +41,9 @@ caseText s = heading (s .held .assumptions) (s .held .claims) (s .held .count) (
 unfoldable pub refusalText : Reply → ℕ → List ℕ
 refusalText r k = refusal (numberOf r) k
 
--- no line of a store of right shape is longer: `0 nogood`, 32 sets of 88 bytes after a space, a newline
+-- no line of a store of right shape is longer: `0 nogood`, all nogoods of 88 bytes after a space, a newline
 abbrev pub longest : ℕ
-longest = 8 + 32 * 89 + 1
+longest = 8 + limits .nogoods * 89 + 1
 
 -- ---- the calls
 

@@ -4,9 +4,12 @@ use lent::Written;
 use replies::Reply;
 use sets::Set;
 use store::Store;
+use theory::LABEL;
+use theory::NOGOODS;
 ghost use mathlib.Core.Bool.{true};
 ghost use mathlib.Core.Path.{_≡_};
 ghost use Prim.Native.Nat.{_≤_};
+ghost use Rattle.theory.specs.Limits.{limits};
 ghost use Rattle.store.specs.Reading.{contradictedIn};
 ghost use Rattle.store.specs.Shape.{rightShape};
 ghost use Rattle.text.specs.Texts.{row};
@@ -14,12 +17,12 @@ ghost use Rattle.text.specs.Writing.{Put, Room};
 ghost use Rattle.lines.specs.Lines.{CaseLined, Lined, RefusalLined, lineWith, wordOf};
 
 // No line of a store of right shape is longer, and no line of a refusal.
-pub const LONGEST: usize = 2857;
+pub const LONGEST: usize = 8 + NOGOODS * 89 + 1;
 
 // The text of the line of n with its list; follows tells whether n follows from all assumptions together.
 fn worded(n: u32, list: &[Set], follows: bool, out: &mut [u8]) -> usize
-    requires { ⌜ Room (row 32 n (wordOf n (now list) follows) (now list)) 0 (now out) ⌝ }
-    ensures { λ r. ⌜ Put (row 32 n (wordOf n (now (list .entry)) follows) (now (list .entry))) 0 (now (out .entry)) (now (out .exit)) r ⌝ }
+    requires { ⌜ Room (row (limits .assumptions) n (wordOf n (now list) follows) (now list)) 0 (now out) ⌝ }
+    ensures { λ r. ⌜ Put (row (limits .assumptions) n (wordOf n (now (list .entry)) follows) (now (list .entry))) 0 (now (out .entry)) (now (out .exit)) r ⌝ }
 {
     if n == 0 {
         return text::line(n, b" nogood", list, out);
@@ -35,7 +38,7 @@ fn worded(n: u32, list: &[Set], follows: bool, out: &mut [u8]) -> usize
 
 // The text of the line of n; the shape was looked at. Where the label is empty, follows tells whether n follows from all assumptions together.
 pub fn lined(store: Store, n: u32, follows: bool, out: &mut [u8]) -> usize
-    requires { ⌜ (rightShape store ≡ true) × (n ≤ 128) × Room (lineWith (store .lists) n follows) 0 (now out) ⌝ }
+    requires { ⌜ (rightShape store ≡ true) × (n ≤ limits .numbers) × Room (lineWith (store .lists) n follows) 0 (now out) ⌝ }
     ensures { λ r. ⌜ Put (lineWith (store .lists) n follows) 0 (now (out .entry)) (now (out .exit)) r ⌝ }
 {
     let lists = store.lists;
@@ -45,7 +48,7 @@ pub fn lined(store: Store, n: u32, follows: bool, out: &mut [u8]) -> usize
         return worded(n, &nogoods[..count], follows, out);
     }
     let i = (n - 1) as usize;
-    let from = 12 * i;
+    let from = LABEL * i;
     let to = from + lists.sizes[i] as usize;
     let members = lists.members;
     worded(n, &members[from..to], follows, out)
@@ -53,7 +56,7 @@ pub fn lined(store: Store, n: u32, follows: bool, out: &mut [u8]) -> usize
 
 // Whether the line of n says `contradicted`; the justifications are followed only where the label is empty.
 fn contradicted(store: Store, n: u32) -> bool
-    requires { ⌜ (rightShape store ≡ true) × (n ≤ 128) ⌝ }
+    requires { ⌜ (rightShape store ≡ true) × (n ≤ limits .numbers) ⌝ }
     ensures { λ r. ⌜ r ≡ contradictedIn store n ⌝ }
 {
     if n == 0 {

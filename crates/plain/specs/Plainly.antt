@@ -19,6 +19,7 @@ use Rattle.store.specs.Shape.{heldFits, rightShape, top}
 use Rattle.store.specs.declared.Outcome.{Outcome}
 use Rattle.store.specs.declared.Store.{Store}
 use Rattle.theory.specs.Demands.{carries, contradicts}
+use Rattle.theory.specs.Limits.{limits}
 use Rattle.theory.specs.Lists.{choose}
 use Rattle.theory.specs.Places.{table}
 use Rattle.theory.specs.Sets.{inRange}
@@ -34,7 +35,7 @@ readFrom m n = choose (ltb (getD m 0 255) 255) Inconsistent (choose (ltb (getD m
 
 -- r has for each number the first stage at which it follows from E
 abbrev pub Chased : Held → ℕ → List ℕ → Type 0
-Chased h E r = r ≡ table 129 (sinceOf (saidBy h) E)
+Chased h E r = r ≡ table (limits .numbers + 1) (sinceOf (saidBy h) E)
 
 -- what is held fits, and E is a set of its assumptions
 pub record Chasable (h : Held) (E : ℕ) : Type 0 where

@@ -4,11 +4,13 @@ use rules::Held;
 use sets::Set;
 use store::Outcome;
 use store::Store;
+use theory::MARKS;
 ghost use mathlib.Core.Bool.{true};
 ghost use mathlib.Core.List.{_++_};
 ghost use mathlib.Core.Path.{_≡_};
-ghost use Prim.Native.Nat.{_≤_};
+ghost use Prim.Native.Nat.{_+_, _≤_};
 ghost use lib.ListN.{drop, length};
+ghost use Rattle.theory.specs.Limits.{limits};
 ghost use Rattle.theory.specs.Lists.{choose};
 ghost use Rattle.theory.specs.Places.{table};
 ghost use Rattle.theory.specs.Sets.{among, inRange};
@@ -29,8 +31,8 @@ pub struct Told {
 }
 
 // The mark of assumption k at stage 0.
-fn first(e: Set, k: u32) -> u8
-    requires { ⌜ (1 ≤ k) × (k ≤ 32) ⌝ }
+fn first(e: Set, k: u8) -> u8
+    requires { ⌜ (1 ≤ k) × (k ≤ limits .assumptions) ⌝ }
     ensures { λ r. ⌜ r ≡ choose (among e k) 0 255 ⌝ }
 {
     if sets::has(e, k) {
@@ -40,22 +42,22 @@ fn first(e: Set, k: u32) -> u8
 }
 
 // The marks of stage 0: those of the assumptions in e.
-pub fn sown(e: Set, a: u8) -> [u8; 129]
-    requires { ⌜ (a ≤ 32) × (inRange a e ≡ true) ⌝ }
+pub fn sown(e: Set, a: u8) -> [u8; MARKS]
+    requires { ⌜ (a ≤ limits .assumptions) × (inRange a e ≡ true) ⌝ }
     ensures { λ r. ⌜ r ≡ sown e ⌝ }
 {
-    let mut marks = [255u8; 129];
+    let mut marks = [255u8; MARKS];
     let mut k = 1u8;
     while k <= a {
         let at = k as usize;
-        marks[at] = first(e, k as u32);
+        marks[at] = first(e, k);
         k += 1;
     }
     marks
 }
 
 // For each number the first stage at which it follows from e; 255 where it never does.
-pub fn chased(held: Held, e: Set) -> [u8; 129]
+pub fn chased(held: Held, e: Set) -> [u8; MARKS]
     requires { ⌜ Chasable held e ⌝ }
     ensures { λ r. ⌜ Chased held e r ⌝ }
 {
@@ -64,8 +66,8 @@ pub fn chased(held: Held, e: Set) -> [u8; 129]
 }
 
 // What the marks say of n.
-pub fn read(marks: [u8; 129], n: usize) -> Plain
-    requires { ⌜ n ≤ 128 ⌝ }
+pub fn read(marks: [u8; MARKS], n: usize) -> Plain
+    requires { ⌜ n ≤ limits .numbers ⌝ }
     ensures { λ r. ⌜ r ≡ readFrom marks n ⌝ }
 {
     if marks[0] < 255 {
@@ -108,8 +110,8 @@ pub fn question(store: Store, n: u32, e: Set) -> Told
 }
 
 // The byte of n.
-fn byte(marks: [u8; 129], n: usize) -> u8
-    requires { ⌜ n ≤ 128 ⌝ }
+fn byte(marks: [u8; MARKS], n: usize) -> u8
+    requires { ⌜ n ≤ limits .numbers ⌝ }
     ensures { λ r. ⌜ r ≡ byteOf (readFrom marks n) ⌝ }
 {
     let told = read(marks, n);
@@ -122,8 +124,8 @@ fn byte(marks: [u8; 129], n: usize) -> u8
 }
 
 // The bytes of the numbers below the end.
-pub fn fill(marks: [u8; 129], end: usize, out: &mut [u8])
-    requires { ⌜ (end ≤ 129) × (end ≤ length (now out)) ⌝ }
+pub fn fill(marks: [u8; MARKS], end: usize, out: &mut [u8])
+    requires { ⌜ (end ≤ limits .numbers + 1) × (end ≤ length (now out)) ⌝ }
     ensures { λ _. ⌜ now (out .exit) ≡ table end (λ n. byteOf (readFrom marks n)) ++ drop end (now (out .entry)) ⌝ }
 {
     let mut i = 0;

@@ -2,25 +2,31 @@
 mod lists;
 
 use replies::Reply;
+use theory::HELD;
+use theory::SUPPORTS;
 ghost use mathlib.Core.Bool.{true};
 ghost use mathlib.Core.List.{map};
 ghost use mathlib.Core.Path.{_≡_};
 ghost use Prim.Native.Nat.{_+_, _-_, _<_, _≤_};
 ghost use lib.ListN.{drop, length, take};
+ghost use Rattle.theory.specs.Limits.{limits};
 ghost use Rattle.theory.specs.Lists.{allOf, someOf};
 ghost use Rattle.theory.specs.Stages.{ahead};
 ghost use Rattle.replies.specs.declared.Reply.the-variants.{Done};
-ghost use Rattle.rules.specs.Held.{fitting, heldRight, meaning, ordered, saidBy, unusedEntry};
+ghost use Rattle.rules.specs.Held.{fitting, heldRight, meaning, ordered, saidBy, top, unusedEntry};
 ghost use Rattle.rules.specs.Items.{faultOf, sameJustification};
 ghost use Rattle.rules.specs.Placing.{insertAt, partly, placeOf, removeAt, withEntries};
 ghost use Rattle.rules.specs.Promised.{Canonical, Faulted, HoldingNothing, Inserted, IsHeld, IsRight, Removed};
+
+// The most supports, as a place counts them.
+const MOST_SUPPORTS: u8 = SUPPORTS as u8;
 
 // A justification in its place: its supports rising, unused places zero.
 #[repr(C)]
 pub struct Entry {
     pub consequent: u8,
     pub count: u8,
-    pub supports: [u8; 4],
+    pub supports: [u8; SUPPORTS],
 }
 
 // The counts of assumptions and claims, and the justifications held, in their order; unused places zero.
@@ -29,14 +35,14 @@ pub struct Held {
     pub assumptions: u8,
     pub claims: u8,
     pub count: usize,
-    pub entries: [Entry; 256],
+    pub entries: [Entry; HELD],
 }
 
 // The first fault of a justification as it is handed over, top being the highest number; else done.
 pub fn fault(top: u8, consequent: u32, supports: &[u32]) -> Reply
     ensures { λ r. ⌜ Faulted top consequent (now (supports .entry)) r ⌝ }
 {
-    if 4 < supports.len() {
+    if SUPPORTS < supports.len() {
         return Reply::Supports;
     }
     let highest = top as u32;
@@ -57,13 +63,13 @@ pub fn fault(top: u8, consequent: u32, supports: &[u32]) -> Reply
 
 // A justification without fault in its place, its supports as a set.
 pub fn canonical(top: u8, consequent: u32, supports: &[u32]) -> Entry
-    requires { ⌜ (top ≤ 128) × (faultOf top consequent (now supports) ≡ Done) ⌝ }
+    requires { ⌜ (top ≤ limits .numbers) × (faultOf top consequent (now supports) ≡ Done) ⌝ }
     ensures { λ r. ⌜ Canonical top consequent (now (supports .entry)) r ⌝ }
 {
     let mut entry = Entry {
         consequent: consequent as u8,
         count: 0,
-        supports: [0u8; 4],
+        supports: [0u8; SUPPORTS],
     };
     let mut n = 0;
     while n <= top {
@@ -76,7 +82,7 @@ pub fn canonical(top: u8, consequent: u32, supports: &[u32]) -> Entry
 impl Entry {
     // The number n taken in where the list has it; below n that is done.
     fn taking(mut self, l: &[u32], n: u8) -> Entry
-        requires { ⌜ (self ≡ partly (self .consequent) (now l) n) × (length (now l) ≤ 4) × (n ≤ 128) ⌝ }
+        requires { ⌜ (self ≡ partly (self .consequent) (now l) n) × (length (now l) ≤ limits .supports) × (n ≤ limits .numbers) ⌝ }
         ensures { λ r. ⌜ r ≡ partly (self .consequent) (now (l .entry)) (n + 1) ⌝ }
     {
         if lists::has(l, n as u32) {
@@ -97,7 +103,7 @@ impl Entry {
             return false;
         }
         let count = self.count;
-        if 4 < count {
+        if MOST_SUPPORTS < count {
             return false;
         }
         let n = count as usize;
@@ -124,7 +130,7 @@ impl Entry {
 
     // Whether self stands before t.
     fn comes(self, t: Entry) -> bool
-        requires { ⌜ (self .count ≤ 4) × (t .count ≤ 4) ⌝ }
+        requires { ⌜ (self .count ≤ limits .supports) × (t .count ≤ limits .supports) ⌝ }
         ensures { λ r. ⌜ r ≡ ahead (meaning self) (meaning t) ⌝ }
     {
         if self.consequent < t.consequent {
@@ -148,7 +154,7 @@ impl Entry {
 
     // Whether the two are one justification.
     fn same(self, t: Entry) -> bool
-        requires { ⌜ (self .count ≤ 4) × (t .count ≤ 4) ⌝ }
+        requires { ⌜ (self .count ≤ limits .supports) × (t .count ≤ limits .supports) ⌝ }
         ensures { λ r. ⌜ r ≡ sameJustification (meaning self) (meaning t) ⌝ }
     {
         if self.consequent != t.consequent {
@@ -173,9 +179,9 @@ impl Held {
         let vacant = Entry {
             consequent: 0,
             count: 0,
-            supports: [0u8; 4],
+            supports: [0u8; SUPPORTS],
         };
-        let entries = [vacant; 256];
+        let entries = [vacant; HELD];
         Held {
             assumptions,
             claims,
@@ -188,7 +194,7 @@ impl Held {
     pub fn right(self) -> bool
         ensures { λ r. ⌜ IsRight self r ⌝ }
     {
-        if 256 < self.count {
+        if HELD < self.count {
             return false;
         }
         let top = self.assumptions as u16 + self.claims as u16;
@@ -203,7 +209,7 @@ impl Held {
 
     // Whether the justification is held.
     pub fn holds(self, entry: Entry) -> bool
-        requires { ⌜ (heldRight self ≡ true) × (entry .count ≤ 4) ⌝ }
+        requires { ⌜ (heldRight self ≡ true) × (entry .count ≤ limits .supports) ⌝ }
         ensures { λ r. ⌜ IsHeld self entry r ⌝ }
     {
         let count = self.count;
@@ -220,7 +226,7 @@ impl Held {
 
     // The justification put in its place among those held.
     pub fn insert(self, entry: Entry) -> Held
-        requires { ⌜ (heldRight self ≡ true) × (self .count < 256) × (fitting (self .assumptions + self .claims) entry ≡ true) ⌝ }
+        requires { ⌜ (heldRight self ≡ true) × (self .count < limits .held) × (fitting (top self) entry ≡ true) ⌝ }
         ensures { λ r. ⌜ Inserted self entry r ⌝ }
     {
         let at = self.place(entry);
@@ -229,7 +235,7 @@ impl Held {
 
     // What is held without the justification, which is held.
     pub fn remove(self, entry: Entry) -> Held
-        requires { ⌜ (heldRight self ≡ true) × (entry .count ≤ 4) × (someOf (sameJustification (meaning entry)) (saidBy self) ≡ true) ⌝ }
+        requires { ⌜ (heldRight self ≡ true) × (entry .count ≤ limits .supports) × (someOf (sameJustification (meaning entry)) (saidBy self) ≡ true) ⌝ }
         ensures { λ r. ⌜ Removed self entry r ⌝ }
     {
         let at = self.place(entry);
@@ -238,7 +244,7 @@ impl Held {
 
     // Whether the places in use are in range.
     fn inrange(self, top: u16) -> bool
-        requires { ⌜ self .count ≤ 256 ⌝ }
+        requires { ⌜ self .count ≤ limits .held ⌝ }
         ensures { λ r. ⌜ r ≡ allOf (fitting top) (take (self .count) (self .entries)) ⌝ }
     {
         let count = self.count;
@@ -256,7 +262,7 @@ impl Held {
 
     // Whether each held justification stands before the next.
     fn inorder(self, top: u16) -> bool
-        requires { ⌜ (self .count ≤ 256) × (allOf (fitting top) (take (self .count) (self .entries)) ≡ true) ⌝ }
+        requires { ⌜ (self .count ≤ limits .held) × (allOf (fitting top) (take (self .count) (self .entries)) ≡ true) ⌝ }
         ensures { λ r. ⌜ r ≡ ordered (saidBy self) ⌝ }
     {
         let count = self.count;
@@ -275,11 +281,11 @@ impl Held {
 
     // Whether the other places are zero.
     fn spare(self) -> bool
-        requires { ⌜ self .count ≤ 256 ⌝ }
+        requires { ⌜ self .count ≤ limits .held ⌝ }
         ensures { λ r. ⌜ r ≡ allOf unusedEntry (drop (self .count) (self .entries)) ⌝ }
     {
         let mut j = self.count;
-        while j < 256 {
+        while j < HELD {
             let entry = self.entries[j];
             if entry.unused() {
                 j += 1;
@@ -292,7 +298,7 @@ impl Held {
 
     // How many held justifications stand before it.
     fn place(self, entry: Entry) -> usize
-        requires { ⌜ (heldRight self ≡ true) × (entry .count ≤ 4) ⌝ }
+        requires { ⌜ (heldRight self ≡ true) × (entry .count ≤ limits .supports) ⌝ }
         ensures { λ r. ⌜ r ≡ placeOf (meaning entry) (saidBy self) ⌝ }
     {
         let count = self.count;
@@ -310,7 +316,7 @@ impl Held {
 
     // The justification put in at a place; those from there on move up by one.
     fn moved(mut self, at: usize, entry: Entry) -> Held
-        requires { ⌜ (at ≤ self .count) × (self .count < 256) ⌝ }
+        requires { ⌜ (at ≤ self .count) × (self .count < limits .held) ⌝ }
         ensures { λ r. ⌜ r ≡ withEntries self (self .count + 1) (insertAt (self .entries) at (self .count) entry) ⌝ }
     {
         let count = self.count;
@@ -340,7 +346,7 @@ impl Held {
         let vacant = Entry {
             consequent: 0,
             count: 0,
-            supports: [0u8; 4],
+            supports: [0u8; SUPPORTS],
         };
         self.entries[last] = vacant;
         self.count = last;

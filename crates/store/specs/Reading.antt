@@ -8,6 +8,7 @@ use Rattle.rules.specs.Held.{saidBy}
 use Rattle.stages.specs.declared.Lists.{Lists}
 use Rattle.store.specs.declared.Store.{Store}
 use Rattle.theory.specs.Demands.{fromAll}
+use Rattle.theory.specs.Limits.{limits}
 
 abbrev pub nogoodsHeld : Lists → List ℕ
 nogoodsHeld l = take (l .count) (l .nogoods)
@@ -15,7 +16,7 @@ nogoodsHeld l = take (l .count) (l .nogoods)
 -- the label of n; falsity has none
 abbrev pub labelHeld : Lists → ℕ → List ℕ
 labelHeld l zero = []
-labelHeld l (suc i) = take (getD (l .sizes) i 0) (drop (12 * i) (l .members))
+labelHeld l (suc i) = take (getD (l .sizes) i 0) (drop (limits .label * i) (l .members))
 
 -- for n = 0 the nogoods, else the label
 abbrev pub listHeld : Lists → ℕ → List ℕ

@@ -3,12 +3,22 @@ use replies::Reply;
 use rules::Entry;
 use rules::Held;
 use stages::Lists;
+use theory::ASSUMPTIONS;
+use theory::CLAIMS;
+use theory::HELD;
 ghost use mathlib.Core.Bool.{true};
 ghost use mathlib.Core.Path.{_≡_};
 ghost use Prim.Native.Nat.{_+_, _≤_};
+ghost use Rattle.theory.specs.Limits.{limits};
 ghost use Rattle.rules.specs.Held.{fitting, meaning};
 ghost use Rattle.store.specs.Shape.{rightShape, RightShape, top};
 ghost use Rattle.store.specs.Calls.{startStore, Opened, JudgedAnew, Added, joinedBy, Withdrawn, partedFrom};
+
+// The most assumptions, as a store counts them.
+const MOST_ASSUMPTIONS: u8 = ASSUMPTIONS as u8;
+
+// The most claims.
+const MOST_CLAIMS: u8 = CLAIMS as u8;
 
 // What is held, and the labels and nogoods at its depth.
 #[repr(C)]
@@ -25,7 +35,7 @@ pub struct Outcome {
 
 // The store that holds nothing.
 fn start(a: u8, m: u8) -> Store
-    requires { ⌜ (a ≤ 32) × (m ≤ 96) ⌝ }
+    requires { ⌜ (a ≤ limits .assumptions) × (m ≤ limits .claims) ⌝ }
     ensures { λ r. ⌜ r ≡ startStore a m ⌝ }
 {
     let held = Held::nothing(a, m);
@@ -37,13 +47,13 @@ fn start(a: u8, m: u8) -> Store
 pub fn judged(held: Held) -> Outcome
     ensures { λ r. ⌜ JudgedAnew held r ⌝ }
 {
-    if 32 < held.assumptions {
+    if MOST_ASSUMPTIONS < held.assumptions {
         return Outcome {
             reply: Reply::Shape,
             store: start(0, 0),
         };
     }
-    if 96 < held.claims {
+    if MOST_CLAIMS < held.claims {
         return Outcome {
             reply: Reply::Shape,
             store: start(0, 0),
@@ -75,10 +85,10 @@ impl Store {
     {
         let held = self.held;
         let a = held.assumptions;
-        if 32 < a {
+        if MOST_ASSUMPTIONS < a {
             return false;
         }
-        if 96 < held.claims {
+        if MOST_CLAIMS < held.claims {
             return false;
         }
         if held.right() {
@@ -92,13 +102,13 @@ impl Store {
     pub fn open(assumptions: u32, claims: u32) -> Outcome
         ensures { λ r. ⌜ Opened assumptions claims r ⌝ }
     {
-        if 32 < assumptions {
+        if ASSUMPTIONS < assumptions {
             return Outcome {
                 reply: Reply::Counts,
                 store: start(0, 0),
             };
         }
-        if 96 < claims {
+        if CLAIMS < claims {
             return Outcome {
                 reply: Reply::Counts,
                 store: start(0, 0),
@@ -153,7 +163,7 @@ impl Store {
                 store: self,
             };
         }
-        if 256 <= held.count {
+        if HELD <= held.count {
             return Outcome {
                 reply: Reply::Full,
                 store: self,

@@ -32,7 +32,7 @@ right-requires : tie.Need-right-requires
 right-requires c κs = search needs
 
 judge-requires : tie.Need-judge-requires
-judge-requires c κs = record { right = sym (c .before .right .ensures) ∙ c .if3 .taken; assumptions = search needs; claims = search needs }
+judge-requires c κs = record { right = sym (c .before .right .ensures) ∙ c .if3 .taken; assumptions = search needs; numbers = omega arith }
 
 number-requires : tie.Need-number-requires
 number-requires c κs = search needs
