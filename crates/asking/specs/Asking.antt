@@ -21,14 +21,15 @@ use Rattle.store.specs.Reading.{contradictedIn, labelHeld, listHeld, nogoodsHel
 use Rattle.store.specs.Shape.{rightShape, top}
 use Rattle.store.specs.declared.Outcome.{Outcome}
 use Rattle.store.specs.declared.Store.{Store}
+use Rattle.theory.specs.Limits.{limits}
 use Rattle.theory.specs.Lists.{choose}
 use Rattle.theory.specs.Places.{table}
 use Rattle.theory.specs.Sets.{inRange, within}
 
 -- every list in its places
 pub record Room (l : Lists) : Type 0 where
-  pub nogoods : l .count ≤ 32
-  pub labels : (i : ℕ) → i < 128 → getD (l .sizes) i 0 ≤ 12
+  pub nogoods : l .count ≤ limits .nogoods
+  pub labels : (i : ℕ) → i < limits .numbers → getD (l .sizes) i 0 ≤ limits .label
 
 -- ---- question
 

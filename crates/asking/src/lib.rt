@@ -1,8 +1,10 @@
 // Questions to a store, answered from its lists as they stand.
 use replies::Reply;
+use sets::Set;
 use stages::Lists;
 use store::Outcome;
 use store::Store;
+use theory::LABEL;
 ghost use mathlib.Core.Bool.{_&&_};
 ghost use mathlib.Core.List.{_++_};
 ghost use mathlib.Core.Path.{_≡_};
@@ -11,14 +13,15 @@ ghost use lib.ListN.{length, take, drop};
 ghost use Rattle.labels.specs.Promised.{firstWithin};
 ghost use Rattle.following.specs.Marks.{allMarks};
 ghost use Rattle.store.specs.Reading.{contradictedIn, unlabelled};
+ghost use Rattle.theory.specs.Limits.{limits};
 ghost use Rattle.theory.specs.Lists.{choose};
 ghost use Rattle.theory.specs.Places.{table};
 ghost use Rattle.asking.specs.Asking.{Room, standing, byteOf, memberAt, Questioned, Contexted, Membered};
 
 // What a set is to a number: inconsistent because of a nogood, supported because of a member, or neither.
 pub enum Answer {
-    Inconsistent(u32),
-    Supported(u32),
+    Inconsistent(Set),
+    Supported(Set),
     Unsupported,
     Refused(Reply),
 }
@@ -30,7 +33,7 @@ pub struct Asked {
 
 // A member, or why there is none.
 pub enum Found {
-    Is(u32),
+    Is(Set),
     Not(Reply),
 }
 
@@ -40,7 +43,7 @@ pub struct Shown {
 }
 
 // The place of the first of count sets from a place on that lies within e, or the count.
-fn reach(l: &[u32], from: usize, count: usize, e: u32) -> usize
+fn reach(l: &[Set], from: usize, count: usize, e: Set) -> usize
     requires { ⌜ from + count ≤ length (now l) ⌝ }
     ensures { λ r. ⌜ r ≡ firstWithin (take count (drop from (now (l .entry)))) e ⌝ }
 {
@@ -49,8 +52,8 @@ fn reach(l: &[u32], from: usize, count: usize, e: u32) -> usize
 }
 
 // What the store's lists say of n and e, and why.
-fn stands(lists: Lists, n: usize, e: u32) -> Answer
-    requires { ⌜ Room lists × (n ≤ 128) ⌝ }
+fn stands(lists: Lists, n: usize, e: Set) -> Answer
+    requires { ⌜ Room lists × (n ≤ limits .numbers) ⌝ }
     ensures { λ r. ⌜ r ≡ standing lists n e ⌝ }
 {
     let count = lists.count;
@@ -63,15 +66,15 @@ fn stands(lists: Lists, n: usize, e: u32) -> Answer
     }
     let i = n - 1;
     let size = lists.sizes[i] as usize;
-    let member = reach(&lists.members, 12 * i, size, e);
+    let member = reach(&lists.members, LABEL * i, size, e);
     if member < size {
-        return Answer::Supported(lists.members[12 * i + member]);
+        return Answer::Supported(lists.members[LABEL * i + member]);
     }
     Answer::Unsupported
 }
 
 // Whether e is inconsistent, supports n, or neither, and the first set within e that makes it so.
-pub fn question(store: Store, n: u32, e: u32) -> Asked
+pub fn question(store: Store, n: u32, e: Set) -> Asked
     ensures { λ r. ⌜ Questioned store n e r ⌝ }
 {
     let reply = store.refusal(n, e);
@@ -88,7 +91,7 @@ pub fn question(store: Store, n: u32, e: u32) -> Asked
 
 // The byte of n where a consistent set does not support it; follows tells whether n follows from all assumptions together.
 fn neither(lists: Lists, n: usize, follows: bool) -> u8
-    requires { ⌜ n ≤ 128 ⌝ }
+    requires { ⌜ n ≤ limits .numbers ⌝ }
     ensures { λ r. ⌜ r ≡ choose (unlabelled lists n && follows) 3 0 ⌝ }
 {
     if n == 0 {
@@ -104,8 +107,8 @@ fn neither(lists: Lists, n: usize, follows: bool) -> u8
 }
 
 // The byte of n.
-fn byte(lists: Lists, n: usize, e: u32, follows: bool) -> u8
-    requires { ⌜ Room lists × (n ≤ 128) ⌝ }
+fn byte(lists: Lists, n: usize, e: Set, follows: bool) -> u8
+    requires { ⌜ Room lists × (n ≤ limits .numbers) ⌝ }
     ensures { λ r. ⌜ r ≡ byteOf (unlabelled lists n && follows) (standing lists n e) ⌝ }
 {
     let told = stands(lists, n, e);
@@ -118,8 +121,8 @@ fn byte(lists: Lists, n: usize, e: u32, follows: bool) -> u8
 }
 
 // The bytes of the numbers below the end, by the marks of what follows from all assumptions together.
-fn fill(store: Store, marks: &[u8], e: u32, end: usize, out: &mut [u8])
-    requires { ⌜ Room (store .lists) × (now marks ≡ allMarks (store .held)) × (end ≤ 129) × (end ≤ length (now out)) ⌝ }
+fn fill(store: Store, marks: &[u8], e: Set, end: usize, out: &mut [u8])
+    requires { ⌜ Room (store .lists) × (now marks ≡ allMarks (store .held)) × (end ≤ limits .numbers + 1) × (end ≤ length (now out)) ⌝ }
     ensures { λ _. ⌜ now (out .exit) ≡ table end (λ n. byteOf (contradictedIn store n) (standing (store .lists) n e)) ++ drop end (now (out .entry)) ⌝ }
 {
     let lists = store.lists;
@@ -131,7 +134,7 @@ fn fill(store: Store, marks: &[u8], e: u32, end: usize, out: &mut [u8])
 }
 
 // What e is to every number, a byte each.
-pub fn context(store: Store, e: u32, out: &mut [u8]) -> Outcome
+pub fn context(store: Store, e: Set, out: &mut [u8]) -> Outcome
     ensures { λ r. ⌜ Contexted store e (now (out .entry)) r (now (out .exit)) ⌝ }
 {
     let reply = store.refusal(0, e);
@@ -156,7 +159,7 @@ pub fn context(store: Store, e: u32, out: &mut [u8]) -> Outcome
 
 // The member of a list at a place.
 fn at(lists: Lists, n: usize, place: usize) -> Found
-    requires { ⌜ Room lists × (n ≤ 128) ⌝ }
+    requires { ⌜ Room lists × (n ≤ limits .numbers) ⌝ }
     ensures { λ r. ⌜ r ≡ memberAt lists n place ⌝ }
 {
     if n == 0 {
@@ -170,7 +173,7 @@ fn at(lists: Lists, n: usize, place: usize) -> Found
     if size <= place {
         return Found::Not(Reply::Place);
     }
-    Found::Is(lists.members[12 * i + place])
+    Found::Is(lists.members[LABEL * i + place])
 }
 
 // The member of n's label, or of the nogoods, at a place.

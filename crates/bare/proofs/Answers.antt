@@ -9,7 +9,7 @@ use lib.ListN.{drop, length}
 use borrow.Author.Tests.{ltb-false}
 use Rattle.bare.proofs.Chased.{Ends, Stand, Stands, ended, faulty, over, runs}
 use Rattle.bare.proofs.Items.{bare-placed}
-use Rattle.bare.specs.Bare.{Answered, answered, askOf, barely, faultsOf, overCounts, refusedAs, tellOf, wroteAs}
+use Rattle.bare.specs.Bare.{Answered, answered, askOf, barely, faultsOf, refusedAs, tellOf, wroteAs}
 use Rattle.bare.specs.Chasing.{finishOf, startOf, toldIn}
 use Rattle.bare.specs.declared.Query.{Query}
 use Rattle.bare.specs.declared.Chase.{Chase}
@@ -29,6 +29,7 @@ use Rattle.replies.specs.declared.Reply.the-variants.{Counts, Done, Number, Sho
 use Rattle.stagetext.proofs.Laws.{put-within, text-is}
 use Rattle.stagetext.specs.Stagetext.{rowsIn}
 use Rattle.store.specs.Calls.{isDone}
+use Rattle.theory.specs.Limits.{overCounts}
 use Rattle.theory.specs.Lists.{choose}
 use Rattle.theory.specs.Places.{table}
 use Rattle.theory.specs.Sets.{inRange}
@@ -60,18 +61,18 @@ module _ (q : Query) (l : List Handed) (out : List ℕ) where
   refusal r = answered (refusedAs (q .what) r) out
 
   -- askOf, test by test
-  asked-over : overCounts q ≡ true → askOf q l out ≡ refusal Counts
+  asked-over : overCounts (q .assumptions) (q .claims) ≡ true → askOf q l out ≡ refusal Counts
   unfolding askOf
   asked-over t = rw t
 
-  asked-fault : overCounts q ≡ false → isDone (faultsOf N l) ≡ false → askOf q l out ≡ refusal (faultsOf N l)
+  asked-fault : overCounts (q .assumptions) (q .claims) ≡ false → isDone (faultsOf N l) ≡ false → askOf q l out ≡ refusal (faultsOf N l)
   unfolding askOf
   asked-fault t d = rw (t, d)
 
   abbrev unlessSet : Bool → Answered
   unlessSet b = choose (not b) (refusal Number) (tellOf N (barely N l) (q .set) (q .what) out)
 
-  asked-told : overCounts q ≡ false → faultsOf N l ≡ Done → askOf q l out ≡ unlessSet (inRange (q .assumptions) (q .set))
+  asked-told : overCounts (q .assumptions) (q .claims) ≡ false → faultsOf N l ≡ Done → askOf q l out ≡ unlessSet (inRange (q .assumptions) (q .set))
   unfolding askOf
   asked-told t d = ap (λ (b : Bool). choose b (refusal Counts) (choose (not (isDone (faultsOf N l))) (refusal (faultsOf N l)) (unlessSet (inRange (q .assumptions) (q .set))))) t
       ∙ ap (λ (r : Reply). choose (not (isDone r)) (refusal r) (unlessSet (inRange (q .assumptions) (q .set)))) d

@@ -12,7 +12,7 @@ use lib.ListN.{getD, length, replicate, set, take}
 use lib.Seq.{set-getD, take-all}
 use borrow.Author.Tests.{ltb-false, ltb-true}
 use Rattle.bare.proofs.Items.{bare-placed, faults-at, faults-next, is-done, itemAt, pass-next}
-use Rattle.bare.specs.Bare.{barely, faultOfItem, faultsOf, justOf, overCounts}
+use Rattle.bare.specs.Bare.{barely, faultOfItem, faultsOf, justOf}
 use Rattle.bare.specs.Chasing.{Going, againOf, begunOf, followOf, haltOf, newsOf, onwardOf, startOf, stepOf}
 use Rattle.bare.specs.declared.Query.{Query}
 use Rattle.bare.specs.declared.Chase.{Chase}
@@ -25,6 +25,7 @@ use Rattle.replies.specs.declared.Reply.{Reply}
 use Rattle.replies.specs.declared.Reply.the-variants.{Counts, Done}
 use Rattle.store.specs.Calls.{isDone}
 use Rattle.theory.proofs.Lists.{clash}
+use Rattle.theory.specs.Limits.{overCounts}
 use Rattle.theory.specs.Lists.{allOf, choose}
 use Rattle.theory.specs.Places.{table}
 use Rattle.theory.specs.Stages.{Justification}
@@ -58,7 +59,7 @@ module _ (q : Query) (l : List Handed) where
 
   -- in the middle of a stage
   pub record Runs (c : Chase) : Type 0 where
-    pub free : overCounts q ≡ false
+    pub free : overCounts (q .assumptions) (q .claims) ≡ false
     pub reply : c .reply ≡ Done
     pub assumptions : c .assumptions ≡ q .assumptions
     pub top : c .top ≡ N
@@ -70,7 +71,7 @@ module _ (q : Query) (l : List Handed) where
 
   -- nothing new follows
   pub record Ends (c : Chase) : Type 0 where
-    pub free : overCounts q ≡ false
+    pub free : overCounts (q .assumptions) (q .claims) ≡ false
     pub reply : c .reply ≡ Done
     pub assumptions : c .assumptions ≡ q .assumptions
     pub top : c .top ≡ N
@@ -78,8 +79,8 @@ module _ (q : Query) (l : List Handed) where
     pub marks : c .marks ≡ table 129 (sinceOf J E)
 
   pub data Stand (c : Chase) : Type 0 where
-    over : overCounts q ≡ true → c .reply ≡ Counts → c .at ≡ n → Stand c
-    faulty : overCounts q ≡ false → c .reply ≡ faultsOf N l → isDone (faultsOf N l) ≡ false → c .at ≡ n → Stand c
+    over : overCounts (q .assumptions) (q .claims) ≡ true → c .reply ≡ Counts → c .at ≡ n → Stand c
+    faulty : overCounts (q .assumptions) (q .claims) ≡ false → c .reply ≡ faultsOf N l → isDone (faultsOf N l) ≡ false → c .at ≡ n → Stand c
     runs : Runs c → Stand c
     ended : Ends c → c .at ≡ n → Stand c
 
@@ -97,7 +98,7 @@ module _ (q : Query) (l : List Handed) where
 
   -- ---- the limits
 
-  counts-low : overCounts q ≡ false → (q .assumptions ≤ 32) × (q .claims ≤ 96)
+  counts-low : overCounts (q .assumptions) (q .claims) ≡ false → (q .assumptions ≤ 32) × (q .claims ≤ 96)
   counts-low e = go (ltb 32 (q .assumptions)) (ltb 96 (q .claims)) refl refl e
     where
       go : (a b : Bool) → ltb 32 (q .assumptions) ≡ a → ltb 96 (q .claims) ≡ b → a || b ≡ false → (q .assumptions ≤ 32) × (q .claims ≤ 96)
@@ -119,7 +120,7 @@ module _ (q : Query) (l : List Handed) where
   abbrev first : Chase
   first = record { reply = Done; assumptions = q .assumptions; top = N; count = n; at = 0; stage = 0; new = false; marks = sown E }
 
-  first-stand : overCounts q ≡ false → (m : List Handed) → l ≡ m → Stand first
+  first-stand : overCounts (q .assumptions) (q .claims) ≡ false → (m : List Handed) → l ≡ m → Stand first
   unfolding faultsOf passOver sinceOf
   first-stand f [] e =
       ended (record {
@@ -143,21 +144,21 @@ module _ (q : Query) (l : List Handed) where
         still = λ z. sown-at J E;
       })
 
-  first-stands : overCounts q ≡ false → Stands first
+  first-stands : overCounts (q .assumptions) (q .claims) ≡ false → Stands first
   first-stands f =
       let c = counts-low f in
       record { count = refl; within = omega arith; low = omega arith; top = omega (arith, c .0, c .1); few = c .0; stand = first-stand f l refl }
 
-  refused-stands : overCounts q ≡ true → Stands refused
+  refused-stands : overCounts (q .assumptions) (q .claims) ≡ true → Stands refused
   refused-stands f = record { count = refl; within = omega arith; low = omega arith; top = omega arith; few = omega arith; stand = over f refl refl }
 
-  begun-is : (b : Bool) → overCounts q ≡ b → Stands (choose b refused first)
+  begun-is : (b : Bool) → overCounts (q .assumptions) (q .claims) ≡ b → Stands (choose b refused first)
   begun-is true e = refused-stands e
   begun-is false e = first-stands e
 
   pub begun-stands : (c : Chase) → c ≡ begunOf n q → Stands c
   unfolding begunOf
-  begun-stands c e = subst Stands (sym e) (begun-is (overCounts q) refl)
+  begun-stands c e = subst Stands (sym e) (begun-is (overCounts (q .assumptions) (q .claims)) refl)
 
   -- ---- one item
 

@@ -8,7 +8,7 @@ use native.Mathlib.Omega.{arith}
 use lib.Dec.{leb, ltb}
 use lib.ListN.{getD, length, replicate, set, take}
 use borrow.Author.Tests.{eq-eqb, le-leb, le-ltb, lt-ltb, ltb-false, ne-eqb}
-use Rattle.bare.specs.Bare.{Answered, answered, faultOfItem, justOf, overCounts, refusedAs, wroteAs}
+use Rattle.bare.specs.Bare.{Answered, answered, faultOfItem, justOf, refusedAs, wroteAs}
 use Rattle.bare.specs.Chasing.{againOf, begunOf, finishOf, followOf, haltOf, onwardOf, startOf, stepOf, toldIn}
 use Rattle.bare.specs.declared.Query.{Query}
 use Rattle.bare.specs.declared.Chase.{Chase}
@@ -35,6 +35,7 @@ use Rattle.rules.specs.Items.{faultOf, justificationOf}
 use Rattle.rules.specs.declared.Entry.{Entry}
 use Rattle.stagetext.specs.Stagetext.{putOf}
 use Rattle.theory.proofs.Lists.{all-intro, clash}
+use Rattle.theory.specs.Limits.{overCounts}
 use Rattle.theory.specs.Lists.{allOf, choose}
 use Rattle.theory.specs.Sets.{inRange}
 use Rattle.theory.specs.Stages.{Justification}
@@ -42,13 +43,13 @@ use Rattle.theory.specs.Stages.{Justification}
 -- ---- before the first item
 
 module _ (q : Query) where
-  pub over-yes : 32 < q .assumptions → true ≡ overCounts q
+  pub over-yes : 32 < q .assumptions → true ≡ overCounts (q .assumptions) (q .claims)
   over-yes h = sym (ap (λ (b : Bool). b || ltb 96 (q .claims)) (lt-ltb 32 (q .assumptions) h))
 
-  pub over-rest : q .assumptions ≤ 32 → ltb 96 (q .claims) ≡ overCounts q
+  pub over-rest : q .assumptions ≤ 32 → ltb 96 (q .claims) ≡ overCounts (q .assumptions) (q .claims)
   over-rest h = sym (ap (λ (b : Bool). b || ltb 96 (q .claims)) (le-ltb 32 (q .assumptions) h))
 
-  pub within : overCounts q ≡ false → (q .assumptions ≤ 32) × (q .claims ≤ 96)
+  pub within : overCounts (q .assumptions) (q .claims) ≡ false → (q .assumptions ≤ 32) × (q .claims ≤ 96)
   within e = go (ltb 32 (q .assumptions)) (ltb 96 (q .claims)) refl refl e
     where
       go : (a b : Bool) → ltb 32 (q .assumptions) ≡ a → ltb 96 (q .claims) ≡ b → a || b ≡ false → (q .assumptions ≤ 32) × (q .claims ≤ 96)
@@ -56,11 +57,11 @@ module _ (q : Query) where
       go false true s t f = clash refl f
       go false false s t f = (ltb-false 32 (q .assumptions) s, ltb-false 96 (q .claims) t)
 
-  pub begun-over : (items : ℕ) → overCounts q ≡ true → record { reply = Counts; assumptions = 0; top = 0; count = items; at = items; stage = 0; new = false; marks = replicate 129 255 } ≡ begunOf items q
+  pub begun-over : (items : ℕ) → overCounts (q .assumptions) (q .claims) ≡ true → record { reply = Counts; assumptions = 0; top = 0; count = items; at = items; stage = 0; new = false; marks = replicate 129 255 } ≡ begunOf items q
   unfolding begunOf
   begun-over items e = rw e
 
-  pub begun-first : (items E : ℕ) (m : List ℕ) → overCounts q ≡ false → E ≡ startOf q → m ≡ sown E
+  pub begun-first : (items E : ℕ) (m : List ℕ) → overCounts (q .assumptions) (q .claims) ≡ false → E ≡ startOf q → m ≡ sown E
       → record { reply = Done; assumptions = q .assumptions; top = q .assumptions + q .claims; count = items; at = 0; stage = 0; new = false; marks = m } ≡ begunOf items q
   unfolding begunOf
   begun-first items E m e s p =

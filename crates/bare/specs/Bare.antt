@@ -1,5 +1,5 @@
 -- Question, context and lines from a bare list of justifications, as document 02 has them. Assumes nothing.
-use mathlib.Core.Bool.{Bool, _||_, not}
+use mathlib.Core.Bool.{Bool, not}
 use mathlib.Core.List.{List, [], _++_, _∷_, map}
 use mathlib.Core.Path.{_≡_}
 use Prim.Native.Nat.{_+_, ℕ}
@@ -23,6 +23,7 @@ use Rattle.replies.specs.declared.Reply.the-variants.{Counts, Done, Number, Sho
 use Rattle.rules.specs.Items.{faultOf, justificationOf}
 use Rattle.stagetext.specs.Stagetext.{stageText}
 use Rattle.store.specs.Calls.{isDone}
+use Rattle.theory.specs.Limits.{overCounts}
 use Rattle.theory.specs.Lists.{choose}
 use Rattle.theory.specs.Places.{table}
 use Rattle.theory.specs.Sets.{inRange}
@@ -74,15 +75,11 @@ tellOf N J E Context out =
     (answered (Filled Done) (table (N + 1) (λ n. byteOf (plainBy J E n)) ++ drop (N + 1) out))
 tellOf N J E Stages out = wroteAs (fitted (stageText N J E) out)
 
--- A above 32 or M above 96
-abbrev pub overCounts : Query → Bool
-overCounts q = ltb 32 (q .assumptions) || ltb 96 (q .claims)
-
 -- 3, then each item in order by 6, 4, 5, 17, then 4 for the number or set asked, then 15
 unfoldable pub askOf : Query → List Handed → List ℕ → Answered
 askOf q l out =
     let N : ℕ = q .assumptions + q .claims in
-    choose (overCounts q) (answered (refusedAs (q .what) Counts) out)
+    choose (overCounts (q .assumptions) (q .claims)) (answered (refusedAs (q .what) Counts) out)
     (choose (not (isDone (faultsOf N l))) (answered (refusedAs (q .what) (faultsOf N l)) out)
     (choose (not (inRange (q .assumptions) (q .set))) (answered (refusedAs (q .what) Number) out)
     (tellOf N (barely N l) (q .set) (q .what) out)))

@@ -4,7 +4,7 @@ use mathlib.Core.List.{List}
 use Prim.Native.Nat.{_+_, _<_, _≤_, ℕ}
 use lib.Dec.{ltb}
 use lib.ListN.{getD, length, replicate}
-use Rattle.bare.specs.Bare.{Answered, answered, faultOfItem, justOf, overCounts, refusedAs, wroteAs}
+use Rattle.bare.specs.Bare.{Answered, answered, faultOfItem, justOf, refusedAs, wroteAs}
 use Rattle.bare.specs.declared.Query.{Query}
 use Rattle.bare.specs.declared.Chase.{Chase}
 use Rattle.bare.specs.declared.Told.the-variants.{Filled, Word}
@@ -17,6 +17,7 @@ use Rattle.replies.specs.declared.Reply.{Reply}
 use Rattle.replies.specs.declared.Reply.the-variants.{Counts, Done, Number}
 use Rattle.stagetext.specs.Stagetext.{putOf}
 use Rattle.store.specs.Calls.{isDone}
+use Rattle.theory.specs.Limits.{limits, overCounts}
 use Rattle.theory.specs.Lists.{choose}
 use Rattle.theory.specs.Sets.{inRange}
 use Rattle.theory.specs.Stages.{Justification}
@@ -29,7 +30,7 @@ startOf q = choose (inRange (q .assumptions) (q .set)) (q .set) 0
 
 unfoldable pub begunOf : ℕ → Query → Chase
 begunOf items q =
-    choose (overCounts q) (record { reply = Counts; assumptions = 0; top = 0; count = items; at = items; stage = 0; new = false; marks = replicate 129 255 })
+    choose (overCounts (q .assumptions) (q .claims)) (record { reply = Counts; assumptions = 0; top = 0; count = items; at = items; stage = 0; new = false; marks = replicate (limits .numbers + 1) 255 })
     (record { reply = Done; assumptions = q .assumptions; top = q .assumptions + q .claims; count = items; at = 0; stage = 0; new = false; marks = sown (startOf q) })
 
 -- ---- one item
@@ -37,12 +38,12 @@ begunOf items q =
 -- there is a next item
 pub record Going (c : Chase) : Type 0 where
   pub more : c .at < c .count
-  pub low : c .stage < 129
-  pub top : c .top ≤ 128
+  pub low : c .stage < limits .numbers + 1
+  pub top : c .top ≤ limits .numbers
 
 -- the stage is done, marked something new, and another is to come
 abbrev pub againOf : Chase → ℕ → Bool → Bool
-againOf c at new = not (ltb at (c .count)) && (new && ltb (c .stage) 128)
+againOf c at new = not (ltb at (c .count)) && (new && ltb (c .stage) (limits .numbers))
 
 unfoldable pub onwardOf : Chase → List ℕ → Bool → Chase
 onwardOf c m new =

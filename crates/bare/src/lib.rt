@@ -4,17 +4,27 @@ use lent::Written;
 use plain::Plain;
 use replies::Reply;
 use sets::Set;
+use theory::ASSUMPTIONS;
+use theory::CLAIMS;
+use theory::HELD;
+use theory::MARKS;
+use theory::NUMBERS;
+use theory::SUPPORTS;
 ghost use mathlib.Core.Bool.{_||_};
 ghost use mathlib.Core.Path.{_≡_};
 ghost use Prim.Native.Nat.{_+_, _<_, _≤_};
 ghost use lib.Dec.{ltb};
 ghost use lib.ListN.{take};
+ghost use Rattle.theory.specs.Limits.{limits, overCounts};
 ghost use Rattle.theory.specs.Lists.{choose};
 ghost use Rattle.theory.specs.Sets.{inRange};
 ghost use Rattle.following.specs.Marks.{markBy};
 ghost use Rattle.replies.specs.declared.Reply.the-variants.{Done};
-ghost use Rattle.bare.specs.Bare.{Answers, answered, faultOfItem, justOf, overCounts, refusedAs};
+ghost use Rattle.bare.specs.Bare.{Answers, answered, faultOfItem, justOf, refusedAs};
 ghost use Rattle.bare.specs.Chasing.{Going, againOf, begunOf, finishOf, followOf, haltOf, onwardOf, stepOf, toldIn};
+
+// The last number, as stages are counted.
+const LAST: u8 = NUMBERS as u8;
 
 // What is asked of a list: of a number, of every number, or every stage.
 pub enum What {
@@ -47,12 +57,12 @@ struct Chase {
     at: usize,
     stage: u8,
     new: bool,
-    marks: [u8; 129],
+    marks: [u8; MARKS],
 }
 
 // The set that is followed: e where it has no assumption above a, else none.
 fn start(e: Set, a: u8) -> Set
-    requires { ⌜ a ≤ 32 ⌝ }
+    requires { ⌜ a ≤ limits .assumptions ⌝ }
     ensures { λ r. ⌜ r ≡ choose (inRange a e) e 0 ⌝ }
 {
     if sets::low(e, a) {
@@ -66,7 +76,7 @@ fn begin(items: usize, ask: Query) -> Chase
     ensures { λ r. ⌜ r ≡ begunOf items ask ⌝ }
 {
     if over(ask) {
-        let marks = [255u8; 129];
+        let marks = [255u8; MARKS];
         return Chase {
             reply: Reply::Counts,
             assumptions: 0,
@@ -94,21 +104,21 @@ fn begin(items: usize, ask: Query) -> Chase
     }
 }
 
-// Whether there are more than 32 assumptions or more than 96 claims.
+// Whether one of the counts is over its limit.
 fn over(ask: Query) -> bool
-    ensures { λ r. ⌜ r ≡ overCounts ask ⌝ }
+    ensures { λ r. ⌜ r ≡ overCounts (ask .assumptions) (ask .claims) ⌝ }
 {
-    if 32 < ask.assumptions {
+    if ASSUMPTIONS < ask.assumptions {
         return true;
     }
-    96 < ask.claims
+    CLAIMS < ask.claims
 }
 
 // The first fault of an item.
 fn fault(top: u8, item: Handed) -> Reply
     ensures { λ r. ⌜ r ≡ faultOfItem top item ⌝ }
 {
-    if 4 < item.count {
+    if SUPPORTS < item.count {
         return Reply::Supports;
     }
     let supports = item.supports;
@@ -117,8 +127,8 @@ fn fault(top: u8, item: Handed) -> Reply
 }
 
 // The mark of the item's consequent after it, at stage k.
-fn mark(top: u8, item: Handed, marks: [u8; 129], k: u8) -> u8
-    requires { ⌜ (top ≤ 128) × (k < 129) × (faultOfItem top item ≡ Done) ⌝ }
+fn mark(top: u8, item: Handed, marks: [u8; MARKS], k: u8) -> u8
+    requires { ⌜ (top ≤ limits .numbers) × (k < limits .numbers + 1) × (faultOfItem top item ≡ Done) ⌝ }
     ensures { λ r. ⌜ r ≡ markBy k (k + 1) marks (justOf top item) ⌝ }
 {
     let supports = item.supports;
@@ -135,13 +145,13 @@ fn again(chase: Chase, at: usize, new: bool) -> bool
         return false;
     }
     if new {
-        return chase.stage < 128;
+        return chase.stage < LAST;
     }
     false
 }
 
 // With these marks, on to the next item, or to the next stage.
-fn onward(chase: Chase, marks: [u8; 129], new: bool) -> Chase
+fn onward(chase: Chase, marks: [u8; MARKS], new: bool) -> Chase
     requires { ⌜ Going chase ⌝ }
     ensures { λ r. ⌜ r ≡ onwardOf chase marks new ⌝ }
 {
@@ -236,7 +246,7 @@ fn refused(what: What, reply: Reply) -> Told
 }
 
 // What the marks say to what is asked.
-fn tell(marks: [u8; 129], top: u8, what: What, out: &mut [u8]) -> Told
+fn tell(marks: [u8; MARKS], top: u8, what: What, out: &mut [u8]) -> Told
     ensures { λ r. ⌜ answered r (now (out .exit)) ≡ toldIn marks top what (now (out .entry)) ⌝ }
 {
     match what {
@@ -248,7 +258,7 @@ fn tell(marks: [u8; 129], top: u8, what: What, out: &mut [u8]) -> Told
 
 // The answer when the list has been followed: a fault, 4 for the set, or what the marks say.
 fn finish(chase: Chase, ask: Query, out: &mut [u8]) -> Told
-    requires { ⌜ (chase .assumptions ≤ 32) × (chase .top ≤ 128) ⌝ }
+    requires { ⌜ (chase .assumptions ≤ limits .assumptions) × (chase .top ≤ limits .numbers) ⌝ }
     ensures { λ r. ⌜ answered r (now (out .exit)) ≡ finishOf chase ask (now (out .entry)) ⌝ }
 {
     let reply = chase.reply;
@@ -275,19 +285,19 @@ pub fn ask(query: Query, list: &[Handed], out: &mut [u8]) -> Told
 }
 
 // Of the first n of a list by value.
-fn ask_first(query: Query, list: [Handed; 256], n: usize, out: &mut [u8]) -> Told
-    requires { ⌜ n ≤ 256 ⌝ }
+fn ask_first(query: Query, list: [Handed; HELD], n: usize, out: &mut [u8]) -> Told
+    requires { ⌜ n ≤ limits .held ⌝ }
     ensures { λ r. ⌜ Answers query (take n list) (now (out .entry)) r (now (out .exit)) ⌝ }
 {
     ask(query, &list[..n], out)
 }
 
 // .. and of all where n is more: a caller of this one takes no slice of items.
-pub fn ask_some(query: Query, list: [Handed; 256], n: usize, out: &mut [u8]) -> Told
+pub fn ask_some(query: Query, list: [Handed; HELD], n: usize, out: &mut [u8]) -> Told
     ensures { λ r. ⌜ Answers query (take n list) (now (out .entry)) r (now (out .exit)) ⌝ }
 {
-    if 256 < n {
-        return ask_first(query, list, 256, out);
+    if HELD < n {
+        return ask_first(query, list, HELD, out);
     }
     ask_first(query, list, n, out)
 }

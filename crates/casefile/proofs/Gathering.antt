@@ -16,6 +16,7 @@ use Rattle.rules.specs.Held.{entryOf, fitting, heldOf, heldRight, meaning, put,
 use Rattle.rules.specs.Items.{justificationOf, sameJustification}
 use Rattle.rules.specs.declared.Held.{Held}
 use Rattle.theory.proofs.Lists.{either}
+use Rattle.theory.specs.Limits.{limits}
 use Rattle.theory.specs.Lists.{someOf}
 use Rattle.theory.specs.Stages.{Justification}
 
@@ -89,29 +90,29 @@ module _ (A M : ℕ) (J : List Justification) (s : Sure A M J) (i : Item) (d : F
   pub meant-said : meaning (entryOf j) ≡ j
   meant-said = canonical-fits (A + M) (i .consequent) (i .supports) d .1
 
-  put-sure : length J < 256 → someOf (sameJustification j) J ≡ false → Sure A M (put j J)
+  put-sure : length J < limits .held → someOf (sameJustification j) J ≡ false → Sure A M (put j J)
   unfolding heldOf
   put-sure few t =
-      let room : h .count < 256 = omega (arith, sure-count A M J) in
+      let room : h .count < limits .held = omega (arith, sure-count A M J) in
       let new : someOf (sameJustification (meaning (entryOf j))) (saidBy h) ≡ false = rw (meant-said, s .said, t) in
       let e : put (meaning (entryOf j)) (saidBy h) ≡ put j J = rw (meant-said, s .said) in
       let right : heldRight (heldOf A M (put j J)) ≡ true = subst (λ (l : List Justification). heldRight (heldOf A M l) ≡ true) e (put-right h (entryOf j) (s .right) room meant-fits new) in
       record {
         right = right;
         said = held-said A M (put j J) (omega (arith, put-length j J))
-            (λ x m. ⊎-elim (λ (q : x ≡ j). subst (λ (y : Justification). length (y .supports) ≤ 4) (sym q) small) (λ n. right-range h (s .right) x (subst (Mem x) (sym (s .said)) n) .few) (put-cases j J m));
+            (λ x m. ⊎-elim (λ (q : x ≡ j). subst (λ (y : Justification). length (y .supports) ≤ limits .supports) (sym q) small) (λ n. right-range h (s .right) x (subst (Mem x) (sym (s .said)) n) .few) (put-cases j J m));
       }
     where
-      small : length (j .supports) ≤ 4
+      small : length (j .supports) ≤ limits .supports
       small = faultless-ranged (A + M) (i .consequent) (i .supports) d .few
 
-  pub joined-sure : length J < 256 → Sure A M (joined j J)
+  pub joined-sure : length J < limits .held → Sure A M (joined j J)
   joined-sure few =
       ⊎-elim (λ t. subst (Sure A M) (sym (joined-held j J t)) s) (λ t. subst (Sure A M) (sym (joined-new j J t)) (put-sure few t)) (either (someOf (sameJustification j) J))
 
 -- ---- all the items
 
-pub gathered-sure : (A M : ℕ) (J : List Justification) (l : List Item) → Sure A M J → ((i : Item) → Mem i l → Faultless (A + M) i) → length J + length l ≤ 256 → Sure A M (gathered (A + M) J l)
+pub gathered-sure : (A M : ℕ) (J : List Justification) (l : List Item) → Sure A M J → ((i : Item) → Mem i l → Faultless (A + M) i) → length J + length l ≤ limits .held → Sure A M (gathered (A + M) J l)
 unfolding gathered
 gathered-sure A M J [] s f h = s
 gathered-sure A M J (i ∷ l) s f h =

@@ -20,13 +20,14 @@ use Rattle.store.specs.Shape.{heldFits}
 use Rattle.store.specs.declared.Outcome.{Outcome}
 use Rattle.store.specs.declared.Store.{Store}
 use Rattle.theory.proofs.Lists.{and-intro}
+use Rattle.theory.specs.Limits.{limits}
 use Rattle.theory.specs.Stages.{Justification}
 
 -- what is held in its right shape, within the limits, is judged by its stages
-judged-stages : (h : Held) → h .assumptions ≤ 32 → h .claims ≤ 96 → heldRight h ≡ true → judgedOf h ≡ storeOf noStore (h .assumptions) (h .claims) (saidBy h)
+judged-stages : (h : Held) → h .assumptions ≤ limits .assumptions → h .claims ≤ limits .claims → heldRight h ≡ true → judgedOf h ≡ storeOf noStore (h .assumptions) (h .claims) (saidBy h)
 unfolding judgedOf heldFits
 judged-stages h a m r =
-    let t : heldFits h ≡ true = and-intro (le-leb (h .assumptions) 32 a) (and-intro (le-leb (h .claims) 96 m) r) in
+    let t : heldFits h ≡ true = and-intro (le-leb (h .assumptions) (limits .assumptions) a) (and-intro (le-leb (h .claims) (limits .claims) m) r) in
     rw t
 
 done-assumptions : (s : Case) → doneOf s .held .assumptions ≡ s .header .assumptions

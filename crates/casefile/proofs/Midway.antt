@@ -22,6 +22,7 @@ use Rattle.replies.specs.declared.Reply.{Reply}
 use Rattle.rules.specs.Held.{fitting, heldOf, heldRight, meaning, saidBy}
 use Rattle.rules.specs.declared.Entry.{Entry}
 use Rattle.rules.specs.declared.Held.{Held}
+use Rattle.theory.specs.Limits.{limits}
 use Rattle.theory.specs.Stages.{Justification}
 
 finished-more : (A M J : ℕ) (H : List Justification) (i : Item) (R : Reading (List Item)) → finished A M J H (withItem i R) ≡ finished A M J (joined (meant (A + M) i) H) R
@@ -58,14 +59,14 @@ module _ (l : List ℕ) (from A M J : ℕ) where
           told : Told l (A + M) (recordFrom (A + M) (drop at l)) e
           told = record-read l (A + M) e at q z
 
-          pub midway-room : J ≤ 256 → (heldRight h ≡ true) × (h .count < 256) × (fitting (h .assumptions + h .claims) (e .entry) ≡ true)
+          pub midway-room : J ≤ limits .held → (heldRight h ≡ true) × (h .count < limits .held) × (fitting (h .assumptions + h .claims) (e .entry) ≡ true)
           midway-room small =
               (subst (λ (x : Held). heldRight x ≡ true) (sym (p .held)) (p .sure .right), room, ap₂ (λ (x : Held) (y : Entry). fitting (x .assumptions + x .claims) y) (p .held) (told .entered) ∙ meant-fits A M (p .have) (p .sure) (told .item) (told .faultless))
             where
-              room : h .count < 256
+              room : h .count < limits .held
               room = omega (arith, ap (λ (x : Held). x .count) (p .held), sure-count A M (p .have), p .many)
 
-          pub midway-more : J ≤ 256 → (h′ : Held) → h′ ≡ heldOf (h .assumptions) (h .claims) (joined (meaning (e .entry)) (saidBy h)) → Midway l from A M J h′ (e .next) (r + 1)
+          pub midway-more : J ≤ limits .held → (h′ : Held) → h′ ≡ heldOf (h .assumptions) (h .claims) (joined (meaning (e .entry)) (saidBy h)) → Midway l from A M J h′ (e .next) (r + 1)
           midway-more small h′ s =
               record {
                 have = joined j (p .have);
@@ -109,5 +110,5 @@ module _ (l : List ℕ) where
     unfolding parseOf caseOf recordsOf
     parse-records = rw (header-read l A M J next e .0) (finished-case (record { assumptions = A; claims = M; records = J }) (recordsFrom (A + M) 0 J (drop next l)))
 
-    pub parse-ready : (next ≤ length l) × (A + M ≤ 128) × (J ≤ 256)
+    pub parse-ready : (next ≤ length l) × (A + M ≤ limits .numbers) × (J ≤ limits .held)
     parse-ready = let r = header-read l A M J next e in (r .1, (omega (arith, r .2 .assumptions, r .2 .claims)), r .2 .records)

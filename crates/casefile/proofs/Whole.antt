@@ -18,6 +18,7 @@ use Rattle.numbers.specs.Numbers.{Taken, got, bad}
 use Rattle.replies.specs.Replies.{numberOf}
 use Rattle.replies.specs.declared.Reply.the-variants.{Done}
 use Rattle.rules.specs.Held.{heldOf, heldRight, saidBy}
+use Rattle.theory.specs.Limits.{limits}
 use Rattle.theory.specs.Stages.{Justification}
 
 -- ---- the records
@@ -99,8 +100,8 @@ pub record Loadable (l : List ℕ) : Type 0 where
   pub spells : caseOf l ≡ whole spelled
   pub parsed : parseOf l ≡ doneOf spelled
   pub sound : Sound spelled
-  pub assumptions : parseOf l .held .assumptions ≤ 32
-  pub claims : parseOf l .held .claims ≤ 96
+  pub assumptions : parseOf l .held .assumptions ≤ limits .assumptions
+  pub claims : parseOf l .held .claims ≤ limits .claims
   pub right : heldRight (parseOf l .held) ≡ true
   pub said : saidBy (parseOf l .held) ≡ heldBy spelled
 
@@ -121,8 +122,8 @@ parse-right l e =
       spells = c .1;
       parsed = same;
       sound = c .2;
-      assumptions = subst (λ (r : Parsed). r .held .assumptions ≤ 32) (sym same) (c .2 .limited .assumptions);
-      claims = subst (λ (r : Parsed). r .held .claims ≤ 96) (sym same) (c .2 .limited .claims);
+      assumptions = subst (λ (r : Parsed). r .held .assumptions ≤ limits .assumptions) (sym same) (c .2 .limited .assumptions);
+      claims = subst (λ (r : Parsed). r .held .claims ≤ limits .claims) (sym same) (c .2 .limited .claims);
       right = subst (λ (r : Parsed). heldRight (r .held) ≡ true) (sym same) (sure .right);
       said = subst (λ (r : Parsed). saidBy (r .held) ≡ heldBy s) (sym same) (sure .said);
     }

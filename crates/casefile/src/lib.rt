@@ -8,7 +8,8 @@ ghost use mathlib.Core.Bool.{true};
 ghost use mathlib.Core.Path.{_≡_};
 ghost use Prim.Native.Nat.{_+_, _<_, _≤_};
 ghost use lib.ListN.{length};
-ghost use Rattle.rules.specs.Held.{fitting, heldOf, heldRight, meaning, saidBy};
+ghost use Rattle.theory.specs.Limits.{limits};
+ghost use Rattle.rules.specs.Held.{fitting, heldOf, heldRight, meaning, saidBy, top};
 ghost use Rattle.casefile.specs.Case.{Parses, joined, refusedOf};
 ghost use Rattle.casefile.specs.Load.{Loads};
 ghost use Rattle.casefile.specs.Steps.{recordsOf};
@@ -29,7 +30,7 @@ pub struct Loaded {
 
 // The justification among those held, once.
 fn with(held: Held, entry: Entry) -> Held
-    requires { ⌜ (heldRight held ≡ true) × (held .count < 256) × (fitting (held .assumptions + held .claims) entry ≡ true) ⌝ }
+    requires { ⌜ (heldRight held ≡ true) × (held .count < limits .held) × (fitting (top held) entry ≡ true) ⌝ }
     ensures { λ r. ⌜ r ≡ heldOf (held .assumptions) (held .claims) (joined (meaning entry) (saidBy held)) ⌝ }
 {
     if held.holds(entry) {
@@ -51,7 +52,7 @@ fn refused(reply: Reply, at: u32) -> Parsed
 
 // So many records from a place on.
 fn records(bytes: &[u8], from: usize, assumptions: u8, claims: u8, count: u32) -> Parsed
-    requires { ⌜ (from ≤ length (now bytes)) × (assumptions + claims ≤ 128) × (count ≤ 256) ⌝ }
+    requires { ⌜ (from ≤ length (now bytes)) × (assumptions + claims ≤ limits .numbers) × (count ≤ limits .held) ⌝ }
     ensures { λ r. ⌜ r ≡ recordsOf (now (bytes .entry)) from assumptions claims count ⌝ }
 {
     let top = assumptions + claims;

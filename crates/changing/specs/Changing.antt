@@ -10,6 +10,7 @@ use Rattle.replies.specs.declared.Reply.the-variants.{Already, Done, Full, Unhe
 use Rattle.rules.specs.Held.{dropped, heldOf, put, saidBy}
 use Rattle.rules.specs.Items.{faultOf, justificationOf, sameJustification}
 use Rattle.rules.specs.declared.Held.{Held}
+use Rattle.theory.specs.Limits.{limits}
 use Rattle.theory.specs.Lists.{choose, someOf}
 use Rattle.theory.specs.Stages.{Justification}
 
@@ -22,11 +23,11 @@ sifted h c l go =
     choose (not (eqb (numberOf (faultOf (h .assumptions + h .claims) c l)) 0)) (changed (faultOf (h .assumptions + h .claims) c l) h)
     (go (justificationOf (h .assumptions + h .claims) c l))
 
--- j put in: held already; 256 held already; done
+-- j put in: held already; no place left; done
 unfoldable pub included : Held → Justification → Changed
 included h j =
     choose (someOf (sameJustification j) (saidBy h)) (changed Already h)
-    (choose (leb 256 (h .count)) (changed Full h)
+    (choose (leb (limits .held) (h .count)) (changed Full h)
     (changed Done (heldOf (h .assumptions) (h .claims) (put j (saidBy h)))))
 
 -- j taken out: not held; done

@@ -1,9 +1,11 @@
 // What is held with one justification more, or one less; or the refusal and what was held.
 use replies::Reply;
 use rules::Held;
+use theory::HELD;
 ghost use mathlib.Core.Bool.{true};
 ghost use mathlib.Core.Path.{_≡_};
 ghost use Prim.Native.Nat.{_+_, _≤_};
+ghost use Rattle.theory.specs.Limits.{limits};
 ghost use Rattle.rules.specs.Held.{heldRight};
 ghost use Rattle.changing.specs.Changing.{lessOf, moreOf};
 
@@ -13,9 +15,9 @@ pub struct Changed {
     pub held: Held,
 }
 
-// One more: refused where the item has a fault, where it is held already, where 256 are.
+// One more: refused where the item has a fault, where it is held already, where no place is left.
 pub fn more(held: Held, consequent: u32, supports: &[u32]) -> Changed
-    requires { ⌜ (heldRight held ≡ true) × (held .assumptions + held .claims ≤ 128) ⌝ }
+    requires { ⌜ (heldRight held ≡ true) × (held .assumptions + held .claims ≤ limits .numbers) ⌝ }
     ensures { λ r. ⌜ r ≡ moreOf held consequent (now (supports .entry)) ⌝ }
 {
     let top = held.assumptions + held.claims;
@@ -30,7 +32,7 @@ pub fn more(held: Held, consequent: u32, supports: &[u32]) -> Changed
             held,
         };
     }
-    if 256 <= held.count {
+    if HELD <= held.count {
         return Changed {
             reply: Reply::Full,
             held,
@@ -44,7 +46,7 @@ pub fn more(held: Held, consequent: u32, supports: &[u32]) -> Changed
 
 // One less: refused where the item has a fault, where it is not held.
 pub fn less(held: Held, consequent: u32, supports: &[u32]) -> Changed
-    requires { ⌜ (heldRight held ≡ true) × (held .assumptions + held .claims ≤ 128) ⌝ }
+    requires { ⌜ (heldRight held ≡ true) × (held .assumptions + held .claims ≤ limits .numbers) ⌝ }
     ensures { λ r. ⌜ r ≡ lessOf held consequent (now (supports .entry)) ⌝ }
 {
     let top = held.assumptions + held.claims;

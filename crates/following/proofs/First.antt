@@ -20,6 +20,7 @@ use Rattle.theory.proofs.Judgement.{same-elim}
 use Rattle.theory.proofs.Lists.{all-elim, all-intro, clash, either, not-so, same-test, some-elim, some-intro}
 use Rattle.theory.proofs.Places.{getD-table, is-table, length-table}
 use Rattle.theory.specs.Judge.{sameSets}
+use Rattle.theory.specs.Limits.{limits}
 use Rattle.theory.specs.Lists.{allOf, choose, someOf}
 use Rattle.theory.specs.Places.{table}
 use Rattle.theory.specs.Stages.{Justification, follows, gives}
@@ -115,7 +116,7 @@ module _ (J : List Justification) (E : ℕ) where
   unfolding follows
   next-follows k n a = ap (λ (b : Bool). b || someOf (gives (follows J k E) n) J) a
 
-  upTo-next : (k n : ℕ) → k < 129 → choose (ltb (k + 1) (upTo J E k n) && someOf (gives (follows J k E) n) J) (k + 1) (upTo J E k n) ≡ upTo J E (suc k) n
+  upTo-next : (k n : ℕ) → k < limits .numbers + 1 → choose (ltb (k + 1) (upTo J E k n) && someOf (gives (follows J k E) n) J) (k + 1) (upTo J E k n) ≡ upTo J E (suc k) n
   unfolding upTo
   upTo-next k n h =
       let o : Bool = someOf (gives (follows J k E) n) J in
@@ -162,64 +163,64 @@ module _ (J : List Justification) (E : ℕ) where
 
   module _ (w : Placed J) where
     -- the first stage at which n follows, as it is marked
-    pub since-129 : (n : ℕ) → sinceOf J E n ≡ upTo J E 129 n
-    since-129 n = sym (since-is 129 n (ended-129 J E w 129 (omega arith)))
+    pub since-129 : (n : ℕ) → sinceOf J E n ≡ upTo J E (limits .numbers + 1) n
+    since-129 n = sym (since-is (limits .numbers + 1) n (ended-129 J E w (limits .numbers + 1) (omega arith)))
 
-    since-marks : (k : ℕ) → k < 255 → Inside (table 129 (upTo J E k)) J → (n : ℕ) → someOf (gives (marked k (table 129 (upTo J E k))) n) J ≡ someOf (gives (follows J k E) n) J
+    since-marks : (k : ℕ) → k < 255 → Inside (table (limits .numbers + 1) (upTo J E k)) J → (n : ℕ) → someOf (gives (marked k (table (limits .numbers + 1) (upTo J E k))) n) J ≡ someOf (gives (follows J k E) n) J
     unfolding gives marked
     since-marks k h f n =
-        some-same (gives (marked k (table 129 (upTo J E k))) n) (gives (follows J k E) n) J
+        some-same (gives (marked k (table (limits .numbers + 1) (upTo J E k))) n) (gives (follows J k E) n) J
         (λ j i. ap (λ (b : Bool). eqb (j .consequent) n && b)
-        (all-same (marked k (table 129 (upTo J E k))) (follows J k E) (j .supports)
-        (λ s t. ap (λ (x : ℕ). leb x k) (getD-table 129 (upTo J E k) s 255 (omega (arith, w .supports j i s t))) ∙ upTo-marked k s h)))
+        (all-same (marked k (table (limits .numbers + 1) (upTo J E k))) (follows J k E) (j .supports)
+        (λ s t. ap (λ (x : ℕ). leb x k) (getD-table (limits .numbers + 1) (upTo J E k) s 255 (omega (arith, w .supports j i s t))) ∙ upTo-marked k s h)))
 
-    pub pass-step : (k : ℕ) → k < 129 → passOver k (k + 1) (table 129 (upTo J E k)) J ≡ table 129 (upTo J E (suc k))
+    pub pass-step : (k : ℕ) → k < limits .numbers + 1 → passOver k (k + 1) (table (limits .numbers + 1) (upTo J E k)) J ≡ table (limits .numbers + 1) (upTo J E (suc k))
     pass-step k h =
-        let m : List ℕ = table 129 (upTo J E k) in
-        let e : length m ≡ 129 = length-table 129 (upTo J E k) in
-        is-table (passOver k (k + 1) m J) 129 (upTo J E (suc k)) 255 (pass-long k (k + 1) J m ∙ e)
+        let m : List ℕ = table (limits .numbers + 1) (upTo J E k) in
+        let e : length m ≡ limits .numbers + 1 = length-table (limits .numbers + 1) (upTo J E k) in
+        is-table (passOver k (k + 1) m J) (limits .numbers + 1) (upTo J E (suc k)) 255 (pass-long k (k + 1) J m ∙ e)
         (λ n low. pass-at k (k + 1) (omega arith) J m n (inside J E w m e)
-        ∙ ap₂ (λ (x : ℕ) (b : Bool). choose (ltb (k + 1) x && b) (k + 1) x) (getD-table 129 (upTo J E k) n 255 low) (since-marks k (omega arith) (inside J E w m e) n)
+        ∙ ap₂ (λ (x : ℕ) (b : Bool). choose (ltb (k + 1) x && b) (k + 1) x) (getD-table (limits .numbers + 1) (upTo J E k) n 255 low) (since-marks k (omega arith) (inside J E w m e) n)
         ∙ upTo-next k n h)
 
-    still-same : (k : ℕ) → k < 129 → table 129 (upTo J E (suc k)) ≡ table 129 (upTo J E k) → Still k
+    still-same : (k : ℕ) → k < limits .numbers + 1 → table (limits .numbers + 1) (upTo J E (suc k)) ≡ table (limits .numbers + 1) (upTo J E k) → Still k
     unfolding Still
     still-same k h e n f =
         ⊎-elim (λ a. a)
         (λ g.
-        let low : n < 129 = omega (arith, g .2 .of, w .consequents (g .0) (g .1)) in
-        let q : upTo J E (suc k) n ≡ upTo J E k n = sym (getD-table 129 (upTo J E (suc k)) n 255 low) ∙ ap (λ (l : List ℕ). getD l n 255) e ∙ getD-table 129 (upTo J E k) n 255 low in
+        let low : n < limits .numbers + 1 = omega (arith, g .2 .of, w .consequents (g .0) (g .1)) in
+        let q : upTo J E (suc k) n ≡ upTo J E k n = sym (getD-table (limits .numbers + 1) (upTo J E (suc k)) n 255 low) ∙ ap (λ (l : List ℕ). getD l n 255) e ∙ getD-table (limits .numbers + 1) (upTo J E k) n 255 low in
         ⊎-elim (λ a. a) (λ (a : follows J k E n ≡ false). absurd (omega (arith, q, upTo-no k n a, upTo-yes (suc k) n f))) (either (follows J k E n)))
         (follows-cases J k E n f)
 
 -- the marks of stage 0 are those of what follows there
-pub sown-at : (J : List Justification) (E : ℕ) → sown E ≡ table 129 (upTo J E 0)
+pub sown-at : (J : List Justification) (E : ℕ) → sown E ≡ table (limits .numbers + 1) (upTo J E 0)
 unfolding upTo follows marksOf
 sown-at J E = refl
 
 -- ---- the loop
 module _ (J : List Justification) (w : Placed J) (E : ℕ) where
   abbrev At : ℕ → List ℕ
-  At k = table 129 (upTo J E k)
+  At k = table (limits .numbers + 1) (upTo J E k)
 
-  pub ended-table : (k : ℕ) → Ended J E k → At k ≡ table 129 (sinceOf J E)
-  ended-table k d = table-same 129 (upTo J E k) (sinceOf J E) 255 (λ n low. since-is J E k n d)
+  pub ended-table : (k : ℕ) → Ended J E k → At k ≡ table (limits .numbers + 1) (sinceOf J E)
+  ended-table k d = table-same (limits .numbers + 1) (upTo J E k) (sinceOf J E) 255 (λ n low. since-is J E k n d)
 
-  pub pass-plus : (k : ℕ) → k < 129 → passOver k (k + 1) (At k) J ≡ At (k + 1)
+  pub pass-plus : (k : ℕ) → k < limits .numbers + 1 → passOver k (k + 1) (At k) J ≡ At (k + 1)
   pass-plus k h = pass-step J E w k h ∙ ap At (sym (add-one k))
 
   -- where a pass marks nothing new, nothing new follows
-  pub pass-still : (k : ℕ) → k < 129 → passOver k (k + 1) (At k) J ≡ At k → At k ≡ table 129 (sinceOf J E)
+  pub pass-still : (k : ℕ) → k < limits .numbers + 1 → passOver k (k + 1) (At k) J ≡ At k → At k ≡ table (limits .numbers + 1) (sinceOf J E)
   pass-still k h e = ended-table k (still-ended J E k (still-same J E w k h (sym (pass-step J E w k h) ∙ e)))
 
-  pub since-last : (k : ℕ) → 129 ≤ k → At k ≡ table 129 (sinceOf J E)
+  pub since-last : (k : ℕ) → limits .numbers + 1 ≤ k → At k ≡ table (limits .numbers + 1) (sinceOf J E)
   since-last k h = ended-table k (ended-129 J E w k h)
 
-  stages-at : (f k : ℕ) → k + f ≡ 129 → stagesFrom J f k (At k) ≡ table 129 (sinceOf J E)
+  stages-at : (f k : ℕ) → k + f ≡ limits .numbers + 1 → stagesFrom J f k (At k) ≡ table (limits .numbers + 1) (sinceOf J E)
   unfolding stagesFrom
   stages-at zero k e = since-last k (omega (arith, e))
   stages-at (suc f) k e =
-      let low : k < 129 = omega (arith, e) in
+      let low : k < limits .numbers + 1 = omega (arith, e) in
       let next : List ℕ = passOver k (k + 1) (At k) J in
       ⊎-elim (λ (t : sameSets next (At k) ≡ true). ap (λ (b : Bool). choose b (At k) (stagesFrom J f (k + 1) next)) t ∙ pass-still k low (same-elim next (At k) t))
       (λ (t : sameSets next (At k) ≡ false).
@@ -227,31 +228,31 @@ module _ (J : List Justification) (w : Placed J) (E : ℕ) where
       (either (sameSets next (At k)))
 
   -- from the marks of stage 0 there are for each number the first stage at which it follows
-  pub stages-since : stagesFrom J 129 0 (sown E) ≡ table 129 (sinceOf J E)
-  stages-since = ap (stagesFrom J 129 0) (sown-at J E) ∙ stages-at 129 0 refl
+  pub stages-since : stagesFrom J (limits .numbers + 1) 0 (sown E) ≡ table (limits .numbers + 1) (sinceOf J E)
+  stages-since = ap (stagesFrom J (limits .numbers + 1) 0) (sown-at J E) ∙ stages-at (limits .numbers + 1) 0 refl
 
 -- the loop of `stages`, k stages done
-pub stages-same : (J : List Justification) (k : ℕ) (m r : List ℕ) (t : Bool) → k < 129 → r ≡ passOver k (k + 1) m J → t ≡ sameSets r m → t ≡ true → stagesFrom J (129 - k) k m ≡ m
+pub stages-same : (J : List Justification) (k : ℕ) (m r : List ℕ) (t : Bool) → k < limits .numbers + 1 → r ≡ passOver k (k + 1) m J → t ≡ sameSets r m → t ≡ true → stagesFrom J ((limits .numbers + 1) - k) k m ≡ m
 unfolding stagesFrom
 stages-same J k m r t h e p y =
-    ap (λ (f : ℕ). stagesFrom J f k m) left-one ∙ ap (λ (b : Bool). choose b m (stagesFrom J (128 - k) (k + 1) (passOver k (k + 1) m J))) (sym (p ∙ ap (λ (x : List ℕ). sameSets x m) e) ∙ y)
+    ap (λ (f : ℕ). stagesFrom J f k m) left-one ∙ ap (λ (b : Bool). choose b m (stagesFrom J (limits .numbers - k) (k + 1) (passOver k (k + 1) m J))) (sym (p ∙ ap (λ (x : List ℕ). sameSets x m) e) ∙ y)
   where
-    left-one : 129 - k ≡ suc (128 - k)
+    left-one : (limits .numbers + 1) - k ≡ suc (limits .numbers - k)
     left-one = omega (arith, h)
 
-pub stages-next : (J : List Justification) (k : ℕ) (m r : List ℕ) (t : Bool) → k < 129 → r ≡ passOver k (k + 1) m J → t ≡ sameSets r m → t ≡ false → stagesFrom J (129 - k) k m ≡ stagesFrom J (129 - (k + 1)) (k + 1) r
+pub stages-next : (J : List Justification) (k : ℕ) (m r : List ℕ) (t : Bool) → k < limits .numbers + 1 → r ≡ passOver k (k + 1) m J → t ≡ sameSets r m → t ≡ false → stagesFrom J ((limits .numbers + 1) - k) k m ≡ stagesFrom J ((limits .numbers + 1) - (k + 1)) (k + 1) r
 unfolding stagesFrom
 stages-next J k m r t h e p y =
     ap (λ (f : ℕ). stagesFrom J f k m) left-one
-    ∙ ap (λ (b : Bool). choose b m (stagesFrom J (129 - (k + 1)) (k + 1) (passOver k (k + 1) m J))) (sym (p ∙ ap (λ (x : List ℕ). sameSets x m) e) ∙ y)
-    ∙ ap (stagesFrom J (129 - (k + 1)) (k + 1)) (sym e)
+    ∙ ap (λ (b : Bool). choose b m (stagesFrom J ((limits .numbers + 1) - (k + 1)) (k + 1) (passOver k (k + 1) m J))) (sym (p ∙ ap (λ (x : List ℕ). sameSets x m) e) ∙ y)
+    ∙ ap (stagesFrom J ((limits .numbers + 1) - (k + 1)) (k + 1)) (sym e)
   where
-    left-one : 129 - k ≡ suc (129 - (k + 1))
+    left-one : (limits .numbers + 1) - k ≡ suc ((limits .numbers + 1) - (k + 1))
     left-one = omega (arith, h)
 
-pub stages-end : (J : List Justification) (k : ℕ) (m : List ℕ) → 129 ≤ k → stagesFrom J (129 - k) k m ≡ m
+pub stages-end : (J : List Justification) (k : ℕ) (m : List ℕ) → limits .numbers + 1 ≤ k → stagesFrom J ((limits .numbers + 1) - k) k m ≡ m
 unfolding stagesFrom
 stages-end J k m h = ap (λ (f : ℕ). stagesFrom J f k m) none
   where
-    none : 129 - k ≡ 0
+    none : (limits .numbers + 1) - k ≡ 0
     none = omega (arith, h)

@@ -7,6 +7,7 @@ use Rattle.following.specs.Marks.{passOver}
 use Rattle.rules.specs.Held.{saidBy}
 use Rattle.rules.specs.declared.Held.{Held}
 use Rattle.theory.specs.Judge.{sameSets}
+use Rattle.theory.specs.Limits.{limits}
 use Rattle.theory.specs.Lists.{choose}
 use Rattle.theory.specs.Stages.{Justification, follows}
 
@@ -29,4 +30,4 @@ stagesFrom J (suc f) k m =
 
 -- r has the marks stage by stage; from those of stage 0 it has for each number the first stage at which it follows (proofs/First `stages-since`)
 abbrev pub Staged : Held → List ℕ → List ℕ → Type 0
-Staged h marks r = r ≡ stagesFrom (saidBy h) 129 0 marks
+Staged h marks r = r ≡ stagesFrom (saidBy h) (limits .numbers + 1) 0 marks

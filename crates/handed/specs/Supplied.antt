@@ -4,8 +4,9 @@ use Prim.Native.Nat.{ℕ}
 use lib.Dec.{ltb}
 use lib.ListN.{take}
 use Rattle.handed.specs.declared.Handed.{Handed}
+use Rattle.theory.specs.Limits.{limits}
 use Rattle.theory.specs.Lists.{choose}
 
--- as many as the count says; a count above four hands over five, whatever stands there
+-- as many as the count says; a count above the limit hands over one more, whatever stands there
 unfoldable pub suppliedBy : Handed → List ℕ
-suppliedBy h = choose (ltb 4 (h .count)) (0 ∷ 0 ∷ 0 ∷ 0 ∷ 0 ∷ []) (take (h .count) (h .supports))
+suppliedBy h = choose (ltb (limits .supports) (h .count)) (0 ∷ 0 ∷ 0 ∷ 0 ∷ 0 ∷ []) (take (h .count) (h .supports))

@@ -17,27 +17,28 @@ use Rattle.numbers.specs.declared.Number.the-variants.{Value, Bad as bad-number
 use Rattle.replies.specs.declared.Reply.the-variants.{Done, Counts as Over, Full}
 use Rattle.replies.specs.declared.Reply.{Reply}
 use Rattle.rules.proofs.Taking.{padded-push}
+use Rattle.theory.specs.Limits.{limits, overCounts}
 use Rattle.theory.specs.Lists.{choose}
 use Rattle.theory.specs.Places.{padded, table}
 
 -- ---- the header
 
 module _ (A M J next : ℕ) where
-  pub assumptions-over : 32 < A → Bad Over ≡ withinOf A M J next
+  pub assumptions-over : limits .assumptions < A → Bad Over ≡ withinOf A M J next
   unfolding withinOf
-  assumptions-over h = rw (lt-ltb 32 A h)
+  assumptions-over h = rw (lt-ltb (limits .assumptions) A h)
 
-  pub claims-over : A ≤ 32 → 96 < M → Bad Over ≡ withinOf A M J next
+  pub claims-over : A ≤ limits .assumptions → limits .claims < M → Bad Over ≡ withinOf A M J next
   unfolding withinOf
-  claims-over a h = rw (le-ltb 32 A a, lt-ltb 96 M h)
+  claims-over a h = rw (le-ltb (limits .assumptions) A a, lt-ltb (limits .claims) M h)
 
-  pub records-over : A ≤ 32 → M ≤ 96 → 256 < J → Bad Full ≡ withinOf A M J next
+  pub records-over : A ≤ limits .assumptions → M ≤ limits .claims → limits .held < J → Bad Full ≡ withinOf A M J next
   unfolding withinOf
-  records-over a m h = rw (le-ltb 32 A a, le-ltb 96 M m, lt-ltb 256 J h)
+  records-over a m h = rw (le-ltb (limits .assumptions) A a, le-ltb (limits .claims) M m, lt-ltb (limits .held) J h)
 
-  pub counts-within : A ≤ 32 → M ≤ 96 → J ≤ 256 → Read A M J next ≡ withinOf A M J next
+  pub counts-within : A ≤ limits .assumptions → M ≤ limits .claims → J ≤ limits .held → Read A M J next ≡ withinOf A M J next
   unfolding withinOf
-  counts-within a m h = rw (le-ltb 32 A a, le-ltb 96 M m, le-ltb 256 J h)
+  counts-within a m h = rw (le-ltb (limits .assumptions) A a, le-ltb (limits .claims) M m, le-ltb (limits .held) J h)
 
 module _ (l : List ℕ) where
   pub header-first : (f : Reply) → numberAt l 0 ≡ bad-number f → Bad f ≡ headerOf l
@@ -61,7 +62,7 @@ module _ (l : List ℕ) where
   unfolding headerOf headerFrom withinOf
   header-whole A p M q J next a m j =
       rw (value-from l 0 A p a .0, value-from l p M q m .0, value-from l q J next j .0)
-      (placed-choose (ltb 32 A || ltb 96 M) (ltb 256 J) Over Full (record { assumptions = A; claims = M; records = J }) next (value-from l q J next j .1))
+      (placed-choose (overCounts A M) (ltb (limits .held) J) Over Full (record { assumptions = A; claims = M; records = J }) next (value-from l q J next j .1))
 
 -- ---- the supports
 
@@ -84,7 +85,7 @@ pub record Partly (l : List ℕ) (from k : ℕ) (numbers : List ℕ) (at i : ℕ
   pub many : length read ≡ i
   pub few : i ≤ k
   pub inside : at ≤ length l
-  pub stand : numbers ≡ padded 0 4 read
+  pub stand : numbers ≡ padded 0 (limits .supports) read
   pub rest : numbersFrom k (drop from l) ≡ prefixed read (numbersFrom (k - i) (drop at l))
 
 module _ (l : List ℕ) (from k : ℕ) where
@@ -101,16 +102,16 @@ module _ (l : List ℕ) (from k : ℕ) where
     unfolding supportsOf
     partly-bad f e = rw (p .rest, onward, bad-from l at f e)
 
-    pub partly-more : k ≤ 4 → (n next : ℕ) → numberAt l at ≡ Value n next → Partly l from k (set numbers i n) next (i + 1)
+    pub partly-more : k ≤ limits .supports → (n next : ℕ) → numberAt l at ≡ Value n next → Partly l from k (set numbers i n) next (i + 1)
     partly-more small n next e =
         let v = value-from l at n next e in
-        let room : length (p .read) < 4 = omega (arith, p .many) in
+        let room : length (p .read) < limits .supports = omega (arith, p .many) in
         record {
           read = p .read ++ (n ∷ []);
           many = length-append (p .read) (n ∷ []) ∙ ap (λ (j : ℕ). j + 1) (p .many);
           few = omega arith;
           inside = v .1;
-          stand = rw (p .stand, ← p .many, padded-push (p .read) 4 n room);
+          stand = rw (p .stand, ← p .many, padded-push (p .read) (limits .supports) n room);
           rest = rw (p .rest, onward, v .0) (prefixed-more (p .read) n (numbersFrom (k - (i + 1)) (drop next l)));
         }
 

@@ -24,6 +24,7 @@ use Rattle.rules.proofs.Entries.{length-padded, unpadded}
 use Rattle.rules.specs.Held.{entryOf}
 use Rattle.rules.specs.Items.{faultOf, justificationOf}
 use Rattle.theory.proofs.Lists.{clash, either}
+use Rattle.theory.specs.Limits.{limits, overCounts}
 use Rattle.theory.specs.Lists.{choose}
 use Rattle.theory.specs.Places.{padded}
 
@@ -47,22 +48,22 @@ each-held P Q (bad r) f p g = tt
 
 -- counts within the limits
 pub record Limited (h : Header) : Type 0 where
-  pub assumptions : h .assumptions ≤ 32
-  pub claims : h .claims ≤ 96
-  pub records : h .records ≤ 256
+  pub assumptions : h .assumptions ≤ limits .assumptions
+  pub claims : h .claims ≤ limits .claims
+  pub records : h .records ≤ limits .held
 
 neither : (a b : Bool) → a || b ≡ false → (a ≡ false) × (b ≡ false)
 neither false b e = (refl, e)
 neither true b e = clash refl e
 
-limited : (A M J : ℕ) (rest : List ℕ) → Each Limited (choose (ltb 32 A || ltb 96 M) (bad Over) (choose (ltb 256 J) (bad Full) (got (record { assumptions = A; claims = M; records = J }) rest)))
+limited : (A M J : ℕ) (rest : List ℕ) → Each Limited (choose (overCounts A M) (bad Over) (choose (ltb (limits .held) J) (bad Full) (got (record { assumptions = A; claims = M; records = J }) rest)))
 unfolding Each
-limited A M J rest = go (ltb 32 A || ltb 96 M) (ltb 256 J) (λ e. neither (ltb 32 A) (ltb 96 M) e) (λ e. ltb-false 256 J e)
+limited A M J rest = go (overCounts A M) (ltb (limits .held) J) (λ e. neither (ltb (limits .assumptions) A) (ltb (limits .claims) M) e) (λ e. ltb-false (limits .held) J e)
   where
-    go : (s t : Bool) → (s ≡ false → (ltb 32 A ≡ false) × (ltb 96 M ≡ false)) → (t ≡ false → J ≤ 256) → Each Limited (choose s (bad Over) (choose t (bad Full) (got (record { assumptions = A; claims = M; records = J }) rest)))
+    go : (s t : Bool) → (s ≡ false → (ltb (limits .assumptions) A ≡ false) × (ltb (limits .claims) M ≡ false)) → (t ≡ false → J ≤ limits .held) → Each Limited (choose s (bad Over) (choose t (bad Full) (got (record { assumptions = A; claims = M; records = J }) rest)))
     go true t f g = tt
     go false true f g = tt
-    go false false f g = record { assumptions = ltb-false 32 A (f refl .0); claims = ltb-false 96 M (f refl .1); records = g refl }
+    go false false f g = record { assumptions = ltb-false (limits .assumptions) A (f refl .0); claims = ltb-false (limits .claims) M (f refl .1); records = g refl }
 
 module _ (l : List ℕ) where
   pub header-limited : Each Limited (headerFrom l)
@@ -74,7 +75,7 @@ module _ (l : List ℕ) where
   unfolding headerFrom
   header-onward =
       onward-then l (numberFrom l) _ (onward l 0) (λ A p h. onward-then l (numberFrom (drop p l)) _ (onward l p) (λ M q k. onward-then l (numberFrom (drop q l)) _ (onward l q) (λ J r m.
-      chosen (Onward l) (ltb 32 A || ltb 96 M) (onward-bad Header l Over refl) (chosen (Onward l) (ltb 256 J) (onward-bad Header l Full refl) (onward-got l (record { assumptions = A; claims = M; records = J }) r m)))))
+      chosen (Onward l) (overCounts A M) (onward-bad Header l Over refl) (chosen (Onward l) (ltb (limits .held) J) (onward-bad Header l Full refl) (onward-got l (record { assumptions = A; claims = M; records = J }) r m)))))
 
   header-got : (t : Taken Header) → Onward l t → Each Limited t → (A M J next : ℕ) → headerPlaced l t ≡ Read A M J next
       → (t ≡ got (record { assumptions = A; claims = M; records = J }) (drop next l)) × (next ≤ length l) × Limited (record { assumptions = A; claims = M; records = J })
@@ -116,12 +117,12 @@ numbers-many zero l = refl
 numbers-many (suc k) l =
     each-then (λ s. length s ≡ suc k) (numberFrom l) _ (λ x m. each-held (λ s. length s ≡ k) (λ s. length s ≡ suc k) (numbersFrom k m) _ (numbers-many k m) (λ xs rest e. ap suc e))
 
-module _ (l : List ℕ) (k : ℕ) (small : k ≤ 4) (g : Given) where
+module _ (l : List ℕ) (k : ℕ) (small : k ≤ limits .supports) (g : Given) where
   supports-got : (t : Taken (List ℕ)) → Onward l t → Each (λ s. length s ≡ k) t → g ≡ supportsPlaced l t → numberOf (g .reply) ≡ 0 → (t ≡ got (take k (g .numbers)) (drop (g .next) l)) × (g .next ≤ length l)
   unfolding Onward Each
   supports-got (got s rest) (j, p, e) m q z =
       let w : g .next ≡ j = ap (λ (r : Given). r .next) q ∙ (ap (λ (r : List ℕ). length l - length r) e ∙ place-of l j p) in
-      let n : take k (g .numbers) ≡ s = ap (λ (r : Given). take k (r .numbers)) q ∙ (ap (λ (i : ℕ). take i (padded 0 4 s)) (sym m) ∙ unpadded 0 4 s (omega arith)) in
+      let n : take k (g .numbers) ≡ s = ap (λ (r : Given). take k (r .numbers)) q ∙ (ap (λ (i : ℕ). take i (padded 0 (limits .supports) s)) (sym m) ∙ unpadded 0 (limits .supports) s (omega arith)) in
       (ap₂ got (sym n) (e ∙ ap (λ (i : ℕ). drop i l) (sym w)), omega arith)
   supports-got (bad f) o m q z = absurd (eqb-false (numberOf f) 0 o (sym (ap (λ (r : Given). numberOf (r .reply)) q) ∙ z))
 
@@ -129,12 +130,12 @@ module _ (l : List ℕ) (k : ℕ) (small : k ≤ 4) (g : Given) where
   supports-bad (got s rest) q z = absurd (z (ap (λ (r : Given). numberOf (r .reply)) q))
   supports-bad (bad f) q z = ap bad (sym (ap (λ (r : Given). r .reply) q))
 
-  supports-four : (t : Taken (List ℕ)) → g ≡ supportsPlaced l t → length (g .numbers) ≡ 4
-  supports-four (got s rest) q = ap (λ (r : Given). length (r .numbers)) q ∙ length-padded 0 4 s
+  supports-four : (t : Taken (List ℕ)) → g ≡ supportsPlaced l t → length (g .numbers) ≡ limits .supports
+  supports-four (got s rest) q = ap (λ (r : Given). length (r .numbers)) q ∙ length-padded 0 (limits .supports) s
   supports-four (bad f) q = ap (λ (r : Given). length (r .numbers)) q
 
   module _ (from : ℕ) (q : g ≡ supportsOf l from k) where
-    pub supports-long : length (g .numbers) ≡ 4
+    pub supports-long : length (g .numbers) ≡ limits .supports
     unfolding supportsOf
     supports-long = supports-four (numbersFrom k (drop from l)) q
 
@@ -180,7 +181,7 @@ module _ (N : ℕ) where
   unfolding recordFrom Each
   record-each l =
       each-then (Faultless N) (numberFrom l) _ (λ c l₁. each-then (Faultless N) (numberFrom l₁) _ (λ k l₂.
-      chosen (Each (Faultless N)) (ltb 4 k) (each-bad Supports) (each-then (Faultless N) (numbersFrom k l₂) _ (λ s l₃. unless-each N (record { consequent = c; supports = s }) l₃))))
+      chosen (Each (Faultless N)) (ltb (limits .supports) k) (each-bad Supports) (each-then (Faultless N) (numbersFrom k l₂) _ (λ s l₃. unless-each N (record { consequent = c; supports = s }) l₃))))
     where
       each-bad : (f : Reply) → Each (Faultless N) (bad f)
       each-bad f = tt
@@ -189,7 +190,7 @@ module _ (N : ℕ) where
   unfolding recordFrom
   record-onward l at =
       onward-then l (numberFrom (drop at l)) _ (onward l at) (λ c p h. onward-then l (numberFrom (drop p l)) _ (onward l p) (λ k q m.
-      chosen (Onward l) (ltb 4 k) (onward-bad Item l Supports refl) (onward-then l (numbersFrom k (drop q l)) _ (numbers-onward l k q m) (λ s r n. unless-onward N (record { consequent = c; supports = s }) l r n))))
+      chosen (Onward l) (ltb (limits .supports) k) (onward-bad Item l Supports refl) (onward-then l (numbersFrom k (drop q l)) _ (numbers-onward l k q m) (λ s r n. unless-onward N (record { consequent = c; supports = s }) l r n))))
 
 -- an item taken from the file, and where the code stands after it
 pub record Told (l : List ℕ) (N : ℕ) (t : Taken Item) (r : Entered) : Type 0 where
@@ -250,10 +251,10 @@ module _ (l : List ℕ) (at N : ℕ) where
     record-second f b = rw (value-from l at c p a .0, bad-from l p f b)
 
     module _ (k q : ℕ) (b : numberAt l p ≡ Value k q) where
-      pub record-many : 4 < k → unreadOf Supports ≡ recordOf l at N
+      pub record-many : limits .supports < k → unreadOf Supports ≡ recordOf l at N
       unfolding recordOf recordFrom
-      record-many h = rw (value-from l at c p a .0, value-from l p k q b .0, lt-ltb 4 k h)
+      record-many h = rw (value-from l at c p a .0, value-from l p k q b .0, lt-ltb (limits .supports) k h)
 
-      pub record-rest : k ≤ 4 → itemOf l q N c k ≡ recordOf l at N
+      pub record-rest : k ≤ limits .supports → itemOf l q N c k ≡ recordOf l at N
       unfolding recordOf recordFrom itemOf
-      record-rest h = rw (value-from l at c p a .0, value-from l p k q b .0, le-ltb 4 k h)
+      record-rest h = rw (value-from l at c p a .0, value-from l p k q b .0, le-ltb (limits .supports) k h)

@@ -1,5 +1,4 @@
 -- The header and the records of a case file, taken from the bytes one after another. Assumes nothing.
-use mathlib.Core.Bool.{_||_}
 use mathlib.Core.List.{List, [], _∷_}
 use Prim.Native.Nat.{ℕ, zero, suc}
 use lib.Dec.{eqb, ltb}
@@ -8,6 +7,7 @@ use Rattle.replies.specs.Replies.{numberOf}
 use Rattle.replies.specs.declared.Reply.the-variants.{Counts, Supports, Full}
 use Rattle.replies.specs.declared.Reply.{Reply}
 use Rattle.rules.specs.Items.{faultOf}
+use Rattle.theory.specs.Limits.{limits, overCounts}
 use Rattle.theory.specs.Lists.{choose}
 
 -- A, M, count J
@@ -27,8 +27,8 @@ headerFrom l =
     andThen (numberFrom l) (λ A l₁.
     andThen (numberFrom l₁) (λ M l₂.
     andThen (numberFrom l₂) (λ J l₃.
-    choose (ltb 32 A || ltb 96 M) (bad Counts)
-    (choose (ltb 256 J) (bad Full)
+    choose (overCounts A M) (bad Counts)
+    (choose (ltb (limits .held) J) (bad Full)
     (got (record { assumptions = A; claims = M; records = J }) l₃)))))
 
 -- n numbers one after another
@@ -45,5 +45,5 @@ unfoldable pub recordFrom : ℕ → List ℕ → Taken Item
 recordFrom N l =
     andThen (numberFrom l) (λ c l₁.
     andThen (numberFrom l₁) (λ k l₂.
-    choose (ltb 4 k) (bad Supports)
+    choose (ltb (limits .supports) k) (bad Supports)
     (andThen (numbersFrom k l₂) (λ s l₃. unless (faultOf N c s) (record { consequent = c; supports = s }) l₃))))

@@ -1,5 +1,4 @@
 -- How the code hands on what it has read: places instead of the bytes left. Assumes nothing.
-use mathlib.Core.Bool.{_||_}
 use mathlib.Core.List.{List, [], _∷_}
 use mathlib.Core.Path.{_≡_}
 use Prim.Native.Nat.{ℕ, _-_}
@@ -15,6 +14,7 @@ use Rattle.replies.specs.declared.Reply.the-variants.{Done, Counts as Over, Ful
 use Rattle.replies.specs.declared.Reply.{Reply}
 use Rattle.rules.specs.Held.{entryOf, vacant}
 use Rattle.rules.specs.Items.{faultOf, justificationOf}
+use Rattle.theory.specs.Limits.{limits, overCounts}
 use Rattle.theory.specs.Lists.{choose}
 use Rattle.theory.specs.Places.{padded}
 
@@ -23,7 +23,7 @@ use Rattle.theory.specs.Places.{padded}
 -- counts within the limits, and the next place
 unfoldable pub withinOf : ℕ → ℕ → ℕ → ℕ → Counts
 withinOf A M J next =
-    choose (ltb 32 A || ltb 96 M) (Bad Over) (choose (ltb 256 J) (Bad Full) (Read A M J next))
+    choose (overCounts A M) (Bad Over) (choose (ltb (limits .held) J) (Bad Full) (Read A M J next))
 
 -- the bytes after the header begin at the next place
 abbrev pub headerPlaced : List ℕ → Taken Header → Counts
@@ -36,9 +36,9 @@ headerOf l = headerPlaced l (headerFrom l)
 
 -- ---- a record
 
--- the supports in four places, and the bytes after them
+-- the supports in their places, and the bytes after them
 abbrev pub supportsPlaced : List ℕ → Taken (List ℕ) → Given
-supportsPlaced l (got s rest) = record { reply = Done; next = length l - length rest; numbers = padded 0 4 s }
+supportsPlaced l (got s rest) = record { reply = Done; next = length l - length rest; numbers = padded 0 (limits .supports) s }
 supportsPlaced l (bad f) = record { reply = f; next = 0; numbers = 0 ∷ 0 ∷ 0 ∷ 0 ∷ [] }
 
 -- k supports from a place on

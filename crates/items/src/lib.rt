@@ -2,10 +2,21 @@
 use numbers::Number;
 use replies::Reply;
 use rules::Entry;
+use theory::ASSUMPTIONS;
+use theory::CLAIMS;
+use theory::HELD;
+use theory::SUPPORTS;
 ghost use mathlib.Core.Path.{_≡_};
 ghost use Prim.Native.Nat.{_≤_};
 ghost use lib.ListN.{length};
+ghost use Rattle.theory.specs.Limits.{limits};
 ghost use Rattle.items.specs.Steps.{IsHeader, IsRecord, itemOf, supportsOf, unreadOf, withinOf};
+
+// The most records of a file.
+const MOST_RECORDS: u32 = HELD as u32;
+
+// The most supports of a record.
+const MOST_SUPPORTS: u32 = SUPPORTS as u32;
 
 // A header's counts of assumptions, claims and records, and the place after it; or the fault.
 pub enum Counts {
@@ -17,7 +28,7 @@ pub enum Counts {
 struct Given {
     reply: Reply,
     next: usize,
-    numbers: [u32; 4],
+    numbers: [u32; SUPPORTS],
 }
 
 // A record's justification in its place, and the place after the record; or the fault.
@@ -31,13 +42,13 @@ pub struct Entered {
 fn within(assumptions: u32, claims: u32, records: u32, next: usize) -> Counts
     ensures { λ r. ⌜ r ≡ withinOf assumptions claims records next ⌝ }
 {
-    if 32 < assumptions {
+    if ASSUMPTIONS < assumptions {
         return Counts::Bad(Reply::Counts);
     }
-    if 96 < claims {
+    if CLAIMS < claims {
         return Counts::Bad(Reply::Counts);
     }
-    if 256 < records {
+    if MOST_RECORDS < records {
         return Counts::Bad(Reply::Full);
     }
     Counts::Read(assumptions as u8, claims as u8, records, next)
@@ -64,10 +75,10 @@ pub fn header(bytes: &[u8]) -> Counts
 
 // So many supports, from a place on.
 fn supports(bytes: &[u8], from: usize, count: usize) -> Given
-    requires { ⌜ (count ≤ 4) × (from ≤ length (now bytes)) ⌝ }
+    requires { ⌜ (count ≤ limits .supports) × (from ≤ length (now bytes)) ⌝ }
     ensures { λ r. ⌜ r ≡ supportsOf (now (bytes .entry)) from count ⌝ }
 {
-    let mut numbers = [0u32; 4];
+    let mut numbers = [0u32; SUPPORTS];
     let mut at = from;
     let mut i = 0;
     while i < count {
@@ -76,7 +87,7 @@ fn supports(bytes: &[u8], from: usize, count: usize) -> Given
                 return Given {
                     reply,
                     next: 0,
-                    numbers: [0u32; 4],
+                    numbers: [0u32; SUPPORTS],
                 };
             }
             Number::Value(n, next) => {
@@ -103,14 +114,14 @@ fn unread(reply: Reply) -> Entered
         entry: Entry {
             consequent: 0,
             count: 0,
-            supports: [0u8; 4],
+            supports: [0u8; SUPPORTS],
         },
     }
 }
 
 // The rest of a record after its number of supports; top is the highest number.
 fn item(bytes: &[u8], from: usize, top: u8, consequent: u32, count: usize) -> Entered
-    requires { ⌜ (top ≤ 128) × (count ≤ 4) × (from ≤ length (now bytes)) ⌝ }
+    requires { ⌜ (top ≤ limits .numbers) × (count ≤ limits .supports) × (from ≤ length (now bytes)) ⌝ }
     ensures { λ r. ⌜ r ≡ itemOf (now (bytes .entry)) from top consequent count ⌝ }
 {
     let given = supports(bytes, from, count);
@@ -134,7 +145,7 @@ fn item(bytes: &[u8], from: usize, top: u8, consequent: u32, count: usize) -> En
 
 // The record at a place.
 pub fn record(bytes: &[u8], at: usize, top: u8) -> Entered
-    requires { ⌜ top ≤ 128 ⌝ }
+    requires { ⌜ top ≤ limits .numbers ⌝ }
     ensures { λ r. ⌜ IsRecord (now (bytes .entry)) at top r ⌝ }
 {
     let pair = numbers::two(bytes, at);
@@ -145,7 +156,7 @@ pub fn record(bytes: &[u8], at: usize, top: u8) -> Entered
         Number::Value(consequent, _) => match second {
             Number::Bad(reply) => unread(reply),
             Number::Value(count, from) => {
-                if 4 < count {
+                if MOST_SUPPORTS < count {
                     return unread(Reply::Supports);
                 }
                 item(bytes, from, top, consequent, count as usize)

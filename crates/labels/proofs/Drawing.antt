@@ -9,6 +9,7 @@ use lib.Seq.{getD-set-other, getD-set-same, getD-take, take-all, take-take}
 use Rattle.labels.specs.Promised.{builtOf}
 use Rattle.labels.specs.declared.Built.{Built}
 use Rattle.theory.proofs.Places.{is-table}
+use Rattle.theory.specs.Limits.{limits}
 use Rattle.theory.specs.Places.{padded}
 
 module _ (pool : List ℕ) (limit : ℕ) where
@@ -16,11 +17,11 @@ module _ (pool : List ℕ) (limit : ℕ) where
   pub record Drawn (sets : List ℕ) (i : ℕ) : Type 0 where
     pub few : i ≤ limit
     pub low : i ≤ length pool
-    pub long : length sets ≡ 32
+    pub long : length sets ≡ limits .nogoods
     pub are : (k : ℕ) → getD sets k 0 ≡ getD (take i pool) k 0
 
-  pub drawn-none : Drawn (replicate 32 0) 0
-  drawn-none = record { few = omega arith; low = omega arith; long = refl; are = λ k. zeros 32 k }
+  pub drawn-none : Drawn (replicate (limits .nogoods) 0) 0
+  drawn-none = record { few = omega arith; low = omega arith; long = refl; are = λ k. zeros (limits .nogoods) k }
     where
       zeros : (n i : ℕ) → getD (replicate n zero) i 0 ≡ zero
       zeros n i = elim (decLt i n) [
@@ -28,7 +29,7 @@ module _ (pool : List ℕ) (limit : ℕ) where
         | no p ↦ List·getD-eq-default (replicate n zero) 0 {n = i} (omega (arith, length-replicate n zero))
       ]
 
-  module _ (room : limit ≤ 32) (sets : List ℕ) (i : ℕ) (d : Drawn sets i) where
+  module _ (room : limit ≤ limits .nogoods) (sets : List ℕ) (i : ℕ) (d : Drawn sets i) where
     pub drawn-more : i < limit → i < length pool → Drawn (set sets i (getD pool i 0)) (i + 1)
     drawn-more h low = record { few = omega arith; low = omega arith; long = length-set sets i (getD pool i 0) ∙ d .long; are = at }
       where
@@ -47,13 +48,13 @@ module _ (pool : List ℕ) (limit : ℕ) where
           ]
         ]
 
-    drawn-padded : sets ≡ padded 0 32 (take i pool)
+    drawn-padded : sets ≡ padded 0 (limits .nogoods) (take i pool)
     unfolding padded
-    drawn-padded = is-table sets 32 (λ k. getD (take i pool) k 0) 0 (d .long) (λ k h. d .are k)
+    drawn-padded = is-table sets (limits .nogoods) (λ k. getD (take i pool) k 0) 0 (d .long) (λ k h. d .are k)
 
     drawn-made : (n : ℕ) → n ≡ length (take (limit + 1) pool) → take i pool ≡ take limit (take (limit + 1) pool) → _≡_ {A = Built} (record { count = n; sets = sets }) (builtOf limit (take (limit + 1) pool))
     unfolding builtOf
-    drawn-made n p q = ap₂ made p (drawn-padded ∙ ap (padded 0 32) q)
+    drawn-made n p q = ap₂ made p (drawn-padded ∙ ap (padded 0 (limits .nogoods)) q)
       where
         made : ℕ → List ℕ → Built
         made n l = record { count = n; sets = l }

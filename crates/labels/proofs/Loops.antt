@@ -19,6 +19,7 @@ use Rattle.labels.specs.Promised.{firstWithin}
 use Rattle.labels.specs.declared.pool.Fill.{Fill}
 use Rattle.sets.specs.Promised.{meet}
 use Rattle.theory.proofs.Sets.{within-refl}
+use Rattle.theory.specs.Limits.{limits}
 use Rattle.theory.specs.Lists.{each}
 use Rattle.theory.specs.Sets.{contains, union}
 use Rattle.theory.specs.Step.{joins}
@@ -36,10 +37,10 @@ module _ (members sizes supports struck : List ℕ) (joined : ℕ) (start : List
     pub fits : f .count ≤ length start
     pub few : n ≤ k
     pub low : k ≤ getD sizes (getD supports 0 0 - 1) 0
-    pub long : length spent ≡ 12
+    pub long : length spent ≡ limits .label
     pub going : Going (length start) struck (lying members sizes) (lying members sizes (getD supports 0 0)) (left supports) joined (filled start first) (filled pool f) k (take n spent) why
 
-  pub turning-none : Roomy start first → (why : ℕ) → Turning start (replicate 12 0) 0 why first 0
+  pub turning-none : Roomy start first → (why : ℕ) → Turning start (replicate (limits .label) 0) 0 why first 0
   turning-none ok why = record {
     same = refl;
     fits = ok .fits;
@@ -61,7 +62,7 @@ module _ (members sizes supports struck : List ℕ) (joined : ℕ) (start : List
     joins-first = ap (joins L joined) (drop-cons supports 0 0 h) ∙ ap (λ (l : List ℕ). each (λ F. joins L (union joined F) l) (L s)) (sym (left-is supports))
 
     module _ (pool spent : List ℕ) (n why : ℕ) (f : Fill) (k : ℕ) (inv : Turning pool spent n why f k) where
-      module _ (low : k < getD sizes (getD supports 0 0 - 1) 0) (g : ℕ) (is : g ≡ union joined (getD members (12 * (getD supports 0 0 - 1) + k) 0)) where
+      module _ (low : k < getD sizes (getD supports 0 0 - 1) 0) (g : ℕ) (is : g ≡ union joined (getD members (limits .label * (getD supports 0 0 - 1) + k) 0)) where
         low′ : k < length (L s)
         low′ = omega (arith, size-is)
 
@@ -69,7 +70,7 @@ module _ (members sizes supports struck : List ℕ) (joined : ℕ) (start : List
         is′ = is ∙ ap (union joined) (sym (lying-at members sizes lay s k (ranged .range 0 h .0) low))
 
         -- its joins are offered
-        pub turn-visited : n < 12 → (pool′ : List ℕ) (r : Fill) → length pool′ ≡ length pool → Gathered struck (joins (lying members sizes) g (left supports)) pool f pool′ r
+        pub turn-visited : n < limits .label → (pool′ : List ℕ) (r : Fill) → length pool′ ≡ length pool → Gathered struck (joins (lying members sizes) g (left supports)) pool f pool′ r
             → (w : ℕ) → w ≡ union why (r .why) → (x : ℕ) → x ≡ meet g (r .why) → Turning pool′ (set spent n x) (n + 1) w r (k + 1)
         turn-visited room pool′ r q a w p x e =
             let one : take n spent ++ meet g (r .why) ∷ [] ≡ take (n + 1) (set spent n x) =
@@ -87,7 +88,7 @@ module _ (members sizes supports struck : List ℕ) (joined : ℕ) (start : List
             }
 
         -- it is passed over: a spent set lies within it
-        pub turn-passed : (a : ℕ) → a ≡ firstWithin (take n spent) g → a < n → n ≤ 12 → Turning pool spent n why f (k + 1)
+        pub turn-passed : (a : ℕ) → a ≡ firstWithin (take n spent) g → a < n → n ≤ limits .label → Turning pool spent n why f (k + 1)
         turn-passed a p q room =
             let e : length (take n spent) ≡ n = length-take-le n spent (omega (arith, inv .long)) in
             let c : contains (take n spent) g ≡ true = contains-first (take n spent) g ∙ lt-ltb (firstWithin (take n spent) g) (length (take n spent)) (omega arith) in

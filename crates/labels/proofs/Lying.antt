@@ -6,23 +6,24 @@ use native.Mathlib.Omega.{arith}
 use lib.ListN.{drop, getD, length, length-drop, length-take, take}
 use lib.Seq.{getD-drop, getD-take, take-all}
 use Rattle.labels.specs.Layout.{Layout, Ranged, lying}
+use Rattle.theory.specs.Limits.{limits}
 
 -- ---- the label of a support as it lies
 module _ (members sizes : List ℕ) (lay : Layout members sizes) where
-  pub lying-length : (n : ℕ) → 1 ≤ n → n ≤ 128 → length (lying members sizes n) ≡ getD sizes (n - 1) 0
+  pub lying-length : (n : ℕ) → 1 ≤ n → n ≤ limits .numbers → length (lying members sizes n) ≡ getD sizes (n - 1) 0
   unfolding lying
   lying-length zero p q = absurd (omega arith)
   lying-length (suc i) p q =
       let e : suc i - 1 ≡ i = omega arith in
-      length-take (getD sizes i 0) (drop (12 * i) members) ∙ omega (arith, ap (λ (x : ℕ). getD sizes x 0) e, length-drop (12 * i) members, lay .members-length, lay .sizes-small i)
+      length-take (getD sizes i 0) (drop (limits .label * i) members) ∙ omega (arith, ap (λ (x : ℕ). getD sizes x 0) e, length-drop (limits .label * i) members, lay .members-length, lay .sizes-small i)
 
-  pub lying-at : (n k : ℕ) → 1 ≤ n → k < getD sizes (n - 1) 0 → getD (lying members sizes n) k 0 ≡ getD members (12 * (n - 1) + k) 0
+  pub lying-at : (n k : ℕ) → 1 ≤ n → k < getD sizes (n - 1) 0 → getD (lying members sizes n) k 0 ≡ getD members (limits .label * (n - 1) + k) 0
   unfolding lying
   lying-at zero k p h = absurd (omega arith)
   lying-at (suc i) k p h =
       let e : suc i - 1 ≡ i = omega arith in
       let l : k < getD sizes i 0 = omega (arith, ap (λ (x : ℕ). getD sizes x 0) e) in
-      getD-take (getD sizes i 0) (drop (12 * i) members) k 0 l ∙ getD-drop (12 * i) members k 0 ∙ ap (λ (x : ℕ). getD members (12 * x + k) 0) (sym e)
+      getD-take (getD sizes i 0) (drop (limits .label * i) members) k 0 l ∙ getD-drop (limits .label * i) members k 0 ∙ ap (λ (x : ℕ). getD members (limits .label * x + k) 0) (sym e)
 
 -- ---- the supports left after the first, as a part of the slice
 abbrev pub left : List ℕ → List ℕ

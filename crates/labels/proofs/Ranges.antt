@@ -18,9 +18,10 @@ use Rattle.rules.specs.Held.{fitting, heldRight, meaning}
 use Rattle.rules.specs.declared.Entry.{Entry}
 use Rattle.rules.specs.declared.Held.{Held}
 use Rattle.theory.proofs.Places.{getD-table, length-table}
+use Rattle.theory.specs.Limits.{limits}
 use Rattle.theory.specs.Stages.{Justification}
 
-module _ (h : Held) (right : heldRight h ≡ true) (wide : h .assumptions + h .claims ≤ 128) (j : ℕ) (z : Entry) (low : j < h .count) where
+module _ (h : Held) (right : heldRight h ≡ true) (wide : h .assumptions + h .claims ≤ limits .numbers) (j : ℕ) (z : Entry) (low : j < h .count) where
   fits : Fits (h .assumptions + h .claims) (getD (h .entries) j z)
   fits =
       let r = right-elim h right in
@@ -37,7 +38,7 @@ module _ (h : Held) (right : heldRight h ≡ true) (wide : h .assumptions + h .c
         (w .0, omega (arith, w .1, wide));
   }
 
-  pub held-low : getD (h .entries) j z .consequent ≤ 128
+  pub held-low : getD (h .entries) j z .consequent ≤ limits .numbers
   held-low = omega (arith, fits .low, wide)
 
 -- the entry at place j is one that fits
@@ -47,7 +48,7 @@ joinable-at m f = record { few = λ j z p. f j z p .0; ranged = λ j z p. f j z 
 as-entry : (e f : Entry) → e ≡ f → Few f → Ranged (meaning f .supports) → Few e × Ranged (meaning e .supports)
 as-entry e f q a b = (subst Few (sym q) a, subst (λ (x : Entry). Ranged (meaning x .supports)) (sym q) b)
 
-pub held-joinable : (h : Held) → heldRight h ≡ true → h .assumptions + h .claims ≤ 128 → Joinable (take (h .count) (h .entries))
+pub held-joinable : (h : Held) → heldRight h ≡ true → h .assumptions + h .claims ≤ limits .numbers → Joinable (take (h .count) (h .entries))
 held-joinable h right wide = joinable-at (take (h .count) (h .entries)) (λ j z p.
     let low : j < h .count = omega (arith, length-take (h .count) (h .entries)) in
     as-entry (getD (take (h .count) (h .entries)) j z) (getD (h .entries) j z) (getD-take (h .count) (h .entries) j z low) (held-few h right wide j z low) (held-ranged h right wide j z low))
@@ -92,10 +93,10 @@ module _ (l : List Entry) (lo hi j : ℕ) (z : Entry) (ok : Joinable (between l 
   }
 
 -- ---- justifications that lie in six bytes each
-pub entries-long : (rules : List ℕ) → length (entriesOf rules) ≡ 256
+pub entries-long : (rules : List ℕ) → length (entriesOf rules) ≡ limits .held
 unfolding entriesOf
-entries-long rules = length-table 256 (entryAt rules)
+entries-long rules = length-table (limits .held) (entryAt rules)
 
-pub entry-is : (rules : List ℕ) (j : ℕ) (z : Entry) → j < 256 → getD (entriesOf rules) j z ≡ entryAt rules j
+pub entry-is : (rules : List ℕ) (j : ℕ) (z : Entry) → j < limits .held → getD (entriesOf rules) j z ≡ entryAt rules j
 unfolding entriesOf
-entry-is rules j z h = getD-table 256 (entryAt rules) j z h
+entry-is rules j z h = getD-table (limits .held) (entryAt rules) j z h

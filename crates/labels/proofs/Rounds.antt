@@ -19,6 +19,7 @@ use Rattle.labels.specs.declared.pool.Fill.{Fill}
 use Rattle.theory.proofs.Label.{contains-elim}
 use Rattle.theory.proofs.Picks.{picks-selection}
 use Rattle.theory.proofs.Select.{Selection}
+use Rattle.theory.specs.Limits.{limits}
 use Rattle.theory.specs.Lists.{choose}
 use Rattle.theory.specs.Sets.{contains}
 use Rattle.theory.specs.Stages.{Justification}
@@ -81,14 +82,14 @@ begun count = record { count = count; out = false; bound = 0; why = 0 }
 module _ (struck old new : List ℕ) (limit : ℕ) where
   -- the first count of the list are found
   pub record Rounding (pool : List ℕ) (count : ℕ) : Type 0 where
-    pub long : length pool ≡ 33
+    pub long : length pool ≡ limits .nogoods + 1
     pub few : count ≤ limit
     pub are : Prefix limit struck (old ++ new) (take count pool)
 
-  pub rounding-none : Rounding (replicate 33 0) 0
+  pub rounding-none : Rounding (replicate (limits .nogoods + 1) 0) 0
   rounding-none = record { long = refl; few = omega arith; are = prefix-none limit struck (old ++ new) }
 
-  module _ (low : limit ≤ 32) (pool : List ℕ) (count : ℕ) (inv : Rounding pool count) where
+  module _ (low : limit ≤ limits .nogoods) (pool : List ℕ) (count : ℕ) (inv : Rounding pool count) where
     abbrev P : List ℕ
     P = take count pool
 
@@ -100,37 +101,37 @@ module _ (struck old new : List ℕ) (limit : ℕ) where
 
     -- the old list is offered
     module _ (pool₁ : List ℕ) (seen : Fill) (same₁ : length pool₁ ≡ length pool) (a : Offered struck old pool (begun count) pool₁ seen) where
-      half : filled pool₁ seen ≡ offeredAll 33 struck (begin P) old
+      half : filled pool₁ seen ≡ offeredAll (limits .nogoods + 1) struck (begin P) old
       half = a .0 ∙ ap (λ (v : ℕ). offeredAll v struck (begin P) old) (inv .long)
 
       pub half-roomy : Roomy pool₁ seen
-      half-roomy = record { few = omega (arith, inv .long); fits = omega (arith, a .1); well = subst Well (sym half) (well-stays 33 struck old (begin P) begun-well) }
+      half-roomy = record { few = omega (arith, inv .long); fits = omega (arith, a .1); well = subst Well (sym half) (well-stays (limits .nogoods + 1) struck old (begin P) begun-well) }
 
       -- so what is not stirred is refused
       pub half-hushed : (L : ℕ → List ℕ) (J : List Justification) (n : ℕ) (moved : List ℕ) → Still L J n old struck moved → Hushed L J n struck moved (filled pool₁ seen)
       half-hushed L J n moved s = record {
         long = s .long;
         refused = λ r m e u H o. subst (λ (x : Filled). Refused struck x H) (sym half)
-            (⊎-elim (λ c. let i = contains-elim old H c in refused-more struck (offeredAll 33 struck (begin P) old) (i .0) H (i .2) (refused-all 33 struck old (begin P) begun-well (i .0) (i .1)))
-            (λ c. by-struck struck (offeredAll 33 struck (begin P) old) H c) (s .quiet r m e u H o));
+            (⊎-elim (λ c. let i = contains-elim old H c in refused-more struck (offeredAll (limits .nogoods + 1) struck (begin P) old) (i .0) H (i .2) (refused-all (limits .nogoods + 1) struck old (begin P) begun-well (i .0) (i .1)))
+            (λ c. by-struck struck (offeredAll (limits .nogoods + 1) struck (begin P) old) H c) (s .quiet r m e u H o));
       }
 
       -- .. and the joins
       module _ (pool₂ : List ℕ) (all : Fill) (same₂ : length pool₂ ≡ length pool₁) (b : Offered struck new pool₁ seen pool₂ all) where
-        whole : filled pool₂ all ≡ pass 33 struck (old ++ new) P
+        whole : filled pool₂ all ≡ pass (limits .nogoods + 1) struck (old ++ new) P
         whole =
-            pass-parts 33 struck old new P (filled pool₁ seen) (filled pool₂ all) half
-            (b .0 ∙ let e : length pool₁ ≡ 33 = same₁ ∙ inv .long in ap (λ (v : ℕ). offeredAll v struck (filled pool₁ seen) new) e)
+            pass-parts (limits .nogoods + 1) struck old new P (filled pool₁ seen) (filled pool₂ all) half
+            (b .0 ∙ let e : length pool₁ ≡ limits .nogoods + 1 = same₁ ∙ inv .long in ap (λ (v : ℕ). offeredAll v struck (filled pool₁ seen) new) e)
 
         size : length (take (all .count) pool₂) ≡ all .count
         size = length-take-le (all .count) pool₂ (omega (arith, b .1))
 
         pub rounding-done : all .out ≡ false → (r : Built) → r ≡ builtOf limit (take (limit + 1) (take (all .count) pool₂)) → r ≡ builtOf limit (picks (limit + 1) struck [] (old ++ new))
         rounding-done h r e =
-            pass-done limit struck (old ++ new) 33 P (inv .are) (filled pool₂ all) whole (ap (λ (o : Bool). choose o (some (all .bound)) none) h) r e
+            pass-done limit struck (old ++ new) (limits .nogoods + 1) P (inv .are) (filled pool₂ all) whole (ap (λ (o : Bool). choose o (some (all .bound)) none) h) r e
 
         pub rounding-full : limit < all .count → (r : Built) → r ≡ builtOf limit (take (limit + 1) (take (all .count) pool₂)) → r ≡ builtOf limit (picks (limit + 1) struck [] (old ++ new))
-        rounding-full h r e = pass-full limit struck (old ++ new) 33 P (inv .are) (filled pool₂ all) whole (omega (arith, size)) r e
+        rounding-full h r e = pass-full limit struck (old ++ new) (limits .nogoods + 1) P (inv .are) (filled pool₂ all) whole (omega (arith, size)) r e
 
         pub rounding-more : all .out ≡ true → count < all .count
         rounding-more h =
@@ -138,12 +139,12 @@ module _ (struck old new : List ℕ) (limit : ℕ) where
               arith,
               size,
               length-take-le count pool (omega (arith, inv .long, inv .few)),
-              pass-more limit struck (old ++ new) 33 P (inv .are) (filled pool₂ all) whole (omega arith) (all .bound) (ap (λ (o : Bool). choose o (some (all .bound)) none) h),
+              pass-more limit struck (old ++ new) (limits .nogoods + 1) P (inv .are) (filled pool₂ all) whole (omega arith) (all .bound) (ap (λ (o : Bool). choose o (some (all .bound)) none) h),
             )
 
         pub rounding-on : all .count ≤ limit → Rounding pool₂ (all .count)
         rounding-on h = record {
           long = same₂ ∙ same₁ ∙ inv .long;
           few = h;
-          are = pass-on limit struck (old ++ new) 33 P (inv .are) (filled pool₂ all) whole (omega (arith, size));
+          are = pass-on limit struck (old ++ new) (limits .nogoods + 1) P (inv .are) (filled pool₂ all) whole (omega (arith, size));
         }

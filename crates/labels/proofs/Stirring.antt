@@ -15,6 +15,7 @@ use Rattle.labels.specs.Moved.{Hushed, Still, marked, stirs}
 use Rattle.labels.specs.Pool.{Offered, filled}
 use Rattle.labels.specs.declared.pool.Fill.{Fill}
 use Rattle.theory.proofs.Lists.{clash}
+use Rattle.theory.specs.Limits.{limits}
 use Rattle.theory.specs.Lists.{someOf}
 use Rattle.theory.specs.Stages.{Justification}
 use Rattle.theory.specs.Step.{joins, joinsFor}
@@ -47,7 +48,7 @@ module _ (moved supports : List ℕ) (count : ℕ) where
     stirs-none h = sym (inv ∙ ap (someOf (marked moved)) (drop-of-length-le (take count supports) {i = i} (omega (arith, length-take-le count supports fits))))
 
 -- each support has a label
-pub support-low : (supports : List ℕ) (count i : ℕ) → count ≤ length supports → Ranged (take count supports) → i < count → getD supports i 0 ≤ 128
+pub support-low : (supports : List ℕ) (count i : ℕ) → count ≤ length supports → Ranged (take count supports) → i < count → getD supports i 0 ≤ limits .numbers
 support-low supports count i fits r h = omega (arith, r .range i (omega (arith, length-take-le count supports fits)) .1, getD-take count supports i 0 h)
 
 -- one that is not stirred: its joins are refused already
@@ -58,5 +59,5 @@ hushed-offered L n r struck moved pool f fits h e b p q =
     (skip-offered struck (joins L zero (r .supports)) pool f fits (λ H m. h .refused r (here refl) e (sym p ∙ not-true b q) H m))
 
 -- with a mark at place 0 every justification is stirred
-pub still-marked : (L : ℕ → List ℕ) (J : List Justification) (n : ℕ) (old struck moved : List ℕ) → length moved ≡ 129 → (getD moved 0 0 ≡ 0 → ⊥) → Still L J n old struck moved
+pub still-marked : (L : ℕ → List ℕ) (J : List Justification) (n : ℕ) (old struck moved : List ℕ) → length moved ≡ limits .numbers + 1 → (getD moved 0 0 ≡ 0 → ⊥) → Still L J n old struck moved
 still-marked L J n old struck moved long h = record { long = long; quiet = λ r m e u. clash (ap (stirs moved) (sym (take-all (length (r .supports)) (r .supports) (omega arith))) ∙ sym (stirs-first moved (r .supports) (length (r .supports)) h)) u }

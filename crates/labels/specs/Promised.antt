@@ -7,6 +7,7 @@ use Rattle.labels.specs.Layout.{lying}
 use Rattle.labels.specs.declared.Built.{Built}
 use Rattle.rules.specs.Held.{meaning}
 use Rattle.rules.specs.declared.Entry.{Entry}
+use Rattle.theory.specs.Limits.{limits}
 use Rattle.theory.specs.Lists.{choose}
 use Rattle.theory.specs.Places.{padded}
 use Rattle.theory.specs.Sets.{within}
@@ -23,7 +24,7 @@ FirstWithin l E r = r ≡ firstWithin l E
 
 -- a list in its places, or full at one above the limit
 unfoldable pub builtOf : ℕ → List ℕ → Built
-builtOf limit l = record { count = length l; sets = padded 0 32 (take limit l) }
+builtOf limit l = record { count = length l; sets = padded 0 (limits .nogoods) (take limit l) }
 
 -- r is the list of n at the next stage, from the labels as they lie, the old list and the sets struck; members after the first above the limit are not looked for
 abbrev pub Build : List Entry → ℕ → List ℕ → List ℕ → List ℕ → List ℕ → ℕ → Built → Type 0

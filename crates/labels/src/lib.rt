@@ -3,14 +3,21 @@
 mod pool;
 
 use pool::Fill;
+use pool::POOL;
 use rules::Entry;
 use sets::Set;
+use theory::HELD;
+use theory::LABEL;
+use theory::NOGOODS;
+use theory::NUMBERS;
+use theory::SUPPORTS;
 ghost use mathlib.Core.Bool.{false};
 ghost use mathlib.Core.List.{[], _∷_, map};
 ghost use mathlib.Core.Path.{_≡_};
 ghost use Prim.Native.Nat.{_+_, _<_, _≤_};
 ghost use lib.ListN.{length, take};
 ghost use Rattle.rules.specs.Held.{meaning};
+ghost use Rattle.theory.specs.Limits.{limits};
 ghost use Rattle.theory.specs.Step.{joins, joinsFor};
 ghost use Rattle.labels.specs.Layout.{Few, Joinable, Layout, Ranged, between, entriesOf, entryAt, lying};
 ghost use Rattle.labels.specs.Moved.{Hushed, Still, stirs};
@@ -18,7 +25,13 @@ ghost use Rattle.labels.specs.Pool.{Barred, Gathered, Offered, Roomy, bo
 ghost use Rattle.labels.specs.Promised.{Build, FirstWithin, builtOf};
 
 // The set of all assumptions that a set can have.
-const ALL: Set = 4294967295;
+const ALL: Set = !0;
+
+// Places for the members of all labels.
+pub const MEMBERS: usize = NUMBERS * LABEL;
+
+// Places for all justifications, a byte for each field and support.
+pub const BYTES: usize = HELD * (SUPPORTS + 2);
 
 // The place of the first member that lies within e, or the count of members.
 pub fn first_within(list: &[Set], e: Set) -> usize
@@ -42,7 +55,7 @@ pub fn first_within(list: &[Set], e: Set) -> usize
 // Whether a set struck or of the list lies within e, and which.
 enum Bar {
     Free,
-    By(u32),
+    By(Set),
 }
 
 // The first set struck that lies within e, else the first of so many of the list.
@@ -65,12 +78,12 @@ fn barred(struck: &[Set], list: &[Set], count: usize, e: Set) -> Bar
 // why: each of these joins contains a set that is refused from now on and lies within why. So a later member whose joined set contains
 // the part within why of an earlier one has only joins that are refused, and is passed over: that part is spent.
 fn gather<'a>(
-    members: &'a [Set; 1536],
-    sizes: &'a [u8; 128],
+    members: &'a [Set; MEMBERS],
+    sizes: &'a [u8; NUMBERS],
     supports: &[u8],
     struck: &[Set],
     joined: Set,
-    pool: &mut [Set; 33],
+    pool: &mut [Set; POOL],
     fill: Fill,
 ) -> Fill
     requires { ⌜ Layout (now members) (now sizes) × Ranged (now supports) × Roomy (now pool) fill × (lateBy (boundOf fill) joined ≡ false) ⌝ }
@@ -86,9 +99,9 @@ fn gather<'a>(
     }
     let i = supports[0] as usize - 1;
     let size = sizes[i] as usize;
-    let from = 12 * i;
+    let from = LABEL * i;
     let left = &supports[1..];
-    let mut spent = [0u32; 12];
+    let mut spent: [Set; LABEL] = [0; LABEL];
     let mut n = 0;
     let mut why = 0;
     let mut now = fill;
@@ -114,10 +127,10 @@ fn gather<'a>(
 // Each set of the list offered to the pool.
 fn pour<'a>(
     list: &[Set],
-    members: &'a [Set; 1536],
-    sizes: &'a [u8; 128],
+    members: &'a [Set; MEMBERS],
+    sizes: &'a [u8; NUMBERS],
     struck: &[Set],
-    pool: &mut [Set; 33],
+    pool: &mut [Set; POOL],
     fill: Fill,
 ) -> Fill
     requires { ⌜ Layout (now members) (now sizes) × Roomy (now pool) fill ⌝ }
@@ -139,7 +152,7 @@ fn pour<'a>(
 
 // Whether the label of a support is marked, or place 0, as it is in the first step.
 pub fn stirred(entry: Entry, moved: &[u8]) -> bool
-    requires { ⌜ Few entry × Ranged (meaning entry .supports) × (length (now moved) ≡ 129) ⌝ }
+    requires { ⌜ Few entry × Ranged (meaning entry .supports) × (length (now moved) ≡ limits .numbers + 1) ⌝ }
     ensures { λ r. ⌜ r ≡ stirs (now (moved .entry)) (meaning entry .supports) ⌝ }
 {
     if moved[0] != 0 {
@@ -162,11 +175,11 @@ pub fn stirred(entry: Entry, moved: &[u8]) -> bool
 fn joined<'a>(
     entry: Entry,
     n: u8,
-    members: &'a [Set; 1536],
-    sizes: &'a [u8; 128],
+    members: &'a [Set; MEMBERS],
+    sizes: &'a [u8; NUMBERS],
     struck: &[Set],
     moved: &[u8],
-    pool: &mut [Set; 33],
+    pool: &mut [Set; POOL],
     fill: Fill,
 ) -> Fill
     requires { ⌜ Layout (now members) (now sizes) × Few entry × Ranged (meaning entry .supports) × Roomy (now pool) fill × Hushed (lying (now members) (now sizes)) (meaning entry ∷ []) n (now struck) (now moved) (filled (now pool) fill) ⌝ }
@@ -187,8 +200,8 @@ fn joined<'a>(
 }
 
 // The justification at a place, of those that lie in six bytes each.
-fn entry_at(rules: &[u8; 1536], j: usize) -> Entry
-    requires { ⌜ j < 256 ⌝ }
+fn entry_at(rules: &[u8; BYTES], j: usize) -> Entry
+    requires { ⌜ j < limits .held ⌝ }
     ensures { λ r. ⌜ r ≡ entryAt (now (rules .entry)) j ⌝ }
 {
     let at = 6 * j;
@@ -202,18 +215,18 @@ fn entry_at(rules: &[u8; 1536], j: usize) -> Entry
 
 // The joins of the justifications of n from place lo to place hi offered to the pool.
 fn pooled<'a>(
-    rules: &[u8; 1536],
+    rules: &[u8; BYTES],
     lo: usize,
     hi: usize,
     n: u8,
-    members: &'a [Set; 1536],
-    sizes: &'a [u8; 128],
+    members: &'a [Set; MEMBERS],
+    sizes: &'a [u8; NUMBERS],
     struck: &[Set],
     moved: &[u8],
-    pool: &mut [Set; 33],
+    pool: &mut [Set; POOL],
     fill: Fill,
 ) -> Fill
-    requires { ⌜ Layout (now members) (now sizes) × Joinable (between (entriesOf (now rules)) lo hi) × (hi ≤ 256) × Roomy (now pool) fill × Hushed (lying (now members) (now sizes)) (map meaning (between (entriesOf (now rules)) lo hi)) n (now struck) (now moved) (filled (now pool) fill) ⌝ }
+    requires { ⌜ Layout (now members) (now sizes) × Joinable (between (entriesOf (now rules)) lo hi) × (hi ≤ limits .held) × Roomy (now pool) fill × Hushed (lying (now members) (now sizes)) (map meaning (between (entriesOf (now rules)) lo hi)) n (now struck) (now moved) (filled (now pool) fill) ⌝ }
     ensures { λ r. ⌜ Offered (now (struck .entry)) (joinsFor (lying (now (members .entry)) (now (sizes .entry))) n (map meaning (between (entriesOf (now (rules .entry))) lo hi))) (now (pool .entry)) fill (now (pool .exit)) r × (length (now (pool .exit)) ≡ length (now (pool .entry))) ⌝ }
 {
     let mut now = fill;
@@ -229,15 +242,15 @@ fn pooled<'a>(
 // A list as it was built: its members, or full where the count is one above the limit.
 pub struct Built {
     pub count: usize,
-    pub sets: [u32; 32],
+    pub sets: [Set; NOGOODS],
 }
 
-// The first so many sets of the pool in 32 places.
+// The first so many sets of the pool in the places of a list.
 fn drawn(pool: &[Set], limit: usize) -> Built
-    requires { ⌜ limit ≤ 32 ⌝ }
+    requires { ⌜ limit ≤ limits .nogoods ⌝ }
     ensures { λ r. ⌜ r ≡ builtOf limit (take (limit + 1) (now (pool .entry))) ⌝ }
 {
-    let mut sets = [0u32; 32];
+    let mut sets: [Set; NOGOODS] = [0; NOGOODS];
     let mut i: usize = 0;
     loop {
         if pool.len() <= i {
@@ -254,21 +267,21 @@ fn drawn(pool: &[Set], limit: usize) -> Built
 // The list of n at the next stage, from the labels as they lie, the old list of n and the sets struck; a justification that is not stirred adds nothing.
 // Where a set went out for want of room, what the pool holds is the beginning of the list, and another walk over the candidates begins with it and finds more.
 pub fn build<'a>(
-    rules: &[u8; 1536],
+    rules: &[u8; BYTES],
     lo: usize,
     hi: usize,
     n: u8,
-    members: &'a [Set; 1536],
-    sizes: &'a [u8; 128],
+    members: &'a [Set; MEMBERS],
+    sizes: &'a [u8; NUMBERS],
     old: &'a [Set],
     struck: &[Set],
     moved: &[u8],
     limit: usize,
 ) -> Built
-    requires { ⌜ Layout (now members) (now sizes) × Joinable (between (entriesOf (now rules)) lo hi) × (hi ≤ 256) × (limit ≤ 32) × Still (lying (now members) (now sizes)) (map meaning (between (entriesOf (now rules)) lo hi)) n (now old) (now struck) (now moved) ⌝ }
+    requires { ⌜ Layout (now members) (now sizes) × Joinable (between (entriesOf (now rules)) lo hi) × (hi ≤ limits .held) × (limit ≤ limits .nogoods) × Still (lying (now members) (now sizes)) (map meaning (between (entriesOf (now rules)) lo hi)) n (now old) (now struck) (now moved) ⌝ }
     ensures { λ r. ⌜ Build (between (entriesOf (now (rules .entry))) lo hi) n (now (members .entry)) (now (sizes .entry)) (now (old .entry)) (now (struck .entry)) limit r ⌝ }
 {
-    let mut pool = [0u32; 33];
+    let mut pool: [Set; POOL] = [0; POOL];
     let mut count = 0;
     loop {
         let begun = Fill {

@@ -1,6 +1,7 @@
 // The pool: the smallest sets seen so far, in listing order, in its first so many places. Where there is no room the last goes out:
 // it is the bound, and what does not stand before it is refused from then on.
 use sets::Set;
+use theory::NOGOODS;
 ghost use mathlib.Core.Bool.{true};
 ghost use mathlib.Core.List.{[], _++_, _∷_};
 ghost use mathlib.Core.Path.{_≡_};
@@ -9,6 +10,9 @@ ghost use lib.ListN.{length, take};
 ghost use Rattle.theory.specs.Lists.{choose, sortedBy};
 ghost use Rattle.theory.specs.Sets.{before, within};
 ghost use Rattle.labels.specs.Pool.{Entered, Roomy, boundOf, lateBy, placed, purged};
+
+// Places for as many sets as a list may have, and one more.
+pub(crate) const POOL: usize = NOGOODS + 1;
 
 // How many sets a pool holds, whether one went out, and which did last; why what was just offered is refused from now on.
 pub(crate) struct Fill {
@@ -103,7 +107,7 @@ pub(crate) fn late(fill: Fill, e: Set) -> bool
 }
 
 // e taken in, and those that contain it put out; where there is no room the last goes out.
-pub(crate) fn enter(pool: &mut [Set; 33], fill: Fill, e: Set) -> Fill
+pub(crate) fn enter(pool: &mut [Set; POOL], fill: Fill, e: Set) -> Fill
     requires { ⌜ Roomy (now pool) fill ⌝ }
     ensures { λ r. ⌜ Entered (now (pool .entry)) fill e (now (pool .exit)) r × (length (now (pool .exit)) ≡ length (now (pool .entry))) ⌝ }
 {

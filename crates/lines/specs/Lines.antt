@@ -30,9 +30,9 @@ caseText s = heading (s .held .assumptions) (s .held .claims) (s .held .count) (
 unfoldable pub refusalText : Reply → ℕ → List ℕ
 refusalText r k = refusal (numberOf r) k
 
--- no line of a store of right shape is longer: `0 nogood`, 32 sets of 88 bytes after a space, a newline
+-- no line of a store of right shape is longer: `0 nogood`, all nogoods of 88 bytes after a space, a newline
 abbrev pub longest : ℕ
-longest = 8 + 32 * 89 + 1
+longest = 8 + limits .nogoods * 89 + 1
 
 -- ---- the calls
 

@@ -3,19 +3,22 @@ use lent::Listed;
 use lent::Written;
 use replies::Reply;
 use store::Store;
+use theory::LABEL;
+use theory::NOGOODS;
 ghost use mathlib.Core.Bool.{true};
 ghost use mathlib.Core.Path.{_≡_};
 ghost use Prim.Native.Nat.{_≤_};
+ghost use Rattle.theory.specs.Limits.{limits};
 ghost use Rattle.store.specs.Reading.{contradictedIn};
 ghost use Rattle.store.specs.Shape.{rightShape};
 ghost use Rattle.lines.specs.Lines.{CaseLined, Lined, RefusalLined};
 
 // No line of a store of right shape is longer, and no line of a refusal.
-pub const LONGEST: usize = 2857;
+pub const LONGEST: usize = 8 + NOGOODS * 89 + 1;
 
 // Whether the line of n says `contradicted`; the justifications are followed only where the label is empty.
 fn contradicted(store: Store, n: u32) -> bool
-    requires { ⌜ (rightShape store ≡ true) × (n ≤ 128) ⌝ }
+    requires { ⌜ (rightShape store ≡ true) × (n ≤ limits .numbers) ⌝ }
     ensures { λ r. ⌜ r ≡ contradictedIn store n ⌝ }
 {
     if n == 0 {

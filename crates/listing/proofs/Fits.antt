@@ -27,6 +27,7 @@ use Rattle.replies.specs.declared.Reply.the-variants.{Long}
 use Rattle.store.specs.Shape.{rightShape}
 use Rattle.store.specs.declared.Store.{Store}
 use Rattle.theory.proofs.Lists.{either}
+use Rattle.theory.specs.Limits.{limits}
 
 -- ---- no fault names a record above 256
 
@@ -60,17 +61,17 @@ module _ (b : ℕ) where
   case-low h (whole l) p = p
   case-low h (refused f k) p = p
 
-after-low : (t : Taken Header) → Each Limited t → Low 256 (caseAfter t)
+after-low : (t : Taken Header) → Each Limited t → Low (limits .held) (caseAfter t)
 unfolding Low Each
-after-low (got h l) p = case-low 256 h (recordsFrom (h .assumptions + h .claims) 0 (h .records) l) (records-low 256 (h .assumptions + h .claims) 0 (h .records) (omega (arith, p .records)) l)
+after-low (got h l) p = case-low (limits .held) h (recordsFrom (h .assumptions + h .claims) 0 (h .records) l) (records-low (limits .held) (h .assumptions + h .claims) 0 (h .records) (omega (arith, p .records)) l)
 after-low (bad f) p = omega arith
 
-loaded-low : (o : Reading Case) → Checked o → Low 256 o → loadedOf o .«record» ≤ 256
+loaded-low : (o : Reading Case) → Checked o → Low (limits .held) o → loadedOf o .«record» ≤ limits .held
 unfolding Low Checked
 loaded-low (whole s) p q = p .limited .records
 loaded-low (refused f k) p q = q
 
-load-low : (l : List ℕ) → loadOf l .«record» ≤ 256
+load-low : (l : List ℕ) → loadOf l .«record» ≤ limits .held
 unfolding loadOf caseOf
 load-low l = loaded-low (caseOf l) (case-checked l) (after-low (headerFrom l) (header-limited l))
 
@@ -101,6 +102,6 @@ fits t out h = rw (le-ltb (length out) (length t) h)
 pub printed-fits : (l out : List ℕ) → longestListing ≤ length out → fitted (listingOf l) out .answer ≡ Length (length (listingOf l))
 printed-fits l out h = fits (listingOf l) out (omega (arith, printed-length l))
 
-pub listing-fits : (s : Store) (out : List ℕ) → rightShape s ≡ true → length (s .lists .nogoods) ≤ 32 → longestListing ≤ length out → listedOf s out .answer ≡ Length (length (listingText s))
+pub listing-fits : (s : Store) (out : List ℕ) → rightShape s ≡ true → length (s .lists .nogoods) ≤ limits .nogoods → longestListing ≤ length out → listedOf s out .answer ≡ Length (length (listingText s))
 unfolding listedOf
 listing-fits s out right room h = rw right (fits (listingText s) out (omega (arith, listing-length s right room)))

@@ -1,11 +1,15 @@
 // The plain path: question and context without labels, from what follows from the set, stage by stage.
 use replies::Reply;
 use sets::Set;
+use sets::WIDTH;
 use store::Outcome;
 use store::Store;
+use theory::MARKS;
+use theory::NUMBERS;
 ghost use mathlib.Core.Path.{_≡_};
 ghost use Prim.Native.Nat.{_≤_};
 ghost use lib.ListN.{length};
+ghost use Rattle.theory.specs.Limits.{limits};
 ghost use Rattle.theory.specs.Lists.{choose};
 ghost use Rattle.theory.specs.Sets.{among};
 ghost use Rattle.following.specs.Marks.{sown};
@@ -27,12 +31,12 @@ pub struct Told {
 // The reply to a call that reads, and for each number the first stage at which it follows.
 pub struct Followed {
     pub reply: Reply,
-    pub marks: [u8; 129],
+    pub marks: [u8; MARKS],
 }
 
 // The mark of assumption k at stage 0.
-fn first(e: Set, k: u32) -> u8
-    requires { ⌜ (1 ≤ k) × (k ≤ 32) ⌝ }
+fn first(e: Set, k: u8) -> u8
+    requires { ⌜ (1 ≤ k) × (k ≤ limits .assumptions) ⌝ }
     ensures { λ r. ⌜ r ≡ choose (among e k) 0 255 ⌝ }
 {
     if sets::has(e, k) {
@@ -42,14 +46,14 @@ fn first(e: Set, k: u32) -> u8
 }
 
 // The marks of stage 0: those of the assumptions in e.
-pub fn sown(e: Set) -> [u8; 129]
+pub fn sown(e: Set) -> [u8; MARKS]
     ensures { λ r. ⌜ r ≡ sown e ⌝ }
 {
-    let mut marks = [255u8; 129];
+    let mut marks = [255u8; MARKS];
     let mut k = 1u8;
-    while k <= 32 {
+    while k <= WIDTH {
         let at = k as usize;
-        marks[at] = first(e, k as u32);
+        marks[at] = first(e, k);
         k += 1;
     }
     marks
@@ -61,7 +65,7 @@ pub fn follow(store: Store, n: u32, e: Set) -> Followed
 {
     let reply = store.refusal(n, e);
     if replies::number(reply) != 0 {
-        let marks = [255u8; 129];
+        let marks = [255u8; MARKS];
         return Followed { reply, marks };
     }
     let start = sown(e);
@@ -70,13 +74,13 @@ pub fn follow(store: Store, n: u32, e: Set) -> Followed
 }
 
 // What the marks say of n; no number above 128 has one.
-fn read(marks: [u8; 129], n: usize) -> Plain
+fn read(marks: [u8; MARKS], n: usize) -> Plain
     ensures { λ r. ⌜ r ≡ readFrom marks n ⌝ }
 {
     if marks[0] < 255 {
         return Plain::Inconsistent;
     }
-    if 128 < n {
+    if NUMBERS < n {
         return Plain::Unsupported;
     }
     if marks[n] < 255 {
@@ -86,7 +90,7 @@ fn read(marks: [u8; 129], n: usize) -> Plain
 }
 
 // The word for n; 4 where n is above the highest number.
-pub fn word(marks: [u8; 129], top: u8, n: u32) -> Plain
+pub fn word(marks: [u8; MARKS], top: u8, n: u32) -> Plain
     ensures { λ r. ⌜ r ≡ wordIn marks top n ⌝ }
 {
     let highest = top as u32;
@@ -114,7 +118,7 @@ pub fn question(store: Store, n: u32, e: Set) -> Told
 }
 
 // The byte of n.
-fn byte(marks: [u8; 129], n: usize) -> u8
+fn byte(marks: [u8; MARKS], n: usize) -> u8
     ensures { λ r. ⌜ r ≡ byteOf (readFrom marks n) ⌝ }
 {
     let told = read(marks, n);
@@ -127,7 +131,7 @@ fn byte(marks: [u8; 129], n: usize) -> u8
 }
 
 // The bytes of the numbers up to top; 15 where there are too few.
-pub fn fill(marks: [u8; 129], top: u8, out: &mut [u8]) -> Reply
+pub fn fill(marks: [u8; MARKS], top: u8, out: &mut [u8]) -> Reply
     ensures { λ r. ⌜ (r ≡ fillReply top (length (now (out .entry)))) × (now (out .exit) ≡ fillBytes marks top (now (out .entry))) ⌝ }
 {
     let end = top as usize + 1;

@@ -7,6 +7,7 @@ use lib.ListN.{drop, length, take}
 use Rattle.rules.specs.Items.{sameJustification}
 use Rattle.rules.specs.declared.Entry.{Entry}
 use Rattle.rules.specs.declared.Held.{Held}
+use Rattle.theory.specs.Limits.{limits}
 use Rattle.theory.specs.Lists.{allOf, choose, someOf, those}
 use Rattle.theory.specs.Places.{padded}
 use Rattle.theory.specs.Stages.{Justification, ahead}
@@ -17,7 +18,7 @@ vacant = record { consequent = 0; count = 0; supports = 0 ∷ 0 ∷ 0 ∷ 0 ∷ 
 
 -- how a justification stands in its place
 abbrev pub entryOf : Justification → Entry
-entryOf j = record { consequent = j .consequent; count = length (j .supports); supports = padded 0 4 (j .supports) }
+entryOf j = record { consequent = j .consequent; count = length (j .supports); supports = padded 0 (limits .supports) (j .supports) }
 
 -- what a place says
 abbrev pub meaning : Entry → Justification
@@ -27,9 +28,13 @@ meaning e = record { consequent = e .consequent; supports = take (e .count) (e .
 abbrev pub saidBy : Held → List Justification
 saidBy h = map meaning (take (h .count) (h .entries))
 
+-- the highest number, A + M
+abbrev pub top : Held → ℕ
+top h = h .assumptions + h .claims
+
 -- J as it is held, with A assumptions and M claims
 unfoldable pub heldOf : ℕ → ℕ → List Justification → Held
-heldOf A M J = record { assumptions = A; claims = M; count = length J; entries = padded vacant 256 (map entryOf J) }
+heldOf A M J = record { assumptions = A; claims = M; count = length J; entries = padded vacant (limits .held) (map entryOf J) }
 
 -- r in its place among those in order
 unfoldable pub put : Justification → List Justification → List Justification
@@ -51,14 +56,14 @@ climbs N p (x ∷ l) = ltb p x && (leb x N && climbs N x l)
 unfoldable pub fitting : ℕ → Entry → Bool
 fitting N e =
     leb (e .consequent) N
-    && (leb (e .count) 4
+    && (leb (e .count) (limits .supports)
     && (climbs N 0 (take (e .count) (e .supports))
     && (not (someOf (eqb (e .consequent)) (take (e .count) (e .supports)))
-    && (eqb (length (e .supports)) 4 && allOf (eqb 0) (drop (e .count) (e .supports))))))
+    && (eqb (length (e .supports)) (limits .supports) && allOf (eqb 0) (drop (e .count) (e .supports))))))
 
 -- every field zero
 unfoldable pub unusedEntry : Entry → Bool
-unusedEntry e = eqb (e .consequent) 0 && (eqb (e .count) 0 && (eqb (length (e .supports)) 4 && allOf (eqb 0) (e .supports)))
+unusedEntry e = eqb (e .consequent) 0 && (eqb (e .count) 0 && (eqb (length (e .supports)) (limits .supports) && allOf (eqb 0) (e .supports)))
 
 -- each stands strictly before the next
 unfoldable pub ordered : List Justification → Bool
@@ -66,10 +71,10 @@ ordered [] = true
 ordered (r ∷ []) = true
 ordered (r ∷ t ∷ l) = ahead r t && ordered (t ∷ l)
 
--- at most 256 held, in 256 places, each in range, strictly in order, unused places zero
+-- at most the limit held, in as many places, each in range, strictly in order, unused places zero
 unfoldable pub heldRight : Held → Bool
 heldRight h =
-    leb (h .count) 256
-    && (eqb (length (h .entries)) 256
-    && (allOf (fitting (h .assumptions + h .claims)) (take (h .count) (h .entries))
+    leb (h .count) (limits .held)
+    && (eqb (length (h .entries)) (limits .held)
+    && (allOf (fitting (top h)) (take (h .count) (h .entries))
     && (ordered (saidBy h) && allOf unusedEntry (drop (h .count) (h .entries)))))

@@ -7,13 +7,14 @@ use lib.ListN.{length}
 use Rattle.replies.specs.declared.Reply.{Reply}
 use Rattle.replies.specs.declared.Reply.the-variants.{Done, Falsity, Itself, Number, Supports}
 use Rattle.theory.specs.Judge.{sameSets}
+use Rattle.theory.specs.Limits.{limits}
 use Rattle.theory.specs.Lists.{choose, numbersBelow, someOf, those}
 use Rattle.theory.specs.Stages.{Justification}
 
--- the faults of an item, N being A + M: more than 4 supports; a number above N; falsity as a support; its own consequent as a support; else done
+-- the faults of an item, N being A + M: more supports than the limit; a number above N; falsity as a support; its own consequent as a support; else done
 unfoldable pub faultOf : ℕ → ℕ → List ℕ → Reply
 faultOf N c l =
-    choose (ltb 4 (length l)) Supports
+    choose (ltb (limits .supports) (length l)) Supports
     (choose (ltb N c || someOf (ltb N) l) Number
     (choose (someOf (eqb 0) l) Falsity
     (choose (someOf (eqb c) l) Itself

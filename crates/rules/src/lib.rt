@@ -2,26 +2,32 @@
 mod lists;
 
 use replies::Reply;
+use theory::HELD;
+use theory::SUPPORTS;
 ghost use mathlib.Core.Bool.{_&&_, true};
 ghost use mathlib.Core.List.{map};
 ghost use mathlib.Core.Path.{_≡_};
 ghost use Prim.Native.Nat.{_+_, _-_, _<_, _≤_};
 ghost use lib.Dec.{eqb};
 ghost use lib.ListN.{drop, length, take};
+ghost use Rattle.theory.specs.Limits.{limits};
 ghost use Rattle.theory.specs.Lists.{allOf, someOf};
 ghost use Rattle.theory.specs.Stages.{ahead};
 ghost use Rattle.replies.specs.declared.Reply.the-variants.{Done};
-ghost use Rattle.rules.specs.Held.{fitting, heldRight, meaning, ordered, saidBy, unusedEntry};
+ghost use Rattle.rules.specs.Held.{fitting, heldRight, meaning, ordered, saidBy, top, unusedEntry};
 ghost use Rattle.rules.specs.Items.{faultOf, sameJustification};
 ghost use Rattle.rules.specs.Placing.{Bytes, insertAt, keyOf, partly, placeOf, removeAt, withEntries};
 ghost use Rattle.rules.specs.Promised.{Canonical, Faulted, HoldingNothing, Inserted, IsHeld, IsRight, Removed};
+
+// The most supports, as a place counts them.
+const MOST_SUPPORTS: u8 = SUPPORTS as u8;
 
 // A justification in its place: its supports rising, unused places zero.
 #[repr(C)]
 pub struct Entry {
     pub consequent: u8,
     pub count: u8,
-    pub supports: [u8; 4],
+    pub supports: [u8; SUPPORTS],
 }
 
 // The counts of assumptions and claims, and the justifications held, in their order; unused places zero.
@@ -30,14 +36,14 @@ pub struct Held {
     pub assumptions: u8,
     pub claims: u8,
     pub count: usize,
-    pub entries: [Entry; 256],
+    pub entries: [Entry; HELD],
 }
 
 // The first fault of a justification as it is handed over, top being the highest number; else done.
 pub fn fault(top: u8, consequent: u32, supports: &[u32]) -> Reply
     ensures { λ r. ⌜ Faulted top consequent (now (supports .entry)) r ⌝ }
 {
-    if 4 < supports.len() {
+    if SUPPORTS < supports.len() {
         return Reply::Supports;
     }
     let highest = top as u32;
@@ -58,13 +64,13 @@ pub fn fault(top: u8, consequent: u32, supports: &[u32]) -> Reply
 
 // A justification without fault in its place, its supports as a set.
 pub fn canonical(top: u8, consequent: u32, supports: &[u32]) -> Entry
-    requires { ⌜ (top ≤ 128) × (faultOf top consequent (now supports) ≡ Done) ⌝ }
+    requires { ⌜ (top ≤ limits .numbers) × (faultOf top consequent (now supports) ≡ Done) ⌝ }
     ensures { λ r. ⌜ Canonical top consequent (now (supports .entry)) r ⌝ }
 {
     let mut entry = Entry {
         consequent: consequent as u8,
         count: 0,
-        supports: [0u8; 4],
+        supports: [0u8; SUPPORTS],
     };
     let mut n = 0;
     while n <= top {
@@ -77,7 +83,7 @@ pub fn canonical(top: u8, consequent: u32, supports: &[u32]) -> Entry
 impl Entry {
     // The number n taken in where the list has it; below n that is done.
     fn taking(mut self, l: &[u32], n: u8) -> Entry
-        requires { ⌜ (self ≡ partly (self .consequent) (now l) n) × (length (now l) ≤ 4) × (n ≤ 128) ⌝ }
+        requires { ⌜ (self ≡ partly (self .consequent) (now l) n) × (length (now l) ≤ limits .supports) × (n ≤ limits .numbers) ⌝ }
         ensures { λ r. ⌜ r ≡ partly (self .consequent) (now (l .entry)) (n + 1) ⌝ }
     {
         if slices::has(l, n as u32) {
@@ -98,7 +104,7 @@ impl Entry {
             return false;
         }
         let count = self.count;
-        if 4 < count {
+        if MOST_SUPPORTS < count {
             return false;
         }
         let n = count as usize;
@@ -130,7 +136,7 @@ impl Entry {
 
     // Whether self stands before t.
     fn comes(self, t: Entry) -> bool
-        requires { ⌜ (self .count ≤ 4) × (t .count ≤ 4) ⌝ }
+        requires { ⌜ (self .count ≤ limits .supports) × (t .count ≤ limits .supports) ⌝ }
         ensures { λ r. ⌜ r ≡ ahead (meaning self) (meaning t) ⌝ }
     {
         if self.consequent < t.consequent {
@@ -154,7 +160,7 @@ impl Entry {
 
     // Whether the two are one justification.
     fn same(self, t: Entry) -> bool
-        requires { ⌜ (self .count ≤ 4) × (t .count ≤ 4) ⌝ }
+        requires { ⌜ (self .count ≤ limits .supports) × (t .count ≤ limits .supports) ⌝ }
         ensures { λ r. ⌜ r ≡ sameJustification (meaning self) (meaning t) ⌝ }
     {
         if self.consequent != t.consequent {
@@ -179,9 +185,9 @@ impl Held {
         let vacant = Entry {
             consequent: 0,
             count: 0,
-            supports: [0u8; 4],
+            supports: [0u8; SUPPORTS],
         };
-        let entries = [vacant; 256];
+        let entries = [vacant; HELD];
         Held {
             assumptions,
             claims,
@@ -194,7 +200,7 @@ impl Held {
     pub fn right(self) -> bool
         ensures { λ r. ⌜ IsRight self r ⌝ }
     {
-        if 256 < self.count {
+        if HELD < self.count {
             return false;
         }
         let top = self.assumptions as u16 + self.claims as u16;
@@ -206,7 +212,7 @@ impl Held {
 
     // Whether the justification is held.
     pub fn holds(self, entry: Entry) -> bool
-        requires { ⌜ (heldRight self ≡ true) × (entry .count ≤ 4) ⌝ }
+        requires { ⌜ (heldRight self ≡ true) × (entry .count ≤ limits .supports) ⌝ }
         ensures { λ r. ⌜ IsHeld self entry r ⌝ }
     {
         let count = self.count;
@@ -223,7 +229,7 @@ impl Held {
 
     // The justification put in its place among those held.
     pub fn insert(self, entry: Entry) -> Held
-        requires { ⌜ (heldRight self ≡ true) × (self .count < 256) × (fitting (self .assumptions + self .claims) entry ≡ true) ⌝ }
+        requires { ⌜ (heldRight self ≡ true) × (self .count < limits .held) × (fitting (top self) entry ≡ true) ⌝ }
         ensures { λ r. ⌜ Inserted self entry r ⌝ }
     {
         let at = self.place(entry);
@@ -232,7 +238,7 @@ impl Held {
 
     // What is held without the justification, which is held.
     pub fn remove(self, entry: Entry) -> Held
-        requires { ⌜ (heldRight self ≡ true) × (entry .count ≤ 4) × (someOf (sameJustification (meaning entry)) (saidBy self) ≡ true) ⌝ }
+        requires { ⌜ (heldRight self ≡ true) × (entry .count ≤ limits .supports) × (someOf (sameJustification (meaning entry)) (saidBy self) ≡ true) ⌝ }
         ensures { λ r. ⌜ Removed self entry r ⌝ }
     {
         let at = self.place(entry);
@@ -241,7 +247,7 @@ impl Held {
 
     // Whether the places in use are in range, and each stands before the next.
     fn inplace(self, top: u16) -> bool
-        requires { ⌜ self .count ≤ 256 ⌝ }
+        requires { ⌜ self .count ≤ limits .held ⌝ }
         ensures { λ r. ⌜ r ≡ allOf (fitting top) (take (self .count) (self .entries)) && ordered (saidBy self) ⌝ }
     {
         let count = self.count;
@@ -271,12 +277,12 @@ impl Held {
 
     // Whether the other places are zero: one pass without an exit.
     fn spare(self) -> bool
-        requires { ⌜ self .count ≤ 256 ⌝ }
+        requires { ⌜ self .count ≤ limits .held ⌝ }
         ensures { λ r. ⌜ r ≡ allOf unusedEntry (drop (self .count) (self .entries)) ⌝ }
     {
         let mut seen = 0;
         let mut j = self.count;
-        while j < 256 {
+        while j < HELD {
             let entry = self.entries[j];
             seen |= entry.bits();
             j += 1;
@@ -286,7 +292,7 @@ impl Held {
 
     // How many held justifications stand before it.
     fn place(self, entry: Entry) -> usize
-        requires { ⌜ (heldRight self ≡ true) × (entry .count ≤ 4) ⌝ }
+        requires { ⌜ (heldRight self ≡ true) × (entry .count ≤ limits .supports) ⌝ }
         ensures { λ r. ⌜ r ≡ placeOf (meaning entry) (saidBy self) ⌝ }
     {
         let count = self.count;
@@ -304,7 +310,7 @@ impl Held {
 
     // The justification put in at a place; those from there on move up by one.
     fn moved(mut self, at: usize, entry: Entry) -> Held
-        requires { ⌜ (at ≤ self .count) × (self .count < 256) ⌝ }
+        requires { ⌜ (at ≤ self .count) × (self .count < limits .held) ⌝ }
         ensures { λ r. ⌜ r ≡ withEntries self (self .count + 1) (insertAt (self .entries) at (self .count) entry) ⌝ }
     {
         let count = self.count;
@@ -334,7 +340,7 @@ impl Held {
         let vacant = Entry {
             consequent: 0,
             count: 0,
-            supports: [0u8; 4],
+            supports: [0u8; SUPPORTS],
         };
         self.entries[last] = vacant;
         self.count = last;

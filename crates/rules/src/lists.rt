@@ -5,6 +5,7 @@ ghost use mathlib.Core.Path.{_≡_};
 ghost use Prim.Native.Nat.{_<_, _≤_};
 ghost use lib.Dec.{eqb};
 ghost use lib.ListN.{drop, length};
+ghost use Rattle.theory.specs.Limits.{limits};
 ghost use Rattle.theory.specs.Lists.{allOf, someOf};
 ghost use Rattle.theory.specs.Stages.{lesser};
 ghost use Rattle.rules.specs.Held.{climbs};
@@ -32,7 +33,7 @@ pub(crate) fn rises(l: &[u8], top: u16, n: u8) -> bool
 
 // Whether, of four numbers, those from place n on are zero: as one number, the first the lowest, they are less than 256^n.
 pub(crate) fn ends(a: u8, b: u8, c: u8, d: u8, n: u8) -> bool
-    requires { ⌜ n ≤ 4 ⌝ }
+    requires { ⌜ n ≤ limits .supports ⌝ }
     ensures { λ r. ⌜ r ≡ allOf (eqb 0) (drop n (a ∷ b ∷ c ∷ d ∷ [])) ⌝ }
 {
     let word = a as u64 + 256 * (b as u64) + 65536 * (c as u64) + 16777216 * (d as u64);

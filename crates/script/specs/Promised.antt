@@ -9,6 +9,7 @@ use Rattle.script.specs.Script.{fieldAt, fieldsOf, hexByte, lineEnd, num
 use Rattle.script.specs.declared.Numeral.{Numeral}
 use Rattle.script.specs.declared.Read.{Read}
 use Rattle.script.specs.declared.Span.{Span}
+use Rattle.theory.specs.Limits.{limits}
 use Rattle.theory.specs.Lists.{alike, someOf}
 
 -- the end of the line from a place on
@@ -43,9 +44,9 @@ IsSame field word r = r ≡ alike eqb field word
 abbrev pub HasZero : List ℕ → Bool → Type 0
 HasZero values r = r ≡ someOf (eqb 0) values
 
--- whether a number is above 32
+-- whether a number is above the most assumptions
 abbrev pub HasAbove : List ℕ → Bool → Type 0
-HasAbove values r = r ≡ someOf (ltb 32) values
+HasAbove values r = r ≡ someOf (ltb (limits .assumptions)) values
 
 -- the set of the assumptions among the numbers
 abbrev pub IsSetOf : List ℕ → ℕ → Type 0

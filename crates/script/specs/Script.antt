@@ -10,6 +10,7 @@ use Rattle.script.specs.declared.Numeral.the-variants.{Bad as BadNumeral
 use Rattle.script.specs.declared.Read.{Read}
 use Rattle.script.specs.declared.Read.the-variants.{Bad, Count}
 use Rattle.script.specs.declared.Span.{Span}
+use Rattle.theory.specs.Limits.{limits}
 use Rattle.theory.specs.Lists.{allOf, choose, those}
 use Rattle.theory.specs.Sets.{alone, union}
 use Rattle.theory.specs.Step.{more}
@@ -122,7 +123,7 @@ readInto reading fs out =
 
 -- E with assumption k; a number that no store has as an assumption is left out
 abbrev pub taken : ℕ → ℕ → ℕ
-taken E k = choose (between 1 32 k) (union E (alone k)) E
+taken E k = choose (between 1 (limits .assumptions) k) (union E (alone k)) E
 
 -- the numbers of the list taken into E one after the other
 unfoldable pub takenAll : ℕ → List ℕ → ℕ

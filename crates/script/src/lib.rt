@@ -1,4 +1,6 @@
 // Scripts of commands: the lines of a script, the fields of a line, the numbers that fields are, and the set that numbers make.
+use sets::Set;
+use theory::ASSUMPTIONS;
 ghost use mathlib.Core.Path.{_≡_};
 ghost use lib.Dec.{eqb};
 ghost use Rattle.script.specs.Promised.{AreBytes, AreNumbers, HasAbove, HasZero, IsField, IsHex, IsLineEnd, IsNumber, IsSame, IsSetOf};
@@ -205,13 +207,13 @@ pub fn has_zero(values: &[u32]) -> bool
     false
 }
 
-// Whether a number is above 32, and so above every A.
+// Whether a number is above the most assumptions, and so above every A.
 pub fn has_above(values: &[u32]) -> bool
     ensures { λ r. ⌜ HasAbove (now (values .entry)) r ⌝ }
 {
     let mut i = 0;
     while i < values.len() {
-        if 32 < values[i] {
+        if ASSUMPTIONS < values[i] {
             return true;
         }
         i += 1;
@@ -220,20 +222,20 @@ pub fn has_above(values: &[u32]) -> bool
 }
 
 // The set with assumption k; a number that no store has as an assumption is left out.
-fn with(set: u32, k: u32) -> u32
+fn with(set: Set, k: u32) -> Set
     ensures { λ r. ⌜ r ≡ taken set k ⌝ }
 {
     if k < 1 {
         return set;
     }
-    if 32 < k {
+    if ASSUMPTIONS < k {
         return set;
     }
-    sets::union(set, sets::only(k))
+    sets::union(set, sets::only(k as u8))
 }
 
 // The set of the assumptions among the numbers.
-pub fn set_of(values: &[u32]) -> u32
+pub fn set_of(values: &[u32]) -> Set
     ensures { λ r. ⌜ IsSetOf (now (values .entry)) r ⌝ }
 {
     let mut set = 0;

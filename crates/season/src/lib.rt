@@ -3,10 +3,13 @@ use handed::Handed;
 use replies::Reply;
 use store::Outcome;
 use store::Store;
+use theory::HELD;
+use theory::SUPPORTS;
 ghost use mathlib.Core.Bool.{true};
 ghost use mathlib.Core.Path.{_≡_};
 ghost use Prim.Native.Nat.{_≤_};
 ghost use lib.ListN.{take};
+ghost use Rattle.theory.specs.Limits.{limits};
 ghost use Rattle.store.specs.Calls.{answer};
 ghost use Rattle.store.specs.Shape.{rightShape};
 ghost use Rattle.season.specs.Season.{addAllOf, begunOf, bytesAfter, giveOf, numberedBy};
@@ -28,7 +31,7 @@ fn give(store: Store, item: Handed) -> Outcome
     requires { ⌜ rightShape store ≡ true ⌝ }
     ensures { λ r. ⌜ r ≡ giveOf store item ⌝ }
 {
-    if 4 < item.count {
+    if SUPPORTS < item.count {
         return Outcome {
             reply: Reply::Supports,
             store,
@@ -102,19 +105,19 @@ pub fn add_all(store: Store, list: &[Handed], out: &mut [u8]) -> Outcome
 }
 
 // The first n of a list by value.
-fn add_first(store: Store, list: [Handed; 256], n: usize, out: &mut [u8]) -> Outcome
-    requires { ⌜ n ≤ 256 ⌝ }
+fn add_first(store: Store, list: [Handed; HELD], n: usize, out: &mut [u8]) -> Outcome
+    requires { ⌜ n ≤ limits .held ⌝ }
     ensures { λ r. ⌜ (r ≡ addAllOf store (take n list) (now (out .entry))) × (now (out .exit) ≡ bytesAfter store (take n list) (now (out .entry))) ⌝ }
 {
     add_all(store, &list[..n], out)
 }
 
 // .. and all where n is more: a caller of this one takes no slice of items.
-pub fn add_some(store: Store, list: [Handed; 256], n: usize, out: &mut [u8]) -> Outcome
+pub fn add_some(store: Store, list: [Handed; HELD], n: usize, out: &mut [u8]) -> Outcome
     ensures { λ r. ⌜ (r ≡ addAllOf store (take n list) (now (out .entry))) × (now (out .exit) ≡ bytesAfter store (take n list) (now (out .entry))) ⌝ }
 {
-    if 256 < n {
-        return add_first(store, list, 256, out);
+    if HELD < n {
+        return add_first(store, list, HELD, out);
     }
     add_first(store, list, n, out)
 }

@@ -1,12 +1,14 @@
 -- What the machine's operations compute is what the definitions say. Assumes nothing.
-use mathlib.Core.Path.{_∙_, _≡_, ap, ap₂}
+use mathlib.Core.Bool.{true}
+use mathlib.Core.Path.{_∙_, _≡_, ap, ap₂, subst, sym}
 use Prim.Native.Nat.{_%_, _*_, _+_, _-_, _/_, _<_, _^_, _≤_, min, suc, zero, ℕ}
-use native.Mathlib.Nat.{mod-eq-of-lt, one-mul, pow-suc}
+use native.Mathlib.Decide.{decLt}
+use native.Mathlib.Nat.{div-eq-of-lt, div-lt-iff-lt-mul, mod-eq-of-lt, one-mul, pow-suc}
 use native.Mathlib.Omega.{arith}
 use lib.Bits.{and-le-l, and-step, bitAnd}
 use lib.Count.{ones}
 use lib.Dec.{eqb, ltb}
-use lib.Pow.{pow-lt}
+use lib.Pow.{pow-lt, pow-pos}
 use borrow.Author.Tests.{eq-eqb, le-ltb, lt-ltb, ne-eqb}
 use Rattle.sets.proofs.Membership.{without-step}
 use Rattle.theory.specs.Sets.{alone, among, before, digit, inRange, without}
@@ -42,10 +44,18 @@ unfolding among digit
 digit-test e zero p = absurd (omega arith)
 digit-test e (suc i) p = let s : suc i - 1 ≡ i = omega arith in ap (λ (x : ℕ). eqb (e / 2 ^ x % 2) 1) s
 
--- e < 1 << a
-pub range-test : (w e a : ℕ) → a < w → ltb e (1 * 2 ^ a % 2 ^ w) ≡ inRange a e
+-- a is the whole width
+pub range-whole : (w e a : ℕ) → e < 2 ^ w → a ≡ w → true ≡ inRange a e
 unfolding inRange
-range-test w e a h = ap (ltb e) (ap (λ (x : ℕ). x % 2 ^ w) (one-mul (2 ^ a)) ∙ mod-eq-of-lt (pow-lt h))
+range-whole w e a h s = sym (lt-ltb e (2 ^ a) (subst (λ (x : ℕ). e < 2 ^ x) (sym s) h))
+
+-- e >> a == 0
+pub range-test : (e a : ℕ) → eqb (e / 2 ^ a) 0 ≡ inRange a e
+unfolding inRange
+range-test e a = elim (decLt e (2 ^ a)) [
+  | yes h ↦ eq-eqb (e / 2 ^ a) 0 (div-eq-of-lt h) ∙ sym (lt-ltb e (2 ^ a) h)
+  | no h ↦ ne-eqb (e / 2 ^ a) 0 (λ z. h (omega (arith, div-lt-iff-lt-mul {k = 2 ^ a} {x = e} {y = 1} (pow-pos a) .0 (omega arith)))) ∙ sym (le-ltb e (2 ^ a) (omega arith))
+]
 
 -- the order, test by test
 pub before-fewer : (f e : ℕ) → ones f < ones e → ltb (ones f) (ones e) ≡ before f e

@@ -1,8 +1,13 @@
 // Sets of assumptions as numbers: assumption k is worth 2^(k-1).
+use theory::ASSUMPTIONS;
 ghost use Prim.Native.Nat.{_≤_};
+ghost use Rattle.theory.specs.Limits.{limits};
 ghost use Rattle.sets.specs.Promised.{Before, Has, Low, Meet, Only, Union, Within, Without};
 
 pub type Set = u32;
+
+// How many assumptions a set can have.
+pub const WIDTH: u8 = ASSUMPTIONS as u8;
 
 // The assumptions in a or in b.
 pub fn union(a: Set, b: Set) -> Set
@@ -33,16 +38,16 @@ pub fn without(a: Set, b: Set) -> Set
 }
 
 // The set of assumption k alone.
-pub fn only(k: u32) -> Set
-    requires { ⌜ (1 ≤ k) × (k ≤ 32) ⌝ }
+pub fn only(k: u8) -> Set
+    requires { ⌜ (1 ≤ k) × (k ≤ limits .assumptions) ⌝ }
     ensures { λ r. ⌜ Only k r ⌝ }
 {
     1 << (k - 1)
 }
 
 // Whether assumption k is in e.
-pub fn has(e: Set, k: u32) -> bool
-    requires { ⌜ (1 ≤ k) × (k ≤ 32) ⌝ }
+pub fn has(e: Set, k: u8) -> bool
+    requires { ⌜ (1 ≤ k) × (k ≤ limits .assumptions) ⌝ }
     ensures { λ r. ⌜ Has e k r ⌝ }
 {
     (e >> (k - 1)) % 2 == 1
@@ -57,10 +62,13 @@ pub fn before(a: Set, b: Set) -> bool
     m < n || (m == n && a < b)
 }
 
-// Whether e has no assumption above a.
+// Whether e has no assumption above a. A shift by the whole width is undefined, so that width is asked first.
 pub fn low(e: Set, a: u8) -> bool
-    requires { ⌜ a ≤ 32 ⌝ }
+    requires { ⌜ a ≤ limits .assumptions ⌝ }
     ensures { λ r. ⌜ Low e a r ⌝ }
 {
-    (e as u64) < (1u64 << a)
+    if a == WIDTH {
+        return true;
+    }
+    e >> a == 0
 }

@@ -1,11 +1,17 @@
 // The right shape of a store's lists.
 use sets::Set;
 use stages::Lists;
+use theory::LABEL;
+use theory::MARKS;
 ghost use mathlib.Core.Path.{_≡_};
-ghost use Prim.Native.Nat.{_≤_};
+ghost use Prim.Native.Nat.{_*_, _≤_};
 ghost use lib.ListN.{length};
+ghost use Rattle.theory.specs.Limits.{limits};
 ghost use Rattle.theory.specs.Lists.{allOf, numbersBelow, sortedBy};
 ghost use Rattle.shape.specs.Shape.{apart, labelsRight, ListsRight, rowRight, standing, unionOf};
+
+// One above the highest number: no lists are deeper.
+const DEEPEST: u8 = MARKS as u8;
 
 // Whether each stands clear before all later ones: before the next, and no set of fewer assumptions within a later one.
 fn sorted(l: &[Set]) -> bool
@@ -74,13 +80,13 @@ fn list(l: &[Set], count: usize) -> bool
 
 // Whether each of the first n labels stands so in its places.
 fn rows<'a>(members: &'a [Set], sizes: &'a [u8], n: usize) -> bool
-    requires { ⌜ (n ≤ 128) × (length (now members) ≡ 1536) × (length (now sizes) ≡ 128) ⌝ }
+    requires { ⌜ (n ≤ limits .numbers) × (length (now members) ≡ limits .numbers * limits .label) × (length (now sizes) ≡ limits .numbers) ⌝ }
     ensures { λ r. ⌜ r ≡ allOf (rowRight (now (sizes .entry)) (now (members .entry))) (numbersBelow n) ⌝ }
 {
     let mut i = 0;
     while i < n {
-        let from = 12 * i;
-        let to = from + 12;
+        let from = LABEL * i;
+        let to = from + LABEL;
         let count = sizes[i] as usize;
         if list(&members[from..to], count) {
             i += 1;
@@ -93,14 +99,14 @@ fn rows<'a>(members: &'a [Set], sizes: &'a [u8], n: usize) -> bool
 
 // Whether every label stands rightly in its places; those above top are empty.
 fn labels<'a>(members: &'a [Set], sizes: &'a [u8], top: u8, a: u8) -> bool
-    requires { ⌜ (a ≤ 32) × (top ≤ 128) × (length (now members) ≡ 1536) × (length (now sizes) ≡ 128) ⌝ }
+    requires { ⌜ (a ≤ limits .assumptions) × (top ≤ limits .numbers) × (length (now members) ≡ limits .numbers * limits .label) × (length (now sizes) ≡ limits .numbers) ⌝ }
     ensures { λ r. ⌜ r ≡ labelsRight a top (now (sizes .entry)) (now (members .entry)) ⌝ }
 {
     let n = top as usize;
     if !slices::zeros(&sizes[n..]) {
         return false;
     }
-    let end = 12 * n;
+    let end = LABEL * n;
     if all(&members[end..]) != 0 {
         return false;
     }
@@ -112,10 +118,10 @@ fn labels<'a>(members: &'a [Set], sizes: &'a [u8], top: u8, a: u8) -> bool
 
 // Whether the lists of a assumptions and the numbers up to top have the right shape.
 pub fn right(lists: Lists, a: u8, top: u8) -> bool
-    requires { ⌜ (a ≤ 32) × (top ≤ 128) ⌝ }
+    requires { ⌜ (a ≤ limits .assumptions) × (top ≤ limits .numbers) ⌝ }
     ensures { λ r. ⌜ ListsRight lists a top r ⌝ }
 {
-    if 129 < lists.depth {
+    if DEEPEST < lists.depth {
         return false;
     }
     if !sets::low(all(&lists.nogoods), a) {

@@ -14,6 +14,7 @@ use Rattle.stages.specs.Steps.{Put}
 use Rattle.theory.proofs.Judgement.{same-elim}
 use Rattle.theory.proofs.Lists.{not-so}
 use Rattle.theory.specs.Judge.{sameSets}
+use Rattle.theory.specs.Limits.{limits}
 use Rattle.theory.specs.Lists.{allOf, choose}
 
 module _ (sets old : List ℕ) (count : ℕ) (fits : count ≤ length sets) where
@@ -49,9 +50,9 @@ module _ (same : Bool) (at : ℕ) (label : Built) (later counts marks : List ℕ
   pub put-none : not r ≡ true → Put same at label later counts marks later counts marks
   put-none h =
       let q : same ≡ true = not-false same (sym e ∙ not-true r h) in
-      (sym (ap (λ (b : Bool). choose b later (paste later (12 * at) (label .sets) 12)) q), sym (ap (λ (b : Bool). choose b counts (set counts at (label .count))) q), sym (ap (λ (b : Bool). choose b marks (set marks (at + 1) 1)) q))
+      (sym (ap (λ (b : Bool). choose b later (paste later (limits .label * at) (label .sets) (limits .label))) q), sym (ap (λ (b : Bool). choose b counts (set counts at (label .count))) q), sym (ap (λ (b : Bool). choose b marks (set marks (at + 1) 1)) q))
 
-  pub put-all : not r ≡ false → (later′ : List ℕ) → later′ ≡ paste later (12 * at) (label .sets) 12 → Put same at label later counts marks later′ (set counts at (label .count)) (set marks (at + 1) 1)
+  pub put-all : not r ≡ false → (later′ : List ℕ) → later′ ≡ paste later (limits .label * at) (label .sets) (limits .label) → Put same at label later counts marks later′ (set counts at (label .count)) (set marks (at + 1) 1)
   put-all h later′ w =
       let q : same ≡ false = not-true same (sym e ∙ not-false r h) in
-      (w ∙ sym (ap (λ (b : Bool). choose b later (paste later (12 * at) (label .sets) 12)) q), sym (ap (λ (b : Bool). choose b counts (set counts at (label .count))) q), sym (ap (λ (b : Bool). choose b marks (set marks (at + 1) 1)) q))
+      (w ∙ sym (ap (λ (b : Bool). choose b later (paste later (limits .label * at) (label .sets) (limits .label))) q), sym (ap (λ (b : Bool). choose b counts (set counts at (label .count))) q), sym (ap (λ (b : Bool). choose b marks (set marks (at + 1) 1)) q))

@@ -28,13 +28,14 @@ use Rattle.theory.proofs.Sets.{within-refl, within-trans}
 use Rattle.theory.proofs.Start.{label-selection, nogood-selection}
 use Rattle.theory.proofs.Step.{candidates-cases, candidates-join, candidates-old, labelCands, nogoodCands}
 use Rattle.theory.specs.Judge.{sameSets}
+use Rattle.theory.specs.Limits.{limits}
 use Rattle.theory.specs.Lists.{those}
 use Rattle.theory.specs.Sets.{before, contains, within}
 use Rattle.theory.specs.Stages.{Justification, labelAt, nogoodsAt}
 use Rattle.theory.specs.Step.{candidates}
 
-pub marked-all : (n : ℕ) → n ≤ 128 → getD (replicate 129 (suc zero)) n zero ≡ zero → ⊥
-marked-all n h z = omega (arith, getD-replicate 129 n (suc zero) zero (omega arith))
+pub marked-all : (n : ℕ) → n ≤ limits .numbers → getD (replicate (limits .numbers + 1) (suc zero)) n zero ≡ zero → ⊥
+marked-all n h z = omega (arith, getD-replicate (limits .numbers + 1) n (suc zero) zero (omega arith))
 
 told : (b : Bool) → not b ≡ false → b ≡ true
 told true z = refl
@@ -95,7 +96,7 @@ nogoods-still A J k same =
     ∙ those-all (λ E. true) N (λ E m. refl)
 
 -- ---- over what is held
-module _ (h : Held) (ok : Judgeable h) (k : ℕ) where
+module _ (h : Held) (ok : Judgeable (limits .assumptions) h) (k : ℕ) where
   abbrev A : ℕ
   A = h .assumptions
 

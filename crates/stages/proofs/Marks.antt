@@ -31,6 +31,7 @@ use Rattle.theory.proofs.Places.{getD-table, length-table}
 use Rattle.theory.proofs.Start.{label-selection, nogood-selection}
 use Rattle.theory.proofs.Step.{candidates-join}
 use Rattle.theory.specs.Judge.{Stage, agree, sameSets}
+use Rattle.theory.specs.Limits.{limits}
 use Rattle.theory.specs.Lists.{allOf, choose, someOf, those}
 use Rattle.theory.specs.Places.{table}
 use Rattle.theory.specs.Sets.{contains}
@@ -65,8 +66,8 @@ mem-more (e ∷ l) zero z h m = ⊎-elim inr (λ o. elim o [ ]) (List·Memᴰ·c
 mem-more (e ∷ l) (suc j) z h m = ⊎-elim (λ q. inl (here q)) (λ o. ⊎-elim (λ a. inl (there a)) inr (mem-more l j z (le-of-suc-le-suc h) o)) (List·Memᴰ·cases-cons m)
 
 module _ (moved : List ℕ) where
-  pub touched-none : (v : ℕ) → v ≡ getD moved 0 0 → Touched moved [] (replicate 129 v)
-  touched-none v e = λ n low z. (sym e ∙ sym (getD-replicate 129 n v 0 (omega arith)) ∙ z, λ r m. elim m [ ])
+  pub touched-none : (v : ℕ) → v ≡ getD moved 0 0 → Touched moved [] (replicate (limits .numbers + 1) v)
+  touched-none v e = λ n low z. (sym e ∙ sym (getD-replicate (limits .numbers + 1) n v 0 (omega arith)) ∙ z, λ r m. elim m [ ])
 
   pub touched-turn : (entries : List Entry) (j : ℕ) (z : Entry) → j < length entries → (marks : List ℕ) → Touched moved (map meaning (take j entries)) marks
       → getD entries j z .consequent < length marks → (v : ℕ) → v ≡ choose (stirs moved (meaning (getD entries j z) .supports)) 1 (getD marks (getD entries j z .consequent) 0)
@@ -86,7 +87,7 @@ module _ (moved : List ℕ) where
       cases : (r : Justification) → Mem r (map meaning (take (j + 1) entries)) → Mem r (map meaning (take j entries)) ⊎ (r ≡ meaning (getD entries j z))
       cases r m = mem-more entries j z h (subst (λ (i : ℕ). Mem r (map meaning (take i entries))) (add-one j) m)
 
-      go : (n : ℕ) → n ≤ 128 → getD (set marks c v) n 0 ≡ 0 → (b : Bool) → eqb n c ≡ b
+      go : (n : ℕ) → n ≤ limits .numbers → getD (set marks c v) n 0 ≡ 0 → (b : Bool) → eqb n c ≡ b
           → (getD moved 0 0 ≡ 0) × ((r : Justification) → Mem r (map meaning (take (j + 1) entries)) → r .consequent ≡ n → stirs moved (r .supports) ≡ false)
       go n top o true w =
           let i : n ≡ c = eqb-true n c w in
@@ -112,29 +113,29 @@ module _ (h : Held) where
   abbrev J : List Justification
   J = saidBy h
 
-  pub fresh-start : (k : ℕ) (moved : List ℕ) → length moved ≡ 129 → (getD moved 0 0 ≡ 0 → ⊥) → Fresh h k moved
+  pub fresh-start : (k : ℕ) (moved : List ℕ) → length moved ≡ limits .numbers + 1 → (getD moved 0 0 ≡ 0 → ⊥) → Fresh h k moved
   fresh-start k moved long n = record { long = long; since = λ z. absurd (n z) }
 
   mark-same : (b : Bool) → _≡_ {A = ℕ} (choose b 0 1) 0 → b ≡ true
   mark-same true e = refl
   mark-same false e = absurd (omega arith)
 
-  module _ (k : ℕ) (marks : List ℕ) (are : marks ≡ table 129 (markOf (stageBy h k .labels) (stageBy h (k + 1) .labels))) where
-    unmoved : (s : ℕ) → s ≤ 128 → getD marks s 0 ≡ 0 → labelIn (stageBy h (k + 1) .labels) s ≡ labelIn (stageBy h k .labels) s
+  module _ (k : ℕ) (marks : List ℕ) (are : marks ≡ table (limits .numbers + 1) (markOf (stageBy h k .labels) (stageBy h (k + 1) .labels))) where
+    unmoved : (s : ℕ) → s ≤ limits .numbers → getD marks s 0 ≡ 0 → labelIn (stageBy h (k + 1) .labels) s ≡ labelIn (stageBy h k .labels) s
     unfolding markOf
     unmoved s low e =
         same-elim (labelIn (stageBy h (k + 1) .labels) s) (labelIn (stageBy h k .labels) s)
         (mark-same (sameSets (labelIn (stageBy h (k + 1) .labels) s) (labelIn (stageBy h k .labels) s))
-        (sym (ap (λ (l : List ℕ). getD l s 0) are ∙ getD-table 129 (markOf (stageBy h k .labels) (stageBy h (k + 1) .labels)) s 0 (omega arith)) ∙ e))
+        (sym (ap (λ (l : List ℕ). getD l s 0) are ∙ getD-table (limits .numbers + 1) (markOf (stageBy h k .labels) (stageBy h (k + 1) .labels)) s 0 (omega arith)) ∙ e))
 
     pub fresh-on : Fresh h (k + 1) marks
     fresh-on = record {
-      long = ap length are ∙ length-table 129 (markOf (stageBy h k .labels) (stageBy h (k + 1) .labels));
+      long = ap length are ∙ length-table (limits .numbers + 1) (markOf (stageBy h k .labels) (stageBy h (k + 1) .labels));
       since = λ z. record { before = k; next = add-one k; same = λ s low e. ap (λ (m : ℕ). labelIn (stageBy h m .labels) s) (sym (add-one k)) ∙ unmoved s low e };
     }
 
     -- no news and no mark: the stages agree
-    module _ (few : N ≤ 128) (news : Bool) (told : news ≡ not (sameSets (stageBy h (k + 1) .nogoods) (stageBy h k .nogoods))) where
+    module _ (few : N ≤ limits .numbers) (news : Bool) (told : news ≡ not (sameSets (stageBy h (k + 1) .nogoods) (stageBy h k .nogoods))) where
       abbrev s : Stage
       s = stageBy h k
 
@@ -146,9 +147,9 @@ module _ (h : Held) where
       all-zero [] f = refl
       all-zero (x ∷ l) f = and-intro (eq-eqb 0 x (sym (f 0 (omega arith)))) (all-zero l (λ i p. f (suc i) (omega arith)))
 
-      no-mark : allOf (eqb 0) marks ≡ true → (n : ℕ) → n ≤ 128 → getD marks n 0 ≡ 0
+      no-mark : allOf (eqb 0) marks ≡ true → (n : ℕ) → n ≤ limits .numbers → getD marks n 0 ≡ 0
       no-mark e n low =
-          let long : length marks ≡ 129 = ap length are ∙ length-table 129 (markOf (s .labels) (t .labels)) in
+          let long : length marks ≡ limits .numbers + 1 = ap length are ∙ length-table (limits .numbers + 1) (markOf (s .labels) (t .labels)) in
           sym (eqb-true 0 (getD marks n 0) (all-elim (eqb 0) e (at-mem marks n (omega arith))))
 
       equal : sameSets (t .nogoods) (s .nogoods) ≡ true → allOf (eqb 0) marks ≡ true → s ≡ t
@@ -163,8 +164,8 @@ module _ (h : Held) where
       unfolding markOf
       unmarked-all e =
           all-zero marks (λ i p.
-          let q : i < 129 = omega (arith, ap length are, length-table 129 (markOf (s .labels) (t .labels))) in
-          ap (λ (l : List ℕ). getD l i 0) are ∙ getD-table 129 (markOf (s .labels) (t .labels)) i 0 q
+          let q : i < limits .numbers + 1 = omega (arith, ap length are, length-table (limits .numbers + 1) (markOf (s .labels) (t .labels))) in
+          ap (λ (l : List ℕ). getD l i 0) are ∙ getD-table (limits .numbers + 1) (markOf (s .labels) (t .labels)) i 0 q
           ∙ ap (λ (b : Bool). choose b 0 1) (same-intro (labelIn (t .labels) i) (labelIn (s .labels) i) (ap (λ (x : Stage). labelIn (x .labels) i) (sym e))))
 
       pub step-agrees : (r : Bool) → r ≡ not news && allOf (eqb 0) marks → r ≡ agree (stageBy h k) (stageBy h (k + 1))
@@ -178,7 +179,7 @@ module _ (h : Held) where
           and-intro (ap not (told ∙ ap not (same-intro (t .nogoods) (s .nogoods) (ap (λ (x : Stage). x .nogoods) (sym q))))) (unmarked-all q))
 
   -- ---- which lists have to be built
-  pub stale-from : (k : ℕ) (moved : List ℕ) → Fresh h k moved → (N ≤ 128) → ((r : Justification) → Mem r (saidBy h) → (s : ℕ) → Mem s (r .supports) → s ≤ h .assumptions + h .claims) → (stale : List ℕ) → Touched moved (saidBy h) stale → Stale h k stale
+  pub stale-from : (k : ℕ) (moved : List ℕ) → Fresh h k moved → (N ≤ limits .numbers) → ((r : Justification) → Mem r (saidBy h) → (s : ℕ) → Mem s (r .supports) → s ≤ h .assumptions + h .claims) → (stale : List ℕ) → Touched moved (saidBy h) stale → Stale h k stale
   stale-from k moved f few range stale u = λ n low z.
       let t = u n low z in
       let i = f .since (t .0) in

@@ -47,23 +47,23 @@ module _ (limit : ℕ) (X : List ℕ) (r : Built) (is : r ≡ builtOf limit (tak
   pub built-length : r .count ≤ limit → r .count ≡ length X
   built-length h = omega (arith, built-count, length-take (limit + 1) X)
 
-  pub built-sets : r .count ≤ limit → r .sets ≡ padded 0 32 X
+  pub built-sets : r .count ≤ limit → r .sets ≡ padded 0 (limits .nogoods) X
   unfolding builtOf
   built-sets h =
       let s : length X ≤ limit = built-short h in
-      ap (λ (b : Built). b .sets) is ∙ ap (λ (l : List ℕ). padded 0 32 (take limit l)) (take-all (limit + 1) X (omega arith)) ∙ ap (padded 0 32) (take-all limit X s)
+      ap (λ (b : Built). b .sets) is ∙ ap (λ (l : List ℕ). padded 0 (limits .nogoods) (take limit l)) (take-all (limit + 1) X (omega arith)) ∙ ap (padded 0 (limits .nogoods)) (take-all limit X s)
 
 -- ---- the nogoods that are built, where they are not over
-pub built-listed : (X : List ℕ) (r : Built) → r ≡ builtOf 32 (take (32 + 1) X) → r .count ≤ 32 → Listed X (r .count) (r .sets)
-built-listed X r is h = record { counted = built-length 32 X r is h; few = h; lie = built-sets 32 X r is h }
+pub built-listed : (X : List ℕ) (r : Built) → r ≡ builtOf (limits .nogoods) (take (limits .nogoods + 1) X) → r .count ≤ limits .nogoods → Listed X (r .count) (r .sets)
+built-listed X r is h = record { counted = built-length (limits .nogoods) X r is h; few = h; lie = built-sets (limits .nogoods) X r is h }
 
 -- ---- those that stay, as if they were built
-pub listed-built : (X : List ℕ) (count : ℕ) (places : List ℕ) → Listed X count places → _≡_ {A = Built} (record { count = count; sets = places }) (builtOf 32 (take (32 + 1) X))
+pub listed-built : (X : List ℕ) (count : ℕ) (places : List ℕ) → Listed X count places → _≡_ {A = Built} (record { count = count; sets = places }) (builtOf (limits .nogoods) (take (limits .nogoods + 1) X))
 unfolding builtOf
 listed-built X count places n =
-    let few : length X ≤ 32 = omega (arith, n .counted, n .few) in
-    let all : take 33 X ≡ X = take-all 33 X (omega arith) in
-    ap₂ made (n .counted ∙ ap length (sym all)) (n .lie ∙ ap (padded 0 32) (sym (ap (take 32) all ∙ take-all 32 X few)))
+    let few : length X ≤ limits .nogoods = omega (arith, n .counted, n .few) in
+    let all : take (limits .nogoods + 1) X ≡ X = take-all (limits .nogoods + 1) X (omega arith) in
+    ap₂ made (n .counted ∙ ap length (sym all)) (n .lie ∙ ap (padded 0 (limits .nogoods)) (sym (ap (take (limits .nogoods)) all ∙ take-all (limits .nogoods) X few)))
   where
     made : ℕ → List ℕ → Built
     made c l = record { count = c; sets = l }
@@ -91,31 +91,31 @@ module _ (h : Held) (l : Lists) (re : Reached h l) where
   at-next f = ap (λ (k : ℕ). f (stageBy h k)) (sym (add-one (l .depth)))
 
   module _ (tallies : List ℕ) (te : tallies ≡ tallied h) where
-    nogoods-built : (r : Built) → Build (between (h .entries) 0 (getD tallies 0 0)) 0 (l .members) (l .sizes) (take (l .count) (l .nogoods)) [] 32 r → r ≡ builtOf 32 (take (32 + 1) (new-stage .nogoods))
+    nogoods-built : (r : Built) → Build (between (h .entries) 0 (getD tallies 0 0)) 0 (l .members) (l .sizes) (take (l .count) (l .nogoods)) [] (limits .nogoods) r → r ≡ builtOf (limits .nogoods) (take (limits .nogoods + 1) (new-stage .nogoods))
     nogoods-built r e =
-        e ∙ ap (builtOf 32) (ap (picks 33 [] []) (first-candidates h (re .judgeable) tallies te (lying (l .members) (l .sizes)) (take (l .count) (l .nogoods)) ∙ cands (take (l .count) (l .nogoods)) (old-stage .nogoods) 0 (nogoods-lie (l .depth) old-stage (re .room) l (re .is)))
-        ∙ next-nogoods (h .assumptions) N (saidBy h) upto (l .depth) 33 ∙ at-next (λ s. take 33 (s .nogoods)))
+        e ∙ ap (builtOf (limits .nogoods)) (ap (picks (limits .nogoods + 1) [] []) (first-candidates h (re .judgeable) tallies te (lying (l .members) (l .sizes)) (take (l .count) (l .nogoods)) ∙ cands (take (l .count) (l .nogoods)) (old-stage .nogoods) 0 (nogoods-lie (l .depth) old-stage (re .room) l (re .is)))
+        ∙ next-nogoods (h .assumptions) N (saidBy h) upto (l .depth) (limits .nogoods + 1) ∙ at-next (λ s. take (limits .nogoods + 1) (s .nogoods)))
 
     label-built : (struck : List ℕ) → struck ≡ new-stage .nogoods → (i lo : ℕ) → i < N → lo ≡ below (saidBy h) (i + 1) → (old : List ℕ) → old ≡ lying (l .members) (l .sizes) (i + 1)
-        → (r : Built) → Build (between (h .entries) lo (lo + getD tallies (i + 1) 0)) (i + 1) (l .members) (l .sizes) old struck 12 r → r ≡ builtOf 12 (take (12 + 1) (getD (new-stage .labels) i []))
+        → (r : Built) → Build (between (h .entries) lo (lo + getD tallies (i + 1) 0)) (i + 1) (l .members) (l .sizes) old struck (limits .label) r → r ≡ builtOf (limits .label) (take (limits .label + 1) (getD (new-stage .labels) i []))
     unfolding labelIn
     label-built struck se i lo low le old oe r e =
         let a : i + 1 ≡ suc i = add-one i in
-        let top : i + 1 ≤ 128 = omega (arith, wide h (re .judgeable)) in
+        let top : i + 1 ≤ limits .numbers = omega (arith, wide h (re .judgeable)) in
         let o : old ≡ labelIn (old-stage .labels) (i + 1) = oe ∙ lies (l .depth) old-stage (re .room) l (re .is) (i + 1) top in
         let p = part-candidates h (re .judgeable) (i + 1) lo (lo + getD tallies (i + 1) 0) le (tally-end h (re .judgeable) tallies te (i + 1) lo top le) (lying (l .members) (l .sizes)) old in
-        e ∙ ap (builtOf 12) (ap₂ (λ (b c : List ℕ). picks 13 b [] c) (se ∙ sym (at-next (λ s. s .nogoods))) (p ∙ cands old (labelIn (old-stage .labels) (i + 1)) (i + 1) o)
-        ∙ next-label (h .assumptions) N (saidBy h) upto (l .depth) 13 (i + 1) (omega arith) ∙ at-next (λ s. take 13 (labelIn (s .labels) (i + 1))) ∙ ap (λ (n : ℕ). take 13 (labelIn (new-stage .labels) n)) a)
+        e ∙ ap (builtOf (limits .label)) (ap₂ (λ (b c : List ℕ). picks (limits .label + 1) b [] c) (se ∙ sym (at-next (λ s. s .nogoods))) (p ∙ cands old (labelIn (old-stage .labels) (i + 1)) (i + 1) o)
+        ∙ next-label (h .assumptions) N (saidBy h) upto (l .depth) (limits .label + 1) (i + 1) (omega arith) ∙ at-next (λ s. take (limits .label + 1) (labelIn (s .labels) (i + 1))) ∙ ap (λ (n : ℕ). take (limits .label + 1) (labelIn (new-stage .labels) n)) a)
 
     -- of the justifications as they lie in six bytes each
     module _ (rules : List ℕ) (laid : entriesOf rules ≡ h .entries) where
-      pub nogoods-laid : (end : ℕ) → end ≡ getD tallies 0 0 → (r : Built) → Build (between (entriesOf rules) 0 end) 0 (l .members) (l .sizes) (take (l .count) (l .nogoods)) [] 32 r → r ≡ builtOf 32 (take (32 + 1) (new-stage .nogoods))
-      nogoods-laid end q r e = nogoods-built r (subst (λ (x : List Entry). Build (between x 0 (getD tallies 0 0)) 0 (l .members) (l .sizes) (take (l .count) (l .nogoods)) [] 32 r) laid
-          (subst (λ (v : ℕ). Build (between (entriesOf rules) 0 v) 0 (l .members) (l .sizes) (take (l .count) (l .nogoods)) [] 32 r) q e))
+      pub nogoods-laid : (end : ℕ) → end ≡ getD tallies 0 0 → (r : Built) → Build (between (entriesOf rules) 0 end) 0 (l .members) (l .sizes) (take (l .count) (l .nogoods)) [] (limits .nogoods) r → r ≡ builtOf (limits .nogoods) (take (limits .nogoods + 1) (new-stage .nogoods))
+      nogoods-laid end q r e = nogoods-built r (subst (λ (x : List Entry). Build (between x 0 (getD tallies 0 0)) 0 (l .members) (l .sizes) (take (l .count) (l .nogoods)) [] (limits .nogoods) r) laid
+          (subst (λ (v : ℕ). Build (between (entriesOf rules) 0 v) 0 (l .members) (l .sizes) (take (l .count) (l .nogoods)) [] (limits .nogoods) r) q e))
 
       pub label-laid : (struck : List ℕ) → struck ≡ new-stage .nogoods → (i lo : ℕ) → i < N → lo ≡ below (saidBy h) (i + 1) → (old : List ℕ) → old ≡ lying (l .members) (l .sizes) (i + 1)
-          → (r : Built) → Build (between (entriesOf rules) lo (lo + getD tallies (i + 1) 0)) (i + 1) (l .members) (l .sizes) old struck 12 r → r ≡ builtOf 12 (take (12 + 1) (getD (new-stage .labels) i []))
-      label-laid struck se i lo low le old oe r e = label-built struck se i lo low le old oe r (subst (λ (x : List Entry). Build (between x lo (lo + getD tallies (i + 1) 0)) (i + 1) (l .members) (l .sizes) old struck 12 r) laid e)
+          → (r : Built) → Build (between (entriesOf rules) lo (lo + getD tallies (i + 1) 0)) (i + 1) (l .members) (l .sizes) old struck (limits .label) r → r ≡ builtOf (limits .label) (take (limits .label + 1) (getD (new-stage .labels) i []))
+      label-laid struck se i lo low le old oe r e = label-built struck se i lo low le old oe r (subst (λ (x : List Entry). Build (between x lo (lo + getD tallies (i + 1) 0)) (i + 1) (l .members) (l .sizes) old struck (limits .label) r) laid e)
 
 -- ---- what the next stage says
 
@@ -134,18 +134,18 @@ lowest-none limit n (l ∷ ls) f =
     ap (λ (b : Bool). choose b n (lowestLong limit (suc n) ls)) (le-ltb limit (length l) (f 0 (omega arith))) ∙ lowest-none limit (suc n) ls (λ j p. f (suc j) (omega arith))
 
 module _ (k : ℕ) (s : Stage) where
-  pub next-over : 32 < length (s .nogoods) → (r : Judged) → r ≡ refusal Nogoods → r ≡ fitted k s
+  pub next-over : limits .nogoods < length (s .nogoods) → (r : Judged) → r ≡ refusal Nogoods → r ≡ fitted k s
   unfolding fitted nogoodsLong
-  next-over h r e = e ∙ ap (λ (b : Bool). fittedBy b (labelLong limits s) (listsOf k s)) (sym (lt-ltb 32 (length (s .nogoods)) h))
+  next-over h r e = e ∙ ap (λ (b : Bool). fittedBy b (labelLong limits s) (listsOf k s)) (sym (lt-ltb (limits .nogoods) (length (s .nogoods)) h))
 
   by-label : (r : ℕ) → (r ≡ 0 → ⊥) → (l : Lists) → refusal (Label r) ≡ fittedBy false r l
   by-label zero n l = absurd (n refl)
   by-label (suc r) n l = refl
 
-  module _ (few : length (s .nogoods) ≤ 32) (n : ℕ) (is : n ≡ labelLong limits s) where
+  module _ (few : length (s .nogoods) ≤ limits .nogoods) (n : ℕ) (is : n ≡ labelLong limits s) where
     by-both : (l : Lists) → fittedBy false n l ≡ fittedBy (nogoodsLong limits s) (labelLong limits s) l
     unfolding nogoodsLong
-    by-both l = ap₂ (λ (b : Bool) (m : ℕ). fittedBy b m l) (sym (le-ltb 32 (length (s .nogoods)) few)) is
+    by-both l = ap₂ (λ (b : Bool) (m : ℕ). fittedBy b m l) (sym (le-ltb (limits .nogoods) (length (s .nogoods)) few)) is
 
     pub next-beyond : (n ≡ 0 → ⊥) → (r : Judged) → r ≡ refusal (Label n) → r ≡ fitted k s
     unfolding fitted
@@ -157,20 +157,20 @@ module _ (k : ℕ) (s : Stage) where
         ap (λ (x : Lists). record { reply = Done; lists = x }) e ∙ ap (λ (m : ℕ). fittedBy false m (listsOf k s)) (sym z) ∙ by-both (listsOf k s)
 
 -- ---- the labels one after the other
-module _ (h : Held) (k i : ℕ) (so : (j : ℕ) → j < i → length (getD (stageBy h (k + 1) .labels) j []) ≤ 12) where
-  pub over-at : i < length (stageBy h (k + 1) .labels) → 12 < length (getD (stageBy h (k + 1) .labels) i []) → (members sizes marks : List ℕ) → Relabelled h k members sizes marks (i + 1)
+module _ (h : Held) (k i : ℕ) (so : (j : ℕ) → j < i → length (getD (stageBy h (k + 1) .labels) j []) ≤ limits .label) where
+  pub over-at : i < length (stageBy h (k + 1) .labels) → limits .label < length (getD (stageBy h (k + 1) .labels) i []) → (members sizes marks : List ℕ) → Relabelled h k members sizes marks (i + 1)
   unfolding labelLong
   over-at low long members sizes marks =
-      let w : lowestLong 12 1 (stageBy h (k + 1) .labels) ≡ 1 + i = lowest-at 12 1 (stageBy h (k + 1) .labels) i low so long in
+      let w : lowestLong (limits .label) 1 (stageBy h (k + 1) .labels) ≡ 1 + i = lowest-at (limits .label) 1 (stageBy h (k + 1) .labels) i low so long in
       record { over = omega (arith, w); members-are = λ z. absurd (omega arith); sizes-are = λ z. absurd (omega arith); marks-are = λ z. absurd (omega arith) }
 
   pub over-none : length (stageBy h (k + 1) .labels) ≤ i → 0 ≡ labelLong limits (stageBy h (k + 1))
   unfolding labelLong
-  over-none low = sym (lowest-none 12 1 (stageBy h (k + 1) .labels) (λ j p. so j (omega arith)))
+  over-none low = sym (lowest-none (limits .label) 1 (stageBy h (k + 1) .labels) (λ j p. so j (omega arith)))
 
 -- ---- no label so far is over
 module _ (s : Stage) (i : ℕ) where
-  pub short-on : length (getD (s .labels) i []) ≤ 12 → ((j : ℕ) → j < i → length (getD (s .labels) j []) ≤ 12) → (j : ℕ) → j < i + 1 → length (getD (s .labels) j []) ≤ 12
+  pub short-on : length (getD (s .labels) i []) ≤ limits .label → ((j : ℕ) → j < i → length (getD (s .labels) j []) ≤ limits .label) → (j : ℕ) → j < i + 1 → length (getD (s .labels) j []) ≤ limits .label
   short-on short so j h =
-      ⊎-elim (λ (q : j ≡ i). subst (λ (x : ℕ). length (getD (s .labels) x []) ≤ 12) (sym q) short) (λ p. so j p)
+      ⊎-elim (λ (q : j ≡ i). subst (λ (x : ℕ). length (getD (s .labels) x []) ≤ limits .label) (sym q) short) (λ p. so j p)
       (eq-or-lt-of-le (le-of-suc-le-suc (subst (λ (x : ℕ). j < x) (add-one i) h)))

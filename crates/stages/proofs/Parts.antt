@@ -15,13 +15,14 @@ use Rattle.labels.proofs.Ranges.{held-joinable, held-low, joinable-part, part-f
 use Rattle.labels.specs.Layout.{Few, Joinable, Ranged, between, entriesOf}
 use Rattle.rules.proofs.Order.{ordered-head, ordered-tail}
 use Rattle.rules.proofs.Scan.{right-elim, right-inside, said-length}
-use Rattle.rules.specs.Held.{meaning, ordered, saidBy, vacant}
+use Rattle.rules.specs.Held.{meaning, ordered, saidBy, top, vacant}
 use Rattle.rules.specs.declared.Entry.{Entry}
 use Rattle.rules.specs.declared.Held.{Held}
 use Rattle.stages.specs.Judged.{Judgeable}
 use Rattle.stages.specs.Steps.{manyOf, tallied}
 use Rattle.theory.proofs.Lists.{and-left, either, or-cases}
 use Rattle.theory.proofs.Places.{getD-table, is-table}
+use Rattle.theory.specs.Limits.{limits}
 use Rattle.theory.specs.Lists.{each, keep, those}
 use Rattle.theory.specs.Stages.{Justification, ahead}
 use Rattle.theory.specs.Step.{candidates, joins, joinsFor}
@@ -108,13 +109,13 @@ said-part entries count lo k h f =
     List·getD-map meaning part i vacant ∙ ap meaning (getD-take k (drop lo entries) i vacant q ∙ getD-drop lo entries i vacant ∙ sym (getD-take count entries (lo + i) vacant (omega arith)))
     ∙ sym (List·getD-map meaning (take count entries) (lo + i) vacant) ∙ sym (getD-take k (drop lo J) i (meaning vacant) q ∙ getD-drop lo J i (meaning vacant)))
 
-module _ (h : Held) (ok : Judgeable h) where
+module _ (h : Held) (ok : Judgeable (limits .assumptions) h) where
   abbrev J : List Justification
   J = saidBy h
 
   -- a label for every number
-  pub wide : h .assumptions + h .claims ≤ 128
-  wide = omega (arith, ok .assumptions, ok .claims)
+  pub wide : top h ≤ limits .numbers
+  wide = ok .numbers
 
   -- each part is fit for joins
   pub part-joinable : (lo hi : ℕ) → hi ≤ h .count → Joinable (between (h .entries) lo hi)
@@ -127,7 +128,7 @@ module _ (h : Held) (ok : Judgeable h) where
     pub entry-ranged : Ranged (meaning (getD (h .entries) j z) .supports)
     entry-ranged = part-ranged (h .entries) 0 (h .count) j z (part-joinable 0 (h .count) (omega arith)) (omega arith) low (right-inside h (ok .right))
 
-    pub entry-low : getD (h .entries) j z .consequent ≤ 128
+    pub entry-low : getD (h .entries) j z .consequent ≤ limits .numbers
     entry-low = held-low h (ok .right) wide j z low
 
   held-long : length J ≡ h .count
@@ -151,12 +152,12 @@ module _ (h : Held) (ok : Judgeable h) where
         ap (λ (l : List Justification). old ++ each (λ j. joins L zero (j .supports)) l) (ap (those (λ j. eqb (j .consequent) n)) part-is ∙ those-twice (λ j. eqb (j .consequent) n) J)
 
   -- what the tally says
-  tally-at : (t : List ℕ) → t ≡ tallied h → (n : ℕ) → n ≤ 128 → getD t n 0 ≡ manyOf J n
+  tally-at : (t : List ℕ) → t ≡ tallied h → (n : ℕ) → n ≤ limits .numbers → getD t n 0 ≡ manyOf J n
   unfolding tallied
-  tally-at t e n low = ap (λ (l : List ℕ). getD l n 0) e ∙ getD-table 129 (manyOf J) n 0 (omega arith)
+  tally-at t e n low = ap (λ (l : List ℕ). getD l n 0) e ∙ getD-table (limits .numbers + 1) (manyOf J) n 0 (omega arith)
 
   -- from where those of n begin to where they end
-  module _ (t : List ℕ) (e : t ≡ tallied h) (n lo : ℕ) (low : n ≤ 128) (begin : lo ≡ below J n) where
+  module _ (t : List ℕ) (e : t ≡ tallied h) (n lo : ℕ) (low : n ≤ limits .numbers) (begin : lo ≡ below J n) where
     pub tally-end : lo + getD t n 0 ≡ lo + manyOf J n
     tally-end = ap (λ (x : ℕ). lo + x) (tally-at t e n low)
 
@@ -166,7 +167,7 @@ module _ (h : Held) (ok : Judgeable h) where
     pub tally-inside : lo + getD t n 0 ≤ h .count
     tally-inside = part-inside n lo (lo + getD t n 0) begin tally-end
 
-    pub tally-low : lo + getD t n 0 ≤ 256
+    pub tally-low : lo + getD t n 0 ≤ limits .held
     tally-low = omega (arith, tally-inside, right-elim h (ok .right) .few)
 
   -- those of falsity end where those of 1 begin
@@ -180,7 +181,7 @@ module _ (h : Held) (ok : Judgeable h) where
     pub first-inside : getD t 0 0 ≤ h .count
     first-inside = omega (arith, tally-inside t e 0 0 (omega arith) (sym (below-none J)))
 
-    pub first-low : getD t 0 0 ≤ 256
+    pub first-low : getD t 0 0 ≤ limits .held
     first-low = omega (arith, tally-low t e 0 0 (omega arith) (sym (below-none J)))
 
     pub first-is : map meaning (between (h .entries) 0 (getD t 0 0)) ≡ those (λ j. eqb (j .consequent) 0) (saidBy h)
@@ -191,13 +192,13 @@ module _ (h : Held) (ok : Judgeable h) where
 
 -- ---- the tally, justification by justification: what is counted and what is left make up the whole
 abbrev pub Counted : List Justification → ℕ → List ℕ → Type 0
-Counted J j t = (n : ℕ) → n ≤ 128 → manyOf J n ≡ getD t n 0 + manyOf (drop j J) n
+Counted J j t = (n : ℕ) → n ≤ limits .numbers → manyOf J n ≡ getD t n 0 + manyOf (drop j J) n
 
-pub count-none : (J : List Justification) → Counted J 0 (replicate 129 0)
-count-none J n low = omega (arith, getD-replicate {A = ℕ} 129 n 0 0 (omega arith))
+pub count-none : (J : List Justification) → Counted J 0 (replicate (limits .numbers + 1) 0)
+count-none J n low = omega (arith, getD-replicate {A = ℕ} (limits .numbers + 1) n 0 0 (omega arith))
 
-module _ (h : Held) (ok : Judgeable h) where
-  pub count-turn : (j : ℕ) (z : Entry) → j < h .count → (t : List ℕ) → length t ≡ 129 → getD (h .entries) j z .consequent ≤ 128 → Counted (saidBy h) j t
+module _ (h : Held) (ok : Judgeable (limits .assumptions) h) where
+  pub count-turn : (j : ℕ) (z : Entry) → j < h .count → (t : List ℕ) → length t ≡ limits .numbers + 1 → getD (h .entries) j z .consequent ≤ limits .numbers → Counted (saidBy h) j t
       → Counted (saidBy h) (j + 1) (set t (getD (h .entries) j z .consequent) (getD t (getD (h .entries) j z .consequent) 0 + 1))
   unfolding those
   count-turn j z p t long low inv n top =
@@ -217,19 +218,19 @@ module _ (h : Held) (ok : Judgeable h) where
       omega (arith, inv n top))
       (either (eqb c n))
 
-  pub count-few : (j : ℕ) (t : List ℕ) → Counted (saidBy h) j t → (n : ℕ) → n ≤ 128 → getD t n 0 ≤ 256
+  pub count-few : (j : ℕ) (t : List ℕ) → Counted (saidBy h) j t → (n : ℕ) → n ≤ limits .numbers → getD t n 0 ≤ limits .held
   count-few j t inv n low = omega (arith, inv n low, those-few (λ i. eqb (i .consequent) n) (saidBy h), held-long h ok, right-elim h (ok .right) .few)
 
-  pub count-all : (j : ℕ) → h .count ≤ j → (t : List ℕ) → length t ≡ 129 → Counted (saidBy h) j t → t ≡ tallied h
+  pub count-all : (j : ℕ) → h .count ≤ j → (t : List ℕ) → length t ≡ limits .numbers + 1 → Counted (saidBy h) j t → t ≡ tallied h
   unfolding tallied those
   count-all j p t long inv =
-      is-table t 129 (manyOf (saidBy h)) 0 long (λ n q.
+      is-table t (limits .numbers + 1) (manyOf (saidBy h)) 0 long (λ n q.
       let z : manyOf (drop j (saidBy h)) n ≡ 0 = ap (λ (l : List Justification). manyOf l n) (drop-of-length-le (saidBy h) {i = j} (omega (arith, held-long h ok))) in
       omega (arith, inv n (omega arith)))
 
 -- ---- justifications that lie in six bytes each
 module _ (rules : List ℕ) (h : Held) (e : entriesOf rules ≡ h .entries) where
-  pub part-laid : Judgeable h → (lo hi : ℕ) → hi ≤ h .count → Joinable (between (entriesOf rules) lo hi)
+  pub part-laid : Judgeable (limits .assumptions) h → (lo hi : ℕ) → hi ≤ h .count → Joinable (between (entriesOf rules) lo hi)
   part-laid ok lo hi p = subst (λ (l : List Entry). Joinable (between l lo hi)) (sym e) (part-joinable h ok lo hi p)
 
   pub meant-laid : (lo hi : ℕ) → map meaning (between (entriesOf rules) lo hi) ≡ map meaning (between (h .entries) lo hi)

@@ -28,6 +28,7 @@ use Rattle.stages.specs.declared.Lists.{Lists}
 use Rattle.theory.proofs.Judgement.{same-elim, same-refl, stage-length}
 use Rattle.theory.proofs.Places.{is-table, length-table}
 use Rattle.theory.specs.Judge.{sameSets}
+use Rattle.theory.specs.Limits.{limits}
 use Rattle.theory.specs.Lists.{choose}
 use Rattle.theory.specs.Places.{padded, table}
 use Rattle.theory.specs.Step.{labelIn}
@@ -46,28 +47,28 @@ module _ (h : Held) (k : ℕ) where
   pub record Relabelling (later counts marks : List ℕ) (hi i : ℕ) : Type 0 where
     pub low : i ≤ h .assumptions + h .claims
     pub part : hi ≡ below (saidBy h) (i + 1)
-    pub sizes : counts ≡ table 128 (size (mixed (stageBy h k .labels) (stageBy h (k + 1) .labels) i))
-    pub members : later ≡ table 1536 (member (mixed (stageBy h k .labels) (stageBy h (k + 1) .labels) i))
-    pub marked : marks ≡ table 129 (markOf (stageBy h k .labels) (mixed (stageBy h k .labels) (stageBy h (k + 1) .labels) i))
-    pub short : (j : ℕ) → j < i → length (getD (stageBy h (k + 1) .labels) j []) ≤ 12
+    pub sizes : counts ≡ table (limits .numbers) (size (mixed (stageBy h k .labels) (stageBy h (k + 1) .labels) i))
+    pub members : later ≡ table (limits .numbers * limits .label) (member (mixed (stageBy h k .labels) (stageBy h (k + 1) .labels) i))
+    pub marked : marks ≡ table (limits .numbers + 1) (markOf (stageBy h k .labels) (mixed (stageBy h k .labels) (stageBy h (k + 1) .labels) i))
+    pub short : (j : ℕ) → j < i → length (getD (stageBy h (k + 1) .labels) j []) ≤ limits .label
 
-  pub relabelling-none : (later counts marks : List ℕ) (hi : ℕ) → marks ≡ replicate 129 0 → hi ≡ below (saidBy h) (0 + 1) → counts ≡ table 128 (size (stageBy h k .labels)) → later ≡ table 1536 (member (stageBy h k .labels)) → Relabelling later counts marks hi 0
+  pub relabelling-none : (later counts marks : List ℕ) (hi : ℕ) → marks ≡ replicate (limits .numbers + 1) 0 → hi ≡ below (saidBy h) (0 + 1) → counts ≡ table (limits .numbers) (size (stageBy h k .labels)) → later ≡ table (limits .numbers * limits .label) (member (stageBy h k .labels)) → Relabelling later counts marks hi 0
   unfolding markOf
   relabelling-none later counts marks hi z e s m = record {
     low = omega arith;
     part = e;
     sizes = s;
     members = m;
-    marked = z ∙ is-table (replicate 129 0) 129 (markOf old old) 0 (length-replicate {A = ℕ} 129 0)
-        (λ i p. getD-replicate {A = ℕ} 129 i 0 0 p ∙ sym (ap (λ (b : Bool). choose b 0 1) (same-refl (labelIn old i))));
+    marked = z ∙ is-table (replicate (limits .numbers + 1) 0) (limits .numbers + 1) (markOf old old) 0 (length-replicate {A = ℕ} (limits .numbers + 1) 0)
+        (λ i p. getD-replicate {A = ℕ} (limits .numbers + 1) i 0 0 p ∙ sym (ap (λ (b : Bool). choose b 0 1) (same-refl (labelIn old i))));
     short = λ j p. absurd (omega arith);
   }
 
-  module _ (later counts marks : List ℕ) (hi i : ℕ) (inv : Relabelling later counts marks hi i) (few : h .assumptions + h .claims ≤ 128) (less : i < h .assumptions + h .claims) (hi′ : ℕ) (on : hi′ ≡ below (saidBy h) (i + 1 + 1)) where
+  module _ (later counts marks : List ℕ) (hi i : ℕ) (inv : Relabelling later counts marks hi i) (few : h .assumptions + h .claims ≤ limits .numbers) (less : i < h .assumptions + h .claims) (hi′ : ℕ) (on : hi′ ≡ below (saidBy h) (i + 1 + 1)) where
     there : i < length new
     there = omega (arith, stage-length (h .assumptions) N (saidBy h) (k + 1))
 
-    pub relabelling-kept : getD (stageBy h (k + 1) .labels) i [] ≡ getD (stageBy h k .labels) i [] → length (getD (stageBy h k .labels) i []) ≤ 12 → Relabelling later counts marks hi′ (i + 1)
+    pub relabelling-kept : getD (stageBy h (k + 1) .labels) i [] ≡ getD (stageBy h k .labels) i [] → length (getD (stageBy h k .labels) i []) ≤ limits .label → Relabelling later counts marks hi′ (i + 1)
     relabelling-kept e s = record {
       low = omega arith;
       part = on;
@@ -77,7 +78,7 @@ module _ (h : Held) (k : ℕ) where
       short = short-on (stageBy h (k + 1)) i (omega (arith, ap length e)) (inv .short);
     }
 
-    pub relabelling-put : (label : Built) → label .count ≡ length (getD (stageBy h (k + 1) .labels) i []) → label .sets ≡ padded 0 32 (getD (stageBy h (k + 1) .labels) i []) → length (getD (stageBy h (k + 1) .labels) i []) ≤ 12
+    pub relabelling-put : (label : Built) → label .count ≡ length (getD (stageBy h (k + 1) .labels) i []) → label .sets ≡ padded 0 (limits .nogoods) (getD (stageBy h (k + 1) .labels) i []) → length (getD (stageBy h (k + 1) .labels) i []) ≤ limits .label
         → (o : List ℕ) → o ≡ getD (stageBy h k .labels) i [] → (later′ counts′ marks′ : List ℕ) → Put (sameSets (take (label .count) (label .sets)) o) i label later counts marks later′ counts′ marks′ → Relabelling later′ counts′ marks′ hi′ (i + 1)
     relabelling-put label c s few′ o oe later′ counts′ marks′ p = go (sameSets X (getD old i [])) refl
       where
@@ -98,7 +99,7 @@ module _ (h : Held) (k : ℕ) where
               low = omega arith;
               part = on;
               sizes = sizes-kept old new i there e counts′ (p .1 ∙ at counts (set counts i (label .count)) ∙ inv .sizes);
-              members = members-kept old new i there e later′ (p .0 ∙ at later (paste later (12 * i) (label .sets) 12) ∙ inv .members);
+              members = members-kept old new i there e later′ (p .0 ∙ at later (paste later (limits .label * i) (label .sets) (limits .label)) ∙ inv .members);
               marked = marks-kept old new i there e marks′ (p .2 ∙ at marks (set marks (i + 1) 1) ∙ inv .marked);
               short = short-on (stageBy h (k + 1)) i few′ (inv .short);
             }
@@ -108,13 +109,13 @@ module _ (h : Held) (k : ℕ) where
               low = omega arith;
               part = on;
               sizes = p .1 ∙ at counts (set counts i (label .count)) ∙ sizes-written old new i there (omega arith) counts (inv .sizes) (label .count) c;
-              members = members-written old new i there (omega arith) later (inv .members) (label .sets) s later′ (p .0 ∙ at later (paste later (12 * i) (label .sets) 12));
+              members = members-written old new i there (omega arith) later (inv .members) (label .sets) s later′ (p .0 ∙ at later (paste later (limits .label * i) (label .sets) (limits .label)));
               marked = p .2 ∙ at marks (set marks (i + 1) 1) ∙ marks-written old new i there (omega arith) q marks (inv .marked);
               short = short-on (stageBy h (k + 1)) i few′ (inv .short);
             }
 
-  pub relabelling-lengths : (later counts marks : List ℕ) (hi i : ℕ) → Relabelling later counts marks hi i → (length later ≡ 1536) × (length counts ≡ 128) × (length marks ≡ 129)
-  relabelling-lengths later counts marks hi i inv = (ap length (inv .members) ∙ length-table 1536 _, ap length (inv .sizes) ∙ length-table 128 _, ap length (inv .marked) ∙ length-table 129 _)
+  pub relabelling-lengths : (later counts marks : List ℕ) (hi i : ℕ) → Relabelling later counts marks hi i → (length later ≡ limits .numbers * limits .label) × (length counts ≡ limits .numbers) × (length marks ≡ limits .numbers + 1)
+  relabelling-lengths later counts marks hi i inv = (ap length (inv .members) ∙ length-table (limits .numbers * limits .label) _, ap length (inv .sizes) ∙ length-table (limits .numbers) _, ap length (inv .marked) ∙ length-table (limits .numbers + 1) _)
 
   pub relabelling-end : (later counts marks : List ℕ) (hi i : ℕ) → Relabelling later counts marks hi i → h .assumptions + h .claims ≤ i → Relabelled h k later counts marks 0
   relabelling-end later counts marks hi i inv p =
@@ -123,9 +124,9 @@ module _ (h : Held) (k : ℕ) where
       let e : mixed old new i ≡ new = mixed-all old new i (omega arith) (omega arith) in
       record {
         over = over-none h k i (inv .short) (omega arith);
-        members-are = λ z. inv .members ∙ ap (λ (x : List (List ℕ)). table 1536 (member x)) e ∙ members-placed (k + 1) (stageBy h (k + 1));
-        sizes-are = λ z. inv .sizes ∙ ap (λ (x : List (List ℕ)). table 128 (size x)) e ∙ sizes-placed (k + 1) (stageBy h (k + 1));
-        marks-are = λ z. inv .marked ∙ ap (λ (x : List (List ℕ)). table 129 (markOf old x)) e;
+        members-are = λ z. inv .members ∙ ap (λ (x : List (List ℕ)). table (limits .numbers * limits .label) (member x)) e ∙ members-placed (k + 1) (stageBy h (k + 1));
+        sizes-are = λ z. inv .sizes ∙ ap (λ (x : List (List ℕ)). table (limits .numbers) (size x)) e ∙ sizes-placed (k + 1) (stageBy h (k + 1));
+        marks-are = λ z. inv .marked ∙ ap (λ (x : List (List ℕ)). table (limits .numbers + 1) (markOf old x)) e;
       }
 
 -- the old label, as it lies

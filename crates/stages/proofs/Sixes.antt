@@ -14,6 +14,7 @@ use Rattle.rules.specs.declared.Entry.{Entry}
 use Rattle.rules.specs.declared.Held.{Held}
 use Rattle.stages.specs.Judged.{Judgeable}
 use Rattle.theory.proofs.Places.{is-table}
+use Rattle.theory.specs.Limits.{limits}
 
 -- six bytes written from a place on
 abbrev pub six : List ℕ → ℕ → ℕ → ℕ → ℕ → ℕ → ℕ → ℕ → List ℕ
@@ -94,14 +95,14 @@ entry-of : ℕ → ℕ → ℕ → ℕ → ℕ → ℕ → Entry
 entry-of a b c d e f = record { consequent = a; count = b; supports = c ∷ d ∷ e ∷ f ∷ [] }
 
 -- one more is laid
-module _ (l : List ℕ) (j : ℕ) (E : ℕ → Entry) (long : length l ≡ 1536) (h : j < 256) (wide : length (E j .supports) ≡ 4) (so : (k : ℕ) → k < j → entryAt l k ≡ E k) where
+module _ (l : List ℕ) (j : ℕ) (E : ℕ → Entry) (long : length l ≡ limits .held * (limits .supports + 2)) (h : j < limits .held) (wide : length (E j .supports) ≡ 4) (so : (k : ℕ) → k < j → entryAt l k ≡ E k) where
   abbrev next : List ℕ
   next = six l (6 * j) (E j .consequent) (E j .count) (getD (E j .supports) 0 0) (getD (E j .supports) 1 0) (getD (E j .supports) 2 0) (getD (E j .supports) 3 0)
 
   room : 6 * j + 5 < length l
   room = omega arith
 
-  pub laid-long : length next ≡ 1536
+  pub laid-long : length next ≡ limits .held * (limits .supports + 2)
   laid-long = six-long l (6 * j) _ _ _ _ _ _ room ∙ long
 
   same-six : {a b c d e f a′ b′ c′ d′ e′ f′ : ℕ} → a ≡ a′ → b ≡ b′ → c ≡ c′ → d ≡ d′ → e ≡ e′ → f ≡ f′ → entry-of a b c d e f ≡ entry-of a′ b′ c′ d′ e′ f′
@@ -127,6 +128,6 @@ module _ (l : List ℕ) (j : ℕ) (E : ℕ → Entry) (long : length l ≡ 1536)
   ]
 
 -- all are
-pub laid-all : (l : List ℕ) (entries : List Entry) → length entries ≡ 256 → ((k : ℕ) → k < 256 → entryAt l k ≡ getD entries k beyond) → entriesOf l ≡ entries
+pub laid-all : (l : List ℕ) (entries : List Entry) → length entries ≡ limits .held → ((k : ℕ) → k < limits .held → entryAt l k ≡ getD entries k beyond) → entriesOf l ≡ entries
 unfolding entriesOf
-laid-all l entries long so = sym (is-table entries 256 (entryAt l) beyond long (λ k h. sym (so k h)))
+laid-all l entries long so = sym (is-table entries (limits .held) (entryAt l) beyond long (λ k h. sym (so k h)))

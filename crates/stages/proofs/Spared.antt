@@ -22,6 +22,7 @@ use Rattle.stages.proofs.Tables.{replicate-table}
 use Rattle.stages.specs.Steps.{Reached, Stale, sparedOf, stageBy}
 use Rattle.stages.specs.declared.Lists.{Lists}
 use Rattle.theory.proofs.Depth.{count-all}
+use Rattle.theory.specs.Limits.{limits}
 use Rattle.theory.specs.Lists.{keep, those}
 use Rattle.theory.specs.Places.{padded}
 use Rattle.theory.specs.Sets.{contains}
@@ -31,20 +32,20 @@ use Rattle.theory.specs.Step.{labelIn}
 pub record Left (list struck sets : List ℕ) (count i : ℕ) : Type 0 where
   pub inside : i ≤ length list
   pub counted : count ≡ length (sparedOf struck (take i list))
-  pub lie : sets ≡ padded 0 32 (sparedOf struck (take i list))
+  pub lie : sets ≡ padded 0 (limits .nogoods) (sparedOf struck (take i list))
 
 left-few : (struck list : List ℕ) → length (sparedOf struck list) ≤ length list
 left-few struck list = count-all (λ E. not (contains struck E)) list
 
-pub left-none : (list struck : List ℕ) → Left list struck (replicate 32 0) 0 0
+pub left-none : (list struck : List ℕ) → Left list struck (replicate (limits .nogoods) 0) 0 0
 unfolding those padded
-left-none list struck = record { inside = omega arith; counted = omega arith; lie = replicate-table 32 0 }
+left-none list struck = record { inside = omega arith; counted = omega arith; lie = replicate-table (limits .nogoods) 0 }
 
 module _ (list struck sets : List ℕ) (count i : ℕ) (l : Left list struck sets count i) where
-  pub left-long : length sets ≡ 32
-  left-long = ap length (l .lie) ∙ length-padded 0 32 (sparedOf struck (take i list))
+  pub left-long : length sets ≡ limits .nogoods
+  left-long = ap length (l .lie) ∙ length-padded 0 (limits .nogoods) (sparedOf struck (take i list))
 
-  pub left-room : i < length list → length list ≤ 32 → count < 32
+  pub left-room : i < length list → length list ≤ limits .nogoods → count < limits .nogoods
   left-room h few = omega (arith, l .counted, left-few struck (take i list), length-take i list)
 
   module _ (h : i < length list) (r : ℕ) (first : r ≡ firstWithin struck (getD list i 0)) where
@@ -54,7 +55,7 @@ module _ (list struck sets : List ℕ) (count i : ℕ) (l : Left list struck set
         ap (λ (n : ℕ). sparedOf struck (take n list)) (add-one i) ∙ ap (sparedOf struck) (take-suc list i 0 h)
         ∙ those-append (λ E. not (contains struck E)) (take i list) (getD list i 0 ∷ []) ∙ ap (λ (c : Bool). sparedOf struck (take i list) ++ keep c (getD list i 0) []) e
 
-    pub left-more : length list ≤ 32 → r ≡ length struck → Left list struck (set sets count (getD list i 0)) (count + 1) (i + 1)
+    pub left-more : length list ≤ limits .nogoods → r ≡ length struck → Left list struck (set sets count (getD list i 0)) (count + 1) (i + 1)
     left-more few e =
         let m : sparedOf struck (take (i + 1) list) ≡ sparedOf struck (take i list) ++ getD list i 0 ∷ [] =
         more true (ap not (contains-first struck (getD list i 0) ∙ le-ltb (firstWithin struck (getD list i 0)) (length struck) (omega arith))) in
@@ -62,25 +63,25 @@ module _ (list struck sets : List ℕ) (count i : ℕ) (l : Left list struck set
           inside = omega arith;
           counted = omega (arith, l .counted, ap length m, length-append (sparedOf struck (take i list)) (getD list i 0 ∷ []));
           lie = ap₂ (λ (x : List ℕ) (n : ℕ). set x n (getD list i 0)) (l .lie) (l .counted)
-              ∙ padded-push (sparedOf struck (take i list)) 32 (getD list i 0) (omega (arith, l .counted, left-room h few)) ∙ ap (padded 0 32) (sym m);
+              ∙ padded-push (sparedOf struck (take i list)) (limits .nogoods) (getD list i 0) (omega (arith, l .counted, left-room h few)) ∙ ap (padded 0 (limits .nogoods)) (sym m);
         }
 
     pub left-on : (r ≡ length struck → ⊥) → Left list struck sets count (i + 1)
     left-on d =
         let m : sparedOf struck (take (i + 1) list) ≡ sparedOf struck (take i list) =
         more false (ap not (contains-first struck (getD list i 0) ∙ lt-ltb (firstWithin struck (getD list i 0)) (length struck) (short d (first-most struck (getD list i 0))))) ∙ append-nil (sparedOf struck (take i list)) in
-        record { inside = omega arith; counted = l .counted ∙ ap length (sym m); lie = l .lie ∙ ap (padded 0 32) (sym m) }
+        record { inside = omega arith; counted = l .counted ∙ ap length (sym m); lie = l .lie ∙ ap (padded 0 (limits .nogoods)) (sym m) }
       where
         short : (r ≡ length struck → ⊥) → firstWithin struck (getD list i 0) ≤ length struck → firstWithin struck (getD list i 0) < length struck
         short d m = omega arith
 
-  pub left-all : length list ≤ 32 → length list ≤ i → _≡_ {A = Built} (record { count = count; sets = sets }) (builtOf 32 (sparedOf struck list))
+  pub left-all : length list ≤ limits .nogoods → length list ≤ i → _≡_ {A = Built} (record { count = count; sets = sets }) (builtOf (limits .nogoods) (sparedOf struck list))
   unfolding builtOf
   left-all few h =
       let X : List ℕ = sparedOf struck list in
       let e : sparedOf struck (take i list) ≡ X = ap (sparedOf struck) (take-all i list h) in
       ap₂ (λ (n : ℕ) (s : List ℕ). record { count = n; sets = s }) (l .counted ∙ ap length e)
-      (l .lie ∙ ap (padded 0 32) (e ∙ sym (take-all 32 X (omega (arith, left-few struck list)))))
+      (l .lie ∙ ap (padded 0 (limits .nogoods)) (e ∙ sym (take-all (limits .nogoods) X (omega (arith, left-few struck list)))))
 
 -- where the two ways meet
 pub left-came : (list struck : List ℕ) {sets sets′ : List ℕ} {count count′ : ℕ} (i : ℕ) → sets ≡ sets′ → count ≡ count′ → Left list struck sets′ count′ i → Left list struck sets count i
@@ -94,21 +95,21 @@ module _ (h : Held) (l : Lists) (re : Reached h l) (stale : List ℕ) (f : Stale
   struck-next : next ≡ sparedOf (stageBy h (l .depth + 1) .nogoods) (getD (stageBy h (l .depth) .labels) i [])
   struck-next = label-struck h (re .judgeable) (l .depth) stale f i low z
 
-  pub struck-short : length next ≤ 12
+  pub struck-short : length next ≤ limits .label
   struck-short = omega (arith, ap length struck-next, left-few (stageBy h (l .depth + 1) .nogoods) (getD (stageBy h (l .depth) .labels) i []), room-short (stageBy h (l .depth)) (re .room) i)
 
-  module _ (struck : List ℕ) (se : struck ≡ stageBy h (l .depth + 1) .nogoods) (old : List ℕ) (oe : old ≡ lying (l .members) (l .sizes) (i + 1)) (r : Built) (e : r ≡ builtOf 32 (sparedOf struck old)) where
-    struck-is : r ≡ builtOf 32 next
+  module _ (struck : List ℕ) (se : struck ≡ stageBy h (l .depth + 1) .nogoods) (old : List ℕ) (oe : old ≡ lying (l .members) (l .sizes) (i + 1)) (r : Built) (e : r ≡ builtOf (limits .nogoods) (sparedOf struck old)) where
+    struck-is : r ≡ builtOf (limits .nogoods) next
     unfolding labelIn
     struck-is =
         let o : old ≡ getD (stageBy h (l .depth) .labels) i [] =
         oe ∙ lies (l .depth) (stageBy h (l .depth)) (re .room) l (re .is) (i + 1) (omega (arith, wide h (re .judgeable))) ∙ ap (labelIn (stageBy h (l .depth) .labels)) (add-one i) in
-        e ∙ ap (builtOf 32) (ap₂ sparedOf se o ∙ sym struck-next)
+        e ∙ ap (builtOf (limits .nogoods)) (ap₂ sparedOf se o ∙ sym struck-next)
 
     pub struck-count : r .count ≡ length next
     unfolding builtOf
     struck-count = ap (λ (b : Built). b .count) struck-is
 
-    pub struck-sets : r .sets ≡ padded 0 32 next
+    pub struck-sets : r .sets ≡ padded 0 (limits .nogoods) next
     unfolding builtOf
-    struck-sets = ap (λ (b : Built). b .sets) struck-is ∙ ap (padded 0 32) (take-all 32 next (omega (arith, struck-short)))
+    struck-sets = ap (λ (b : Built). b .sets) struck-is ∙ ap (padded 0 (limits .nogoods)) (take-all (limits .nogoods) next (omega (arith, struck-short)))

@@ -23,51 +23,52 @@ use Rattle.theory.proofs.Judgement.{long-none, stage-label, stage-label-none, s
 use Rattle.theory.proofs.Places.{getD-table, length-table}
 use Rattle.theory.proofs.Start.{label-zero, label-zero-above, nogoods-zero}
 use Rattle.theory.specs.Judge.{Stage, labelLong, nogoodsLong, stageAt}
+use Rattle.theory.specs.Limits.{limits}
 use Rattle.theory.specs.Places.{padded, table}
 use Rattle.theory.specs.Sets.{alone}
 use Rattle.theory.specs.Stages.{Justification}
 use Rattle.theory.specs.Step.{labelIn}
 
-pub room-few : (s : Stage) → Room s → length (s .nogoods) ≤ 32
+pub room-few : (s : Stage) → Room s → length (s .nogoods) ≤ limits .nogoods
 unfolding nogoodsLong
-room-few s r = ltb-false 32 (length (s .nogoods)) (r .few)
+room-few s r = ltb-false (limits .nogoods) (length (s .nogoods)) (r .few)
 
-pub room-short : (s : Stage) → Room s → (i : ℕ) → length (getD (s .labels) i []) ≤ 12
+pub room-short : (s : Stage) → Room s → (i : ℕ) → length (getD (s .labels) i []) ≤ limits .label
 unfolding labelLong
-room-short s r i = long-none 12 0 (s .labels) (r .short) i
+room-short s r i = long-none (limits .label) 0 (s .labels) (r .short) i
 
 module _ (d : ℕ) (s : Stage) (room : Room s) (l : Lists) (is : l ≡ listsOf d s) where
-  pub sizes-are : l .sizes ≡ table 128 (size (s .labels))
+  pub sizes-are : l .sizes ≡ table (limits .numbers) (size (s .labels))
   unfolding listsOf
   sizes-are = ap (λ (x : Lists). x .sizes) is
 
-  pub members-are : l .members ≡ table 1536 (member (s .labels))
+  pub members-are : l .members ≡ table (limits .numbers * limits .label) (member (s .labels))
   unfolding listsOf
   members-are = ap (λ (x : Lists). x .members) is
 
-  sizes-at : (i : ℕ) → i < 128 → getD (l .sizes) i 0 ≡ length (getD (s .labels) i [])
-  sizes-at i h = ap (λ (x : List ℕ). getD x i 0) sizes-are ∙ getD-table 128 (size (s .labels)) i 0 h
+  sizes-at : (i : ℕ) → i < limits .numbers → getD (l .sizes) i 0 ≡ length (getD (s .labels) i [])
+  sizes-at i h = ap (λ (x : List ℕ). getD x i 0) sizes-are ∙ getD-table (limits .numbers) (size (s .labels)) i 0 h
 
-  members-at : (i : ℕ) → i < 1536 → getD (l .members) i 0 ≡ getD (getD (s .labels) (i / 12) []) (i % 12) 0
-  members-at i h = ap (λ (x : List ℕ). getD x i 0) members-are ∙ getD-table 1536 (member (s .labels)) i 0 h
+  members-at : (i : ℕ) → i < limits .numbers * limits .label → getD (l .members) i 0 ≡ getD (getD (s .labels) (i / limits .label) []) (i % limits .label) 0
+  members-at i h = ap (λ (x : List ℕ). getD x i 0) members-are ∙ getD-table (limits .numbers * limits .label) (member (s .labels)) i 0 h
 
-  sizes-long : length (l .sizes) ≡ 128
-  sizes-long = ap length sizes-are ∙ length-table 128 (size (s .labels))
+  sizes-long : length (l .sizes) ≡ limits .numbers
+  sizes-long = ap length sizes-are ∙ length-table (limits .numbers) (size (s .labels))
 
-  members-long : length (l .members) ≡ 1536
-  members-long = ap length members-are ∙ length-table 1536 (member (s .labels))
+  members-long : length (l .members) ≡ limits .numbers * limits .label
+  members-long = ap length members-are ∙ length-table (limits .numbers * limits .label) (member (s .labels))
 
   pub layout : Layout (l .members) (l .sizes)
   layout = record {
     members-length = members-long;
     sizes-length = sizes-long;
-    sizes-small = λ i. elim (decLt i 128) [
+    sizes-small = λ i. elim (decLt i (limits .numbers)) [
       | yes h ↦ omega (arith, sizes-at i h, room-short s room i)
       | no h ↦ (let e : getD (l .sizes) i 0 ≡ 0 = List·getD-eq-default (l .sizes) 0 {n = i} (omega (arith, sizes-long)) in omega arith)
     ];
   }
 
-  label-lies : (i : ℕ) → i < 128 → lying (l .members) (l .sizes) (suc i) ≡ getD (s .labels) i []
+  label-lies : (i : ℕ) → i < limits .numbers → lying (l .members) (l .sizes) (suc i) ≡ getD (s .labels) i []
   label-lies i h =
       let c : List ℕ = lying (l .members) (l .sizes) (suc i) in
       let X : List ℕ = getD (s .labels) i [] in
@@ -75,26 +76,26 @@ module _ (d : ℕ) (s : Stage) (room : Room s) (l : Lists) (is : l ≡ listsOf d
       let lc : length c ≡ getD (l .sizes) i 0 = lying-length (l .members) (l .sizes) layout (suc i) (omega arith) (omega arith) ∙ ap (λ (x : ℕ). getD (l .sizes) x 0) p in
       ext-getD 0 c X (lc ∙ sizes-at i h)
       (λ k q.
-      let b : k < 12 = omega (arith, sizes-at i h, room-short s room i) in
-      let dv : (12 * i + k) / 12 ≡ i = omega arith in
-      let rm : (12 * i + k) % 12 ≡ k = omega arith in
+      let b : k < limits .label = omega (arith, sizes-at i h, room-short s room i) in
+      let dv : (limits .label * i + k) / limits .label ≡ i = omega arith in
+      let rm : (limits .label * i + k) % limits .label ≡ k = omega arith in
       let small : k < getD (l .sizes) (suc i - 1) 0 = omega (arith, ap (λ (x : ℕ). getD (l .sizes) x 0) p) in
-      lying-at (l .members) (l .sizes) layout (suc i) k (omega arith) small ∙ ap (λ (x : ℕ). getD (l .members) (12 * x + k) 0) p
-      ∙ members-at (12 * i + k) (omega arith) ∙ ap₂ (λ (x y : ℕ). getD (getD (s .labels) x []) y 0) dv rm)
+      lying-at (l .members) (l .sizes) layout (suc i) k (omega arith) small ∙ ap (λ (x : ℕ). getD (l .members) (limits .label * x + k) 0) p
+      ∙ members-at (limits .label * i + k) (omega arith) ∙ ap₂ (λ (x y : ℕ). getD (getD (s .labels) x []) y 0) dv rm)
 
   -- each label as it lies is that of the stage
-  pub lies : (n : ℕ) → n ≤ 128 → lying (l .members) (l .sizes) n ≡ labelIn (s .labels) n
+  pub lies : (n : ℕ) → n ≤ limits .numbers → lying (l .members) (l .sizes) n ≡ labelIn (s .labels) n
   unfolding labelIn lying
   lies zero h = refl
   lies (suc i) h = label-lies i h
 
-  pub nogoods-few : l .count ≤ 32
+  pub nogoods-few : l .count ≤ limits .nogoods
   unfolding listsOf
   nogoods-few = let e : l .count ≡ length (s .nogoods) = ap (λ (x : Lists). x .count) is in omega (arith, room-few s room)
 
-  pub nogoods-long : length (l .nogoods) ≡ 32
+  pub nogoods-long : length (l .nogoods) ≡ limits .nogoods
   unfolding listsOf
-  nogoods-long = ap (λ (x : Lists). length (x .nogoods)) is ∙ length-padded 0 32 (s .nogoods)
+  nogoods-long = ap (λ (x : Lists). length (x .nogoods)) is ∙ length-padded 0 (limits .nogoods) (s .nogoods)
 
   pub nogoods-listed : Listed (s .nogoods) (l .count) (l .nogoods)
   unfolding listsOf
@@ -102,31 +103,31 @@ module _ (d : ℕ) (s : Stage) (room : Room s) (l : Lists) (is : l ≡ listsOf d
 
   pub nogoods-lie : take (l .count) (l .nogoods) ≡ s .nogoods
   unfolding listsOf
-  nogoods-lie = ap (λ (x : Lists). take (x .count) (x .nogoods)) is ∙ unpadded 0 32 (s .nogoods) (room-few s room)
+  nogoods-lie = ap (λ (x : Lists). take (x .count) (x .nogoods)) is ∙ unpadded 0 (limits .nogoods) (s .nogoods) (room-few s room)
 
 -- the nogoods as they are listed
-pub listed-long : (X : List ℕ) (count : ℕ) (places : List ℕ) → Listed X count places → length places ≡ 32
-listed-long X count places n = ap length (n .lie) ∙ length-padded 0 32 X
+pub listed-long : (X : List ℕ) (count : ℕ) (places : List ℕ) → Listed X count places → length places ≡ limits .nogoods
+listed-long X count places n = ap length (n .lie) ∙ length-padded 0 (limits .nogoods) X
 
-pub listed-few : (X : List ℕ) (count : ℕ) (places : List ℕ) → Listed X count places → length X ≤ 32
+pub listed-few : (X : List ℕ) (count : ℕ) (places : List ℕ) → Listed X count places → length X ≤ limits .nogoods
 listed-few X count places n = omega (arith, n .counted, n .few)
 
 pub listed-taken : (X : List ℕ) (count : ℕ) (places : List ℕ) → Listed X count places → take count places ≡ X
-listed-taken X count places n = ap₂ (λ (c : ℕ) (l : List ℕ). take c l) (n .counted) (n .lie) ∙ unpadded 0 32 X (omega (arith, n .counted, n .few))
+listed-taken X count places n = ap₂ (λ (c : ℕ) (l : List ℕ). take c l) (n .counted) (n .lie) ∙ unpadded 0 (limits .nogoods) X (omega (arith, n .counted, n .few))
 
 -- the part of the members that label i + 1 takes
-pub olds-lie : (olds members sizes : List ℕ) (i : ℕ) → olds ≡ members → take (12 * i + getD sizes i 0 - 12 * i) (drop (12 * i) olds) ≡ lying members sizes (i + 1)
+pub olds-lie : (olds members sizes : List ℕ) (i : ℕ) → olds ≡ members → take (limits .label * i + getD sizes i 0 - limits .label * i) (drop (limits .label * i) olds) ≡ lying members sizes (i + 1)
 unfolding lying
 olds-lie olds members sizes i same =
-    let e : 12 * i + getD sizes i 0 - 12 * i ≡ getD sizes i 0 = omega arith in
-    ap₂ (λ (n : ℕ) (l : List ℕ). take n (drop (12 * i) l)) e same ∙ ap (lying members sizes) (sym (add-one i))
+    let e : limits .label * i + getD sizes i 0 - limits .label * i ≡ getD sizes i 0 = omega arith in
+    ap₂ (λ (n : ℕ) (l : List ℕ). take n (drop (limits .label * i) l)) e same ∙ ap (lying members sizes) (sym (add-one i))
 
 -- ---- no lists
 
-pub no-lists : (reply : Reply) → _≡_ {A = Judged} (record { reply = reply; lists = record { sizes = replicate 128 0; members = replicate 1536 0; count = 0; nogoods = replicate 32 0; depth = 0 } }) (refusal reply)
+pub no-lists : (reply : Reply) → _≡_ {A = Judged} (record { reply = reply; lists = record { sizes = replicate (limits .numbers) 0; members = replicate (limits .numbers * limits .label) 0; count = 0; nogoods = replicate (limits .nogoods) 0; depth = 0 } }) (refusal reply)
 unfolding noLists
 no-lists reply =
-    ap₂ (λ (z m : List ℕ). filled z m (replicate 32 0)) (replicate-table 128 0) (replicate-table 1536 0) ∙ ap (filled (table 128 (λ i. 0)) (table 1536 (λ i. 0))) (replicate-table 32 0)
+    ap₂ (λ (z m : List ℕ). filled z m (replicate (limits .nogoods) 0)) (replicate-table (limits .numbers) 0) (replicate-table (limits .numbers * limits .label) 0) ∙ ap (filled (table (limits .numbers) (λ i. 0)) (table (limits .numbers * limits .label) (λ i. 0))) (replicate-table (limits .nogoods) 0)
   where
     filled : List ℕ → List ℕ → List ℕ → Judged
     filled z m n = record { reply = reply; lists = record { sizes = z; members = m; count = 0; nogoods = n; depth = 0 } }
@@ -137,20 +138,20 @@ abbrev alones : ℕ → List (List ℕ)
 alones n = table n (λ i. alone (suc i) ∷ [])
 
 abbrev pub sizesTo : ℕ → List ℕ
-sizesTo n = table 128 (size (alones n))
+sizesTo n = table (limits .numbers) (size (alones n))
 
 abbrev pub membersTo : ℕ → List ℕ
-membersTo n = table 1536 (member (alones n))
+membersTo n = table (limits .numbers * limits .label) (member (alones n))
 
-pub sizes-none : replicate 128 0 ≡ sizesTo 0
+pub sizes-none : replicate (limits .numbers) 0 ≡ sizesTo 0
 unfolding table
-sizes-none = replicate-table 128 0
+sizes-none = replicate-table (limits .numbers) 0
 
-pub members-none : replicate 1536 0 ≡ membersTo 0
+pub members-none : replicate (limits .numbers * limits .label) 0 ≡ membersTo 0
 unfolding table
-members-none = replicate-table 1536 0
+members-none = replicate-table (limits .numbers * limits .label) 0
 
-module _ (n : ℕ) (low : n < 128) where
+module _ (n : ℕ) (low : n < limits .numbers) where
   alone-here : getD (alones (n + 1)) n [] ≡ alone (suc n) ∷ []
   alone-here = getD-table (n + 1) (λ i. alone (suc i) ∷ []) n [] (omega arith)
 
@@ -168,17 +169,17 @@ module _ (n : ℕ) (low : n < 128) where
   pub sizes-more : (l : List ℕ) → l ≡ sizesTo n → set l n 1 ≡ sizesTo (n + 1)
   sizes-more l e = ap (λ (x : List ℕ). set x n 1) e ∙ write-size (alones n) (alones (n + 1)) n low (alone (suc n) ∷ []) alone-here alone-others
 
-  pub members-more : (l : List ℕ) → l ≡ membersTo n → (v : ℕ) → v ≡ alone (n + 1) → set l (12 * n) v ≡ membersTo (n + 1)
+  pub members-more : (l : List ℕ) → l ≡ membersTo n → (v : ℕ) → v ≡ alone (n + 1) → set l (limits .label * n) v ≡ membersTo (n + 1)
   members-more l e v w =
-      ap₂ (λ (x : List ℕ) (y : ℕ). set x (12 * n) y) e (w ∙ ap alone (add-one n))
+      ap₂ (λ (x : List ℕ) (y : ℕ). set x (limits .label * n) y) e (w ∙ ap alone (add-one n))
       ∙ write-one (alones n) (alones (n + 1)) n low (alone (suc n) ∷ []) alone-here alone-others (alone (suc n)) refl
       (List·getD-eq-default (alones n) [] {n = n} (omega (arith, length-table n (λ i. alone (suc i) ∷ []))))
 
-pub start-made : (A n : ℕ) (sizes members nogoods : List ℕ) → n ≡ A → sizes ≡ sizesTo n → members ≡ membersTo n → nogoods ≡ replicate 32 0
+pub start-made : (A n : ℕ) (sizes members nogoods : List ℕ) → n ≡ A → sizes ≡ sizesTo n → members ≡ membersTo n → nogoods ≡ replicate (limits .nogoods) 0
     → _≡_ {A = Lists} (record { sizes = sizes; members = members; count = 0; nogoods = nogoods; depth = 0 }) (listsOf 0 (firstStage A))
 unfolding listsOf firstStage padded
 start-made A n sizes members nogoods e s m g =
-    ap₂ (λ (z x : List ℕ). filled z x nogoods) (s ∙ ap sizesTo e) (m ∙ ap membersTo e) ∙ ap (filled (sizesTo A) (membersTo A)) (g ∙ replicate-table 32 0)
+    ap₂ (λ (z x : List ℕ). filled z x nogoods) (s ∙ ap sizesTo e) (m ∙ ap membersTo e) ∙ ap (filled (sizesTo A) (membersTo A)) (g ∙ replicate-table (limits .nogoods) 0)
   where
     filled : List ℕ → List ℕ → List ℕ → Lists
     filled z x n = record { sizes = z; members = x; count = 0; nogoods = n; depth = 0 }

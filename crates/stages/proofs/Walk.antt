@@ -71,7 +71,7 @@ module _ (k : ℕ) (s : Stage) (r : Judged) (is : r ≡ fitted k s) where
       go false zero e = ap (λ (x : Judged). x .reply) e
 
 -- ---- the stages T, each with N labels, which agree from stage e on
-module _ (T : ℕ → Stage) (N : ℕ) (wide : N ≤ 128) (long : (k : ℕ) → length (T k .labels) ≡ N) (e : ℕ) (last : (k : ℕ) → e ≤ k → agree (T k) (T (suc k)) ≡ true) where
+module _ (T : ℕ → Stage) (N : ℕ) (wide : N ≤ limits .numbers) (long : (k : ℕ) → length (T k .labels) ≡ N) (e : ℕ) (last : (k : ℕ) → e ≤ k → agree (T k) (T (suc k)) ≡ true) where
   -- what the stages from k on say
   abbrev from : ℕ → Verdict
   from k = course limits T e k
@@ -129,19 +129,19 @@ most h = length (consequents (saidBy h))
 abbrev pub fromStage : Held → ℕ → Verdict
 fromStage h k = course limits (stageBy h) (most h) k
 
-module _ (h : Held) (ok : Judgeable h) where
+module _ (h : Held) (ok : Judgeable (limits .assumptions) h) where
   abbrev A : ℕ
   A = h .assumptions
 
   -- at most 129: falsity and the numbers up to 128
-  most-few : most h ≤ 129
+  most-few : most h ≤ limits .numbers + 1
   most-few = omega (arith, consequents-few (A + h .claims) (saidBy h) (λ j m. right-range h (ok .right) j m .low), wide h ok)
 
   room-zero : Room (stageBy h 0)
   unfolding nogoodsLong labelLong
   room-zero = record {
-    few = let e : length (stageBy h 0 .nogoods) ≡ 0 = ap length (stage-nogoods A (A + h .claims) (saidBy h) 0 ∙ nogoods-zero A (saidBy h)) in le-ltb 32 (length (stageBy h 0 .nogoods)) (omega arith);
-    short = lowest-none 12 1 (stageBy h 0 .labels) (λ i p.
+    few = let e : length (stageBy h 0 .nogoods) ≡ 0 = ap length (stage-nogoods A (A + h .claims) (saidBy h) 0 ∙ nogoods-zero A (saidBy h)) in le-ltb (limits .nogoods) (length (stageBy h 0 .nogoods)) (omega arith);
+    short = lowest-none (limits .label) 1 (stageBy h 0 .labels) (λ i p.
         let q : i < A + h .claims = omega (arith, stage-length A (A + h .claims) (saidBy h) 0) in
         let e : length (getD (stageBy h 0 .labels) i []) ≡ length (labelAt A (saidBy h) 0 (suc i)) = ap length (stage-label A (A + h .claims) (saidBy h) 0 i q) in
         elim (decLt i A) [

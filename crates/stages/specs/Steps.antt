@@ -44,12 +44,12 @@ pub record Room (s : Stage) : Type 0 where
   pub few : nogoodsLong limits s ≡ false
   pub short : labelLong limits s ≡ zero
 
--- the lists are those of their stage, none is over, and the stage is 129 at most
+-- the lists are those of their stage, none is over, and the stage is one above the highest number at most
 pub record Reached (h : Held) (l : Lists) : Type 0 where
-  pub judgeable : Judgeable h
+  pub judgeable : Judgeable (limits .assumptions) h
   pub is : l ≡ listsOf (l .depth) (stageBy h (l .depth))
   pub room : Room (stageBy h (l .depth))
-  pub low : l .depth ≤ 129
+  pub low : l .depth ≤ limits .numbers + 1
 
 -- lists by their places
 abbrev pub lists : List ℕ → List ℕ → ℕ → List ℕ → ℕ → Lists
@@ -68,7 +68,7 @@ pub record Relabelled (h : Held) (k : ℕ) (members sizes marks : List ℕ) (r :
   pub over : r ≡ labelLong limits (stageBy h (k + 1))
   pub members-are : r ≡ 0 → members ≡ listsOf (k + 1) (stageBy h (k + 1)) .members
   pub sizes-are : r ≡ 0 → sizes ≡ listsOf (k + 1) (stageBy h (k + 1)) .sizes
-  pub marks-are : r ≡ 0 → marks ≡ table 129 (markOf (stageBy h k .labels) (stageBy h (k + 1) .labels))
+  pub marks-are : r ≡ 0 → marks ≡ table (limits .numbers + 1) (markOf (stageBy h k .labels) (stageBy h (k + 1) .labels))
 
 -- how many justifications of n are in the list
 abbrev pub manyOf : List Justification → ℕ → ℕ
@@ -76,13 +76,13 @@ manyOf J n = length (those (λ j. eqb (j .consequent) n) J)
 
 -- how many justifications of each number are held
 unfoldable pub tallied : Held → List ℕ
-tallied h = table 129 (manyOf (saidBy h))
+tallied h = table (limits .numbers + 1) (manyOf (saidBy h))
 
--- the nogoods in their places, at most 32
+-- the nogoods in their places, within the limit
 pub record Listed (nogoods : List ℕ) (count : ℕ) (places : List ℕ) : Type 0 where
   pub counted : count ≡ length nogoods
-  pub few : count ≤ 32
-  pub lie : places ≡ padded 0 32 nogoods
+  pub few : count ≤ limits .nogoods
+  pub lie : places ≡ padded 0 (limits .nogoods) nogoods
 
 -- no label that the list of n is made of changed in the step to stage k
 pub record Steady (h : Held) (k n : ℕ) : Type 0 where
@@ -92,21 +92,21 @@ pub record Steady (h : Held) (k n : ℕ) : Type 0 where
 
 -- each list without a mark is so
 abbrev pub Stale : Held → ℕ → List ℕ → Type 0
-Stale h k stale = (n : ℕ) → n ≤ 128 → getD stale n 0 ≡ 0 → Steady h k n
+Stale h k stale = (n : ℕ) → n ≤ limits .numbers → getD stale n 0 ≡ 0 → Steady h k n
 
 -- a mark for each number; where there is none at place 0, each label without one is that of the stage before
 pub record Since (h : Held) (k : ℕ) (moved : List ℕ) : Type 0 where
   pub before : ℕ
   pub next : k ≡ suc before
-  pub same : (s : ℕ) → s ≤ 128 → getD moved s 0 ≡ 0 → labelIn (stageBy h (suc before) .labels) s ≡ labelIn (stageBy h before .labels) s
+  pub same : (s : ℕ) → s ≤ limits .numbers → getD moved s 0 ≡ 0 → labelIn (stageBy h (suc before) .labels) s ≡ labelIn (stageBy h before .labels) s
 
 pub record Fresh (h : Held) (k : ℕ) (moved : List ℕ) : Type 0 where
-  pub long : length moved ≡ 129
+  pub long : length moved ≡ limits .numbers + 1
   pub since : getD moved 0 0 ≡ 0 → Since h k moved
 
 -- where the mark of n is 0 it is not the first step, and no justification of n is stirred
 abbrev pub Touched : List ℕ → List Justification → List ℕ → Type 0
-Touched moved J marks = (n : ℕ) → n ≤ 128 → getD marks n 0 ≡ 0 → (getD moved 0 0 ≡ 0) × ((r : Justification) → Mem r J → r .consequent ≡ n → stirs moved (r .supports) ≡ false)
+Touched moved J marks = (n : ℕ) → n ≤ limits .numbers → getD marks n 0 ≡ 0 → (getD moved 0 0 ≡ 0) × ((r : Justification) → Mem r J → r .consequent ≡ n → stirs moved (r .supports) ≡ false)
 
 -- no news: the nogoods are the same at the next stage
 abbrev pub Told : Held → ℕ → Bool → Type 0
@@ -119,7 +119,7 @@ sparedOf struck l = those (λ E. not (contains struck E)) l
 -- a label is put in its places, with its size and a mark; or nothing where it is the old one
 abbrev pub Put : Bool → ℕ → Built → List ℕ → List ℕ → List ℕ → List ℕ → List ℕ → List ℕ → Type 0
 Put same at label later counts marks later′ counts′ marks′ =
-    (later′ ≡ choose same later (paste later (12 * at) (label .sets) 12)) × (counts′ ≡ choose same counts (set counts at (label .count))) × (marks′ ≡ choose same marks (set marks (at + 1) 1))
+    (later′ ≡ choose same later (paste later (limits .label * at) (label .sets) (limits .label))) × (counts′ ≡ choose same counts (set counts at (label .count))) × (marks′ ≡ choose same marks (set marks (at + 1) 1))
 
 -- a step: done or the refusal, the lists, a mark for each label that changed in it, and whether no list did
 pub record Step : Type 0 where

@@ -1,14 +1,23 @@
 // The lists of a stage, from one stage to the next, and the walk to the depth.
+use labels::BYTES;
 use labels::Built;
+use labels::MEMBERS;
 use replies::Reply;
 use rules::Entry;
 use rules::Held;
+use sets::Set;
+use theory::HELD;
+use theory::LABEL;
+use theory::MARKS;
+use theory::NOGOODS;
+use theory::NUMBERS;
 ghost use mathlib.Core.Bool.{_&&_, not};
 ghost use mathlib.Core.Path.{_≡_};
-ghost use Prim.Native.Nat.{_+_, _<_, _≤_};
+ghost use Prim.Native.Nat.{_*_, _+_, _<_, _≤_};
 ghost use lib.Dec.{eqb};
 ghost use lib.ListN.{getD, length, replicate, take};
 ghost use lib.Seq.{paste};
+ghost use Rattle.theory.specs.Limits.{limits};
 ghost use Rattle.theory.specs.Lists.{allOf, choose};
 ghost use Rattle.rules.specs.Held.{meaning, saidBy};
 ghost use Rattle.labels.specs.Layout.{Few, Ranged, entriesOf};
@@ -18,13 +27,13 @@ ghost use Rattle.theory.specs.Judge.{sameSets};
 ghost use Rattle.stages.specs.Judged.{Judge, Judgeable, Start, refusal};
 ghost use Rattle.stages.specs.Steps.{Fresh, LabelsLie, Put, Reached, Relabelled, Stale, Steady, Stepped, Told, Touched, lists, sparedOf, stageBy, stepOf, tallied};
 
-// The labels and nogoods of a stage: label n at its own twelve places 12 (n - 1) up, its size beside it; unused places zero.
+// The labels and nogoods of a stage: label n from place n - 1 times its limit on, its size beside it; unused places zero.
 #[repr(C)]
 pub struct Lists {
-    pub sizes: [u8; 128],
-    pub members: [u32; 1536],
+    pub sizes: [u8; NUMBERS],
+    pub members: [Set; MEMBERS],
     pub count: usize,
-    pub nogoods: [u32; 32],
+    pub nogoods: [Set; NOGOODS],
     pub depth: u8,
 }
 
@@ -41,10 +50,10 @@ fn refused(reply: Reply) -> Judged
     Judged {
         reply,
         lists: Lists {
-            sizes: [0u8; 128],
-            members: [0u32; 1536],
+            sizes: [0u8; NUMBERS],
+            members: [0; MEMBERS],
             count: 0,
-            nogoods: [0u32; 32],
+            nogoods: [0; NOGOODS],
             depth: 0,
         },
     }
@@ -52,21 +61,21 @@ fn refused(reply: Reply) -> Judged
 
 // The lists of stage 0.
 pub fn start(assumptions: u8) -> Lists
-    requires { ⌜ assumptions ≤ 32 ⌝ }
+    requires { ⌜ assumptions ≤ limits .assumptions ⌝ }
     ensures { λ r. ⌜ Start assumptions r ⌝ }
 {
     let mut lists = Lists {
-        sizes: [0u8; 128],
-        members: [0u32; 1536],
+        sizes: [0u8; NUMBERS],
+        members: [0; MEMBERS],
         count: 0,
-        nogoods: [0u32; 32],
+        nogoods: [0; NOGOODS],
         depth: 0,
     };
     let mut i = 0u8;
     while i < assumptions {
         let at = i as usize;
         lists.sizes[at] = 1;
-        lists.members[12 * at] = sets::only(i as u32 + 1);
+        lists.members[LABEL * at] = sets::only(i + 1);
         i += 1;
     }
     lists
@@ -76,7 +85,7 @@ pub fn start(assumptions: u8) -> Lists
 struct Turn {
     reply: Reply,
     count: usize,
-    nogoods: [u32; 32],
+    nogoods: [Set; NOGOODS],
     same: bool,
 }
 
@@ -87,7 +96,7 @@ fn stopped(reply: Reply) -> Turn
     Turn {
         reply,
         count: 0,
-        nogoods: [0u32; 32],
+        nogoods: [0; NOGOODS],
         same: false,
     }
 }
@@ -95,19 +104,19 @@ fn stopped(reply: Reply) -> Turn
 // The step to the next stage: its nogoods first, then every label with those nogoods, written over the old ones, and a mark for each that changed.
 fn next<'a>(
     held: Held,
-    rules: &[u8; 1536],
-    tallies: [u16; 129],
+    rules: &[u8; BYTES],
+    tallies: [u16; MARKS],
     moved: &[u8],
     depth: u8,
-    members: &'a [u32; 1536],
-    sizes: &'a [u8; 128],
-    nogoods: [u32; 32],
+    members: &'a [Set; MEMBERS],
+    sizes: &'a [u8; NUMBERS],
+    nogoods: [Set; NOGOODS],
     many: usize,
-    later: &mut [u32],
+    later: &mut [Set],
     counts: &mut [u8],
     marks: &mut [u8],
 ) -> Turn
-    requires { ⌜ Reached held (lists (now members) (now sizes) many nogoods depth) × (tallies ≡ tallied held) × Fresh held depth (now moved) × (entriesOf (now rules) ≡ held .entries) × (now later ≡ now members) × (now counts ≡ now sizes) × (now marks ≡ replicate 129 0) ⌝ }
+    requires { ⌜ Reached held (lists (now members) (now sizes) many nogoods depth) × (tallies ≡ tallied held) × Fresh held depth (now moved) × (entriesOf (now rules) ≡ held .entries) × (now later ≡ now members) × (now counts ≡ now sizes) × (now marks ≡ replicate (limits .numbers + 1) 0) ⌝ }
     ensures { λ r. ⌜ Stepped held depth (stepOf r (now (later .exit)) (now (counts .exit)) (now (marks .exit)) depth) ⌝ }
 {
     let stale = touched(held, moved);
@@ -124,7 +133,7 @@ fn next<'a>(
         moved,
     );
     let count = built.count;
-    if 32 < count {
+    if NOGOODS < count {
         return stopped(Reply::Nogoods);
     }
     let struck = built.sets;
@@ -157,26 +166,26 @@ fn next<'a>(
     }
 }
 
-// The nogoods of the next stage, built where they are stale: full at 33.
+// The nogoods of the next stage, built where they are stale: full at one above the limit.
 fn refuted<'a>(
     held: Held,
-    rules: &[u8; 1536],
+    rules: &[u8; BYTES],
     end: usize,
     depth: u8,
-    members: &'a [u32; 1536],
-    sizes: &'a [u8; 128],
-    old: [u32; 32],
+    members: &'a [Set; MEMBERS],
+    sizes: &'a [u8; NUMBERS],
+    old: [Set; NOGOODS],
     count: usize,
     stale: u8,
     moved: &[u8],
 ) -> Built
     requires { ⌜ Reached held (lists (now members) (now sizes) count old depth) × (end ≡ getD (tallied held) 0 0) × (stale ≡ 0 → Steady held depth 0) × Fresh held depth (now moved) × (entriesOf (now rules) ≡ held .entries) ⌝ }
-    ensures { λ r. ⌜ r ≡ builtOf 32 (take (32 + 1) (stageBy held (depth + 1) .nogoods)) ⌝ }
+    ensures { λ r. ⌜ r ≡ builtOf (limits .nogoods) (take (limits .nogoods + 1) (stageBy held (depth + 1) .nogoods)) ⌝ }
 {
     if stale == 0 {
         return Built { count, sets: old };
     }
-    let none = [0u32; 1];
+    let none: [Set; 1] = [0; 1];
     labels::build(
         rules,
         0,
@@ -187,28 +196,28 @@ fn refuted<'a>(
         &old[..count],
         &none[..0],
         moved,
-        32,
+        NOGOODS,
     )
 }
 
 // The labels of the next stage over the old ones, a mark for each that changed: those that are stale built, of the others what the nogoods leave where they changed. The lowest number whose label is over, or 0.
 fn relabel<'a>(
     held: Held,
-    rules: &[u8; 1536],
-    tallies: [u16; 129],
-    stale: [u8; 129],
+    rules: &[u8; BYTES],
+    tallies: [u16; MARKS],
+    stale: [u8; MARKS],
     moved: &[u8],
     news: bool,
     depth: u8,
-    members: &'a [u32; 1536],
-    sizes: &'a [u8; 128],
-    olds: &'a [u32],
-    struck: &'a [u32],
-    later: &mut [u32],
+    members: &'a [Set; MEMBERS],
+    sizes: &'a [u8; NUMBERS],
+    olds: &'a [Set],
+    struck: &'a [Set],
+    later: &mut [Set],
     counts: &mut [u8],
     marks: &mut [u8],
 ) -> u8
-    requires { ⌜ LabelsLie held depth (now members) (now sizes) × (tallies ≡ tallied held) × (now struck ≡ stageBy held (depth + 1) .nogoods) × Stale held depth stale × Fresh held depth (now moved) × Told held depth news × (now later ≡ now members) × (now counts ≡ now sizes) × (now marks ≡ replicate 129 0) × (entriesOf (now rules) ≡ held .entries) × (now olds ≡ now members) ⌝ }
+    requires { ⌜ LabelsLie held depth (now members) (now sizes) × (tallies ≡ tallied held) × (now struck ≡ stageBy held (depth + 1) .nogoods) × Stale held depth stale × Fresh held depth (now moved) × Told held depth news × (now later ≡ now members) × (now counts ≡ now sizes) × (now marks ≡ replicate (limits .numbers + 1) 0) × (entriesOf (now rules) ≡ held .entries) × (now olds ≡ now members) ⌝ }
     ensures { λ r. ⌜ Relabelled held depth (now (later .exit)) (now (counts .exit)) (now (marks .exit)) r ⌝ }
 {
     let mut hi = tallies[0] as usize;
@@ -218,12 +227,12 @@ fn relabel<'a>(
         let lo = hi;
         hi = lo + tallies[at + 1] as usize;
         i += 1;
-        let from = 12 * at;
+        let from = LABEL * at;
         let end = from + sizes[at] as usize;
         let old = &olds[from..end];
         if stale[at + 1] != 0 {
-            let label = labels::build(rules, lo, hi, i, members, sizes, old, struck, moved, 12);
-            if 12 < label.count {
+            let label = labels::build(rules, lo, hi, i, members, sizes, old, struck, moved, LABEL);
+            if LABEL < label.count {
                 return i;
             }
             put(later, counts, marks, at, label, old);
@@ -239,21 +248,21 @@ fn relabel<'a>(
 }
 
 // A label put in its places with its size and a mark, where it is another than the old one.
-fn put(later: &mut [u32], counts: &mut [u8], marks: &mut [u8], at: usize, label: Built, old: &[u32])
-    requires { ⌜ (label .count ≤ 12) × (at < 128) × (length (now later) ≡ 1536) × (length (now counts) ≡ 128) × (length (now marks) ≡ 129) ⌝ }
+fn put(later: &mut [Set], counts: &mut [u8], marks: &mut [u8], at: usize, label: Built, old: &[Set])
+    requires { ⌜ (label .count ≤ limits .label) × (at < limits .numbers) × (length (now later) ≡ limits .numbers * limits .label) × (length (now counts) ≡ limits .numbers) × (length (now marks) ≡ limits .numbers + 1) ⌝ }
     ensures { λ _. ⌜ Put (sameSets (take (label .count) (label .sets)) (now (old .entry))) at label (now (later .entry)) (now (counts .entry)) (now (marks .entry)) (now (later .exit)) (now (counts .exit)) (now (marks .exit)) ⌝ }
 {
     if !differs(label, old) {
         return;
     }
-    write(later, 12 * at, label);
+    write(later, LABEL * at, label);
     counts[at] = label.count as u8;
     marks[at + 1] = 1;
 }
 
 // Whether a list as it was built is another than the old one.
-fn differs(list: Built, old: &[u32]) -> bool
-    requires { ⌜ list .count ≤ 32 ⌝ }
+fn differs(list: Built, old: &[Set]) -> bool
+    requires { ⌜ list .count ≤ limits .nogoods ⌝ }
     ensures { λ r. ⌜ r ≡ not (sameSets (take (list .count) (list .sets)) (now (old .entry))) ⌝ }
 {
     let count = list.count;
@@ -282,11 +291,11 @@ fn still(news: bool, marks: &[u8]) -> bool
 }
 
 // Those of a list that contain no set struck.
-fn strike(list: &[u32], struck: &[u32]) -> Built
-    requires { ⌜ length (now list) ≤ 32 ⌝ }
-    ensures { λ r. ⌜ r ≡ builtOf 32 (sparedOf (now (struck .entry)) (now (list .entry))) ⌝ }
+fn strike(list: &[Set], struck: &[Set]) -> Built
+    requires { ⌜ length (now list) ≤ limits .nogoods ⌝ }
+    ensures { λ r. ⌜ r ≡ builtOf (limits .nogoods) (sparedOf (now (struck .entry)) (now (list .entry))) ⌝ }
 {
-    let mut sets = [0u32; 32];
+    let mut sets: [Set; NOGOODS] = [0; NOGOODS];
     let mut count = 0;
     let mut i = 0;
     while i < list.len() {
@@ -300,26 +309,26 @@ fn strike(list: &[u32], struck: &[u32]) -> Built
     Built { count, sets }
 }
 
-// A label written in its twelve places.
-fn write(members: &mut [u32], from: usize, label: Built)
-    requires { ⌜ from + 12 ≤ length (now members) ⌝ }
-    ensures { λ _. ⌜ now (members .exit) ≡ paste (now (members .entry)) from (label .sets) 12 ⌝ }
+// A label written in its places.
+fn write(members: &mut [Set], from: usize, label: Built)
+    requires { ⌜ from + limits .label ≤ length (now members) ⌝ }
+    ensures { λ _. ⌜ now (members .exit) ≡ paste (now (members .entry)) from (label .sets) (limits .label) ⌝ }
 {
     let sets = label.sets;
     let mut k = 0;
-    while k < 12 {
+    while k < LABEL {
         members[from + k] = sets[k];
         k += 1;
     }
 }
 
 // How many justifications of each number are held: they stand in the order of their numbers.
-fn tally(held: Held) -> [u16; 129]
-    requires { ⌜ Judgeable held ⌝ }
+fn tally(held: Held) -> [u16; MARKS]
+    requires { ⌜ Judgeable (limits .assumptions) held ⌝ }
     ensures { λ r. ⌜ r ≡ tallied held ⌝ }
 {
     let count = held.count;
-    let mut tallies = [0u16; 129];
+    let mut tallies = [0u16; MARKS];
     let mut j = 0;
     while j < count {
         let entry = held.entries[j];
@@ -331,13 +340,13 @@ fn tally(held: Held) -> [u16; 129]
 }
 
 // The justifications held, in six bytes each.
-fn laid(held: Held) -> [u8; 1536]
-    requires { ⌜ Judgeable held ⌝ }
+fn laid(held: Held) -> [u8; BYTES]
+    requires { ⌜ Judgeable (limits .assumptions) held ⌝ }
     ensures { λ r. ⌜ entriesOf r ≡ held .entries ⌝ }
 {
-    let mut rules = [0u8; 1536];
+    let mut rules = [0u8; BYTES];
     let mut j = 0;
-    while j < 256 {
+    while j < HELD {
         let entry = held.entries[j];
         let supports = entry.supports;
         let at = 6 * j;
@@ -354,7 +363,7 @@ fn laid(held: Held) -> [u8; 1536]
 
 // The mark of the consequent after one justification of it more: 1 where it is stirred.
 fn marked(entry: Entry, mark: u8, moved: &[u8]) -> u8
-    requires { ⌜ Few entry × Ranged (meaning entry .supports) × (length (now moved) ≡ 129) ⌝ }
+    requires { ⌜ Few entry × Ranged (meaning entry .supports) × (length (now moved) ≡ limits .numbers + 1) ⌝ }
     ensures { λ r. ⌜ r ≡ choose (stirs (now (moved .entry)) (meaning entry .supports)) 1 mark ⌝ }
 {
     if labels::stirred(entry, moved) {
@@ -365,13 +374,13 @@ fn marked(entry: Entry, mark: u8, moved: &[u8]) -> u8
 }
 
 // A mark for each list that has to be built: one of its justifications is stirred. In the first step all are marked.
-fn touched(held: Held, moved: &[u8]) -> [u8; 129]
-    requires { ⌜ Judgeable held × (length (now moved) ≡ 129) ⌝ }
+fn touched(held: Held, moved: &[u8]) -> [u8; MARKS]
+    requires { ⌜ Judgeable (limits .assumptions) held × (length (now moved) ≡ limits .numbers + 1) ⌝ }
     ensures { λ r. ⌜ Touched (now (moved .entry)) (saidBy held) r ⌝ }
 {
     let count = held.count;
     let first = moved[0];
-    let mut marks = [first; 129];
+    let mut marks = [first; MARKS];
     let mut j = 0;
     while j < count {
         let entry = held.entries[j];
@@ -384,7 +393,7 @@ fn touched(held: Held, moved: &[u8]) -> [u8; 129]
 
 // The stages from 0 upward, to the first that agrees with the next, or the refusal. A stage that differs from the next has a number below that of the different consequents, so the walk ends.
 pub fn judge(held: Held) -> Judged
-    requires { ⌜ Judgeable held ⌝ }
+    requires { ⌜ Judgeable (limits .assumptions) held ⌝ }
     ensures { λ r. ⌜ Judge held r ⌝ }
 {
     let tallies = tally(held);
@@ -392,12 +401,12 @@ pub fn judge(held: Held) -> Judged
     let mut lists = start(held.assumptions);
     let mut later = lists.members;
     let mut counts = lists.sizes;
-    let mut moved = [1u8; 129];
+    let mut moved = [1u8; MARKS];
     loop {
         let many = lists.count;
         let nogoods = lists.nogoods;
         let depth = lists.depth;
-        let mut marks = [0u8; 129];
+        let mut marks = [0u8; MARKS];
         let turn = next(
             held,
             &rules,

@@ -12,6 +12,7 @@ use Rattle.rules.specs.Held.{saidBy}
 use Rattle.store.specs.Shape.{rightShape, top}
 use Rattle.store.specs.declared.Store.{Store}
 use Rattle.text.specs.Texts.{digits, field, word}
+use Rattle.theory.specs.Limits.{limits}
 use Rattle.theory.specs.Lists.{choose, each, numbersBelow, those}
 use Rattle.theory.specs.Places.{table}
 use Rattle.theory.specs.Sets.{inRange}
@@ -26,7 +27,7 @@ latest a (x ∷ l) = latest (choose (ltb x 255 && ltb a x) x a) l
 
 -- the last stage with something new
 unfoldable pub lastStage : List Justification → ℕ → ℕ
-lastStage J E = latest 0 (table 129 (sinceOf J E))
+lastStage J E = latest 0 (table (limits .numbers + 1) (sinceOf J E))
 
 -- stage k, then every number up to N that followed from E by then, rising, each after one space
 unfoldable pub stageLine : ℕ → List Justification → ℕ → ℕ → List ℕ
@@ -38,7 +39,7 @@ stageText N J E = each (stageLine N J E) (numbersBelow (lastStage J E + 1))
 
 -- no such text is longer: 130 lines, each of a stage in three digits, the numbers 0 to 128 after a space each (406 bytes), a newline
 abbrev pub longest : ℕ
-longest = 130 * (3 + 406 + 1)
+longest = (limits .numbers + 2) * (3 + 406 + 1)
 
 -- refusals 2, 4, 15 in this order
 unfoldable pub stagesOf : Store → ℕ → List ℕ → Wrote

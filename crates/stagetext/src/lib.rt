@@ -4,19 +4,25 @@ use lent::Written;
 use replies::Reply;
 use sets::Set;
 use store::Store;
+use theory::MARKS;
+use theory::NUMBERS;
 ghost use mathlib.Core.Bool.{_&&_};
 ghost use mathlib.Core.Path.{_≡_};
-ghost use Prim.Native.Nat.{_≤_};
+ghost use Prim.Native.Nat.{_+_, _≤_};
 ghost use lib.Dec.{ltb};
 ghost use lib.ListN.{length};
+ghost use Rattle.theory.specs.Limits.{limits};
 ghost use Rattle.theory.specs.Lists.{choose};
 ghost use Rattle.lent.specs.Lent.{Leaves};
 ghost use Rattle.text.specs.Texts.{digits};
 ghost use Rattle.text.specs.Writing.{Put, Room};
 ghost use Rattle.stagetext.specs.Stagetext.{StagesLined, bodyOf, latest, partOf, putOf, rowOf, rowsOf};
 
+// The last number.
+const LAST: u8 = NUMBERS as u8;
+
 // No text of stages is longer.
-pub const LONGEST: usize = 53300;
+pub const LONGEST: usize = (MARKS + 1) * (3 + 406 + 1);
 
 // The number of decimal digits of n.
 fn wide(n: u8) -> usize
@@ -32,8 +38,8 @@ fn wide(n: u8) -> usize
 }
 
 // How many bytes n adds to the line of stage k.
-fn part_width(marks: [u8; 129], k: u8, n: u8) -> usize
-    requires { ⌜ n ≤ 128 ⌝ }
+fn part_width(marks: [u8; MARKS], k: u8, n: u8) -> usize
+    requires { ⌜ n ≤ limits .numbers ⌝ }
     ensures { λ r. ⌜ r ≡ length (partOf marks k n) ⌝ }
 {
     if k < marks[n as usize] {
@@ -43,8 +49,8 @@ fn part_width(marks: [u8; 129], k: u8, n: u8) -> usize
 }
 
 // How many bytes the numbers below the end add.
-fn body_width(marks: [u8; 129], k: u8, end: u8) -> usize
-    requires { ⌜ end ≤ 129 ⌝ }
+fn body_width(marks: [u8; MARKS], k: u8, end: u8) -> usize
+    requires { ⌜ end ≤ limits .numbers + 1 ⌝ }
     ensures { λ r. ⌜ r ≡ length (bodyOf end marks k) ⌝ }
 {
     let mut sum = 0;
@@ -57,8 +63,8 @@ fn body_width(marks: [u8; 129], k: u8, end: u8) -> usize
 }
 
 // How many bytes the lines of the first stages take.
-fn rows_width(marks: [u8; 129], end: u8, count: u8) -> usize
-    requires { ⌜ end ≤ 129 ⌝ }
+fn rows_width(marks: [u8; MARKS], end: u8, count: u8) -> usize
+    requires { ⌜ end ≤ limits .numbers + 1 ⌝ }
     ensures { λ r. ⌜ r ≡ length (rowsOf end marks count) ⌝ }
 {
     let mut sum = 0;
@@ -97,8 +103,8 @@ fn later(a: u8, x: u8) -> u8
 }
 
 // What n adds to the line of stage k.
-fn part(marks: [u8; 129], k: u8, n: u8, at: usize, out: &mut [u8]) -> usize
-    requires { ⌜ (n ≤ 128) × Room (partOf marks k n) at (now out) ⌝ }
+fn part(marks: [u8; MARKS], k: u8, n: u8, at: usize, out: &mut [u8]) -> usize
+    requires { ⌜ (n ≤ limits .numbers) × Room (partOf marks k n) at (now out) ⌝ }
     ensures { λ r. ⌜ Put (partOf marks k n) at (now (out .entry)) (now (out .exit)) r ⌝ }
 {
     if k < marks[n as usize] {
@@ -108,8 +114,8 @@ fn part(marks: [u8; 129], k: u8, n: u8, at: usize, out: &mut [u8]) -> usize
 }
 
 // What the numbers below the end add.
-fn body(marks: [u8; 129], k: u8, end: u8, at: usize, out: &mut [u8]) -> usize
-    requires { ⌜ (end ≤ 129) × Room (bodyOf end marks k) at (now out) ⌝ }
+fn body(marks: [u8; MARKS], k: u8, end: u8, at: usize, out: &mut [u8]) -> usize
+    requires { ⌜ (end ≤ limits .numbers + 1) × Room (bodyOf end marks k) at (now out) ⌝ }
     ensures { λ r. ⌜ Put (bodyOf end marks k) at (now (out .entry)) (now (out .exit)) r ⌝ }
 {
     let mut next = at;
@@ -122,8 +128,8 @@ fn body(marks: [u8; 129], k: u8, end: u8, at: usize, out: &mut [u8]) -> usize
 }
 
 // The line of stage k.
-fn row(marks: [u8; 129], k: u8, end: u8, at: usize, out: &mut [u8]) -> usize
-    requires { ⌜ (end ≤ 129) × Room (rowOf end marks k) at (now out) ⌝ }
+fn row(marks: [u8; MARKS], k: u8, end: u8, at: usize, out: &mut [u8]) -> usize
+    requires { ⌜ (end ≤ limits .numbers + 1) × Room (rowOf end marks k) at (now out) ⌝ }
     ensures { λ r. ⌜ Put (rowOf end marks k) at (now (out .entry)) (now (out .exit)) r ⌝ }
 {
     let numbered = text::number(k as u32, at, out);
@@ -133,8 +139,8 @@ fn row(marks: [u8; 129], k: u8, end: u8, at: usize, out: &mut [u8]) -> usize
 }
 
 // The lines of the first stages.
-fn rows(marks: [u8; 129], end: u8, count: u8, out: &mut [u8]) -> usize
-    requires { ⌜ (end ≤ 129) × Room (rowsOf end marks count) 0 (now out) ⌝ }
+fn rows(marks: [u8; MARKS], end: u8, count: u8, out: &mut [u8]) -> usize
+    requires { ⌜ (end ≤ limits .numbers + 1) × Room (rowsOf end marks count) 0 (now out) ⌝ }
     ensures { λ r. ⌜ Put (rowsOf end marks count) 0 (now (out .entry)) (now (out .exit)) r ⌝ }
 {
     let mut next = 0;
@@ -148,10 +154,10 @@ fn rows(marks: [u8; 129], end: u8, count: u8, out: &mut [u8]) -> usize
 
 // The lines of all stages up to the last with something new, where there is room for them; 4 where top is no number's.
 // The length is known before a byte is written.
-pub fn put(marks: [u8; 129], top: u8, out: &mut [u8]) -> Written
+pub fn put(marks: [u8; MARKS], top: u8, out: &mut [u8]) -> Written
     ensures { λ r. ⌜ Leaves (putOf marks top (now (out .entry))) r (now (out .exit)) ⌝ }
 {
-    if 128 < top {
+    if LAST < top {
         return Written::Refused(Reply::Number);
     }
     let end = top + 1;

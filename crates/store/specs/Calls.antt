@@ -1,5 +1,5 @@
 -- Opening, judging what is held, adding and withdrawing, as documents 01 and 02 have them. Assumes nothing.
-use mathlib.Core.Bool.{Bool, _||_, not}
+use mathlib.Core.Bool.{Bool, not}
 use mathlib.Core.List.{List, []}
 use mathlib.Core.Path.{_≡_}
 use Prim.Native.Nat.{_+_, ℕ}
@@ -16,6 +16,7 @@ use Rattle.store.specs.Shape.{heldFits, rightShape, top}
 use Rattle.store.specs.declared.Outcome.{Outcome}
 use Rattle.store.specs.declared.Store.{Store}
 use Rattle.theory.specs.Judge.{Verdict, judge, labelOver, limits, nogoodsOver, settled, stageAt}
+use Rattle.theory.specs.Limits.{overCounts}
 use Rattle.theory.specs.Lists.{choose, someOf}
 use Rattle.theory.specs.Stages.{Justification}
 
@@ -34,7 +35,7 @@ noStore = startStore 0 0
 
 unfoldable pub openOf : ℕ → ℕ → Outcome
 openOf A M =
-    choose (ltb 32 A || ltb 96 M) (answer Counts noStore)
+    choose (overCounts A M) (answer Counts noStore)
     (answer Done (startStore A M))
 
 abbrev pub Opened : ℕ → ℕ → Outcome → Type 0
@@ -83,11 +84,11 @@ checkedOf s c l go =
 
 -- ---- adding
 
--- j, without fault, to a store of right shape: held already; 256 held already; then the stages of the enlarged set
+-- j, without fault, to a store of right shape: held already; as many as the limit held already; then the stages of the enlarged set
 unfoldable pub joinedBy : Store → Justification → Outcome
 joinedBy s j =
     choose (someOf (sameJustification j) (saidBy (s .held))) (answer Already s)
-    (choose (leb 256 (s .held .count)) (answer Full s)
+    (choose (leb (limits .held) (s .held .count)) (answer Full s)
     (storeOf s (s .held .assumptions) (s .held .claims) (put j (saidBy (s .held)))))
 
 unfoldable pub addOf : Store → ℕ → List ℕ → Outcome

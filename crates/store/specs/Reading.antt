@@ -20,7 +20,7 @@ nogoodsHeld l = take (l .count) (l .nogoods)
 -- the label of n; falsity has none
 abbrev pub labelHeld : Lists → ℕ → List ℕ
 labelHeld l zero = []
-labelHeld l (suc i) = take (getD (l .sizes) i 0) (drop (12 * i) (l .members))
+labelHeld l (suc i) = take (getD (l .sizes) i 0) (drop (limits .label * i) (l .members))
 
 -- for n = 0 the nogoods, else the label
 abbrev pub listHeld : Lists → ℕ → List ℕ

@@ -4,11 +4,20 @@ use replies::Reply;
 use rules::Held;
 use sets::Set;
 use stages::Lists;
+use theory::ASSUMPTIONS;
+use theory::CLAIMS;
 ghost use mathlib.Core.Path.{_≡_};
 ghost use Prim.Native.Nat.{_≤_};
+ghost use Rattle.theory.specs.Limits.{limits};
 ghost use Rattle.store.specs.Shape.{RightShape, heldFits};
 ghost use Rattle.store.specs.Reading.{refusalOf};
 ghost use Rattle.store.specs.Calls.{Added, JudgedAnew, Opened, Withdrawn, afterOf, startStore};
+
+// The most assumptions, as a store counts them.
+const MOST_ASSUMPTIONS: u8 = ASSUMPTIONS as u8;
+
+// The most claims.
+const MOST_CLAIMS: u8 = CLAIMS as u8;
 
 // What is held, and the labels and nogoods at its depth.
 #[repr(C)]
@@ -25,7 +34,7 @@ pub struct Outcome {
 
 // The store that holds nothing.
 fn start(a: u8, m: u8) -> Store
-    requires { ⌜ (a ≤ 32) × (m ≤ 96) ⌝ }
+    requires { ⌜ (a ≤ limits .assumptions) × (m ≤ limits .claims) ⌝ }
     ensures { λ r. ⌜ r ≡ startStore a m ⌝ }
 {
     let held = Held::nothing(a, m);
@@ -37,10 +46,10 @@ fn start(a: u8, m: u8) -> Store
 fn held_fits(held: Held) -> bool
     ensures { λ r. ⌜ r ≡ heldFits held ⌝ }
 {
-    if 32 < held.assumptions {
+    if MOST_ASSUMPTIONS < held.assumptions {
         return false;
     }
-    if 96 < held.claims {
+    if MOST_CLAIMS < held.claims {
         return false;
     }
     held.right()
@@ -106,13 +115,13 @@ impl Store {
     pub fn open(assumptions: u32, claims: u32) -> Outcome
         ensures { λ r. ⌜ Opened assumptions claims r ⌝ }
     {
-        if 32 < assumptions {
+        if ASSUMPTIONS < assumptions {
             return Outcome {
                 reply: Reply::Counts,
                 store: start(0, 0),
             };
         }
-        if 96 < claims {
+        if CLAIMS < claims {
             return Outcome {
                 reply: Reply::Counts,
                 store: start(0, 0),

@@ -2,6 +2,7 @@
 use mathlib.Core.List.{[], _∷_}
 use mathlib.Core.Path.{_≡_, refl}
 use Rattle.text.specs.Texts.{braced, digits, digitsIn, field, heading, joined, refusal, row, spaced, word}
+use Rattle.theory.specs.Limits.{limits}
 use Rattle.theory.specs.Lists.{each, numbersBelow, numbersTo, those}
 use Rattle.theory.specs.Sets.{among, digit}
 
@@ -21,15 +22,15 @@ long-digits : digits 128 ≡ word "128"
 unfolding digits digitsIn word
 long-digits = refl
 
-two-set : braced 32 5 ≡ word "{1,3}"
+two-set : braced (limits .assumptions) 5 ≡ word "{1,3}"
 unfolding braced joined digits digitsIn word each those numbersTo numbersBelow among digit
 two-set = refl
 
-empty-set : braced 32 0 ≡ word "{}"
+empty-set : braced (limits .assumptions) 0 ≡ word "{}"
 unfolding braced joined digits digitsIn word each those numbersTo numbersBelow among digit
 empty-set = refl
 
-two-members : spaced 32 (1 ∷ 6 ∷ []) ≡ word " {1} {2,3}"
+two-members : spaced (limits .assumptions) (1 ∷ 6 ∷ []) ≡ word " {1} {2,3}"
 unfolding spaced braced joined digits digitsIn word each those numbersTo numbersBelow among digit
 two-members = refl
 
@@ -39,11 +40,11 @@ case-line : heading 3 2 4 2 ≡ word "case 3 2 4 2\n"
 unfolding heading field digits digitsIn word
 case-line = refl
 
-nogood-line : row 32 0 (word " nogood") (3 ∷ []) ≡ word "0 nogood {1,2}\n"
+nogood-line : row (limits .assumptions) 0 (word " nogood") (3 ∷ []) ≡ word "0 nogood {1,2}\n"
 unfolding row spaced braced joined digits digitsIn word each those numbersTo numbersBelow among digit
 nogood-line = refl
 
-label-line : row 32 4 (word " supported") (1 ∷ 6 ∷ []) ≡ word "4 supported {1} {2,3}\n"
+label-line : row (limits .assumptions) 4 (word " supported") (1 ∷ 6 ∷ []) ≡ word "4 supported {1} {2,3}\n"
 unfolding row spaced braced joined digits digitsIn word each those numbersTo numbersBelow among digit
 label-line = refl
 

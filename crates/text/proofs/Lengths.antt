@@ -9,6 +9,7 @@ use lib.ListN.{length, length-append}
 use Rattle.text.proofs.Digits.{digits-most}
 use Rattle.text.specs.Texts.{braced, digits, digitsIn, field, heading, joined, refusal, row, spaced, word}
 use Rattle.theory.proofs.Lists.{either}
+use Rattle.theory.specs.Limits.{limits}
 use Rattle.theory.specs.Lists.{each, keep, numbersBelow, numbersTo, those}
 use Rattle.theory.specs.Sets.{among}
 
@@ -33,26 +34,26 @@ unfolding joined each word
 joined-length [] = refl
 joined-length (k ∷ l) = omega arith
 
-full-length : length (each (λ j. word "," ++ digits j) (numbersTo 32)) ≡ 87
+full-length : length (each (λ j. word "," ++ digits j) (numbersTo (limits .assumptions))) ≡ 87
 unfolding each word digits digitsIn numbersTo numbersBelow
 full-length = refl
 
 -- a set of 32 assumptions takes 88 bytes at most
-pub braced-length : (E : ℕ) → length (braced 32 E) ≤ 88
+pub braced-length : (E : ℕ) → length (braced (limits .assumptions) E) ≤ 88
 unfolding braced word
 braced-length E =
-    let l : List ℕ = those (among E) (numbersTo 32) in
-    omega (arith, length-append (joined l) (125 ∷ []), joined-length l, those-length (λ j. word "," ++ digits j) (among E) (numbersTo 32), full-length)
+    let l : List ℕ = those (among E) (numbersTo (limits .assumptions)) in
+    omega (arith, length-append (joined l) (125 ∷ []), joined-length l, those-length (λ j. word "," ++ digits j) (among E) (numbersTo (limits .assumptions)), full-length)
 
-pub spaced-length : (l : List ℕ) → length (spaced 32 l) ≤ 89 * length l
+pub spaced-length : (l : List ℕ) → length (spaced (limits .assumptions) l) ≤ 89 * length l
 unfolding spaced word
-spaced-length l = each-length (λ E. word " " ++ braced 32 E) 89 (λ E. omega (arith, braced-length E)) l
+spaced-length l = each-length (λ E. word " " ++ braced (limits .assumptions) E) 89 (λ E. omega (arith, braced-length E)) l
 
-pub row-length : (n : ℕ) (words l : List ℕ) → length (row 32 n words l) ≤ length (digits n) + length words + 89 * length l + 1
+pub row-length : (n : ℕ) (words l : List ℕ) → length (row (limits .assumptions) n words l) ≤ length (digits n) + length words + 89 * length l + 1
 unfolding row word
 row-length n words l =
-    let t : List ℕ = spaced 32 l ++ (10 ∷ []) in
-    omega (arith, length-append (digits n) (words ++ t), length-append words t, length-append (spaced 32 l) (10 ∷ []), spaced-length l)
+    let t : List ℕ = spaced (limits .assumptions) l ++ (10 ∷ []) in
+    omega (arith, length-append (digits n) (words ++ t), length-append words t, length-append (spaced (limits .assumptions) l) (10 ∷ []), spaced-length l)
 
 field-length : (n : ℕ) → length (field n) ≡ 1 + length (digits n)
 unfolding field word

@@ -1,7 +1,9 @@
 // Texts into lent bytes: numbers, words, sets and lists of sets. Each is written from a place on; the answer is the place after it.
 use sets::Set;
+use sets::WIDTH;
 ghost use Prim.Native.Nat.{_≤_};
 ghost use lib.Dec.{ltb};
+ghost use Rattle.theory.specs.Limits.{limits};
 ghost use Rattle.text.specs.Texts.{braced, digits, entered, field, heading, refusal, row, spaced};
 ghost use Rattle.text.specs.Writing.{Put, Room};
 
@@ -42,8 +44,8 @@ pub fn copy(word: &[u8], at: usize, out: &mut [u8]) -> usize
 }
 
 // What assumption k adds to the text of e, whose first assumption stands at `from`.
-fn entry(e: Set, k: u32, from: usize, at: usize, out: &mut [u8]) -> usize
-    requires { ⌜ (1 ≤ k) × (k ≤ 32) × Room (entered e k (ltb from at)) at (now out) ⌝ }
+fn entry(e: Set, k: u8, from: usize, at: usize, out: &mut [u8]) -> usize
+    requires { ⌜ (1 ≤ k) × (k ≤ limits .assumptions) × Room (entered e k (ltb from at)) at (now out) ⌝ }
     ensures { λ r. ⌜ Put (entered e k (ltb from at)) at (now (out .entry)) (now (out .exit)) r ⌝ }
 {
     if !sets::has(e, k) {
@@ -51,20 +53,20 @@ fn entry(e: Set, k: u32, from: usize, at: usize, out: &mut [u8]) -> usize
     }
     if from < at {
         out[at] = b',';
-        return number(k, at + 1, out);
+        return number(k as u32, at + 1, out);
     }
-    number(k, at, out)
+    number(k as u32, at, out)
 }
 
 // The set e in braces.
 pub fn braces(e: Set, at: usize, out: &mut [u8]) -> usize
-    requires { ⌜ Room (braced 32 e) at (now out) ⌝ }
-    ensures { λ r. ⌜ Put (braced 32 e) at (now (out .entry)) (now (out .exit)) r ⌝ }
+    requires { ⌜ Room (braced (limits .assumptions) e) at (now out) ⌝ }
+    ensures { λ r. ⌜ Put (braced (limits .assumptions) e) at (now (out .entry)) (now (out .exit)) r ⌝ }
 {
     out[at] = b'{';
     let from = at + 1;
     let mut next = from;
-    for k in 1..33 {
+    for k in 1..WIDTH + 1 {
         next = entry(e, k, from, next, out);
     }
     out[next] = b'}';
@@ -73,8 +75,8 @@ pub fn braces(e: Set, at: usize, out: &mut [u8]) -> usize
 
 // Each set of the list after one space.
 fn members(list: &[Set], at: usize, out: &mut [u8]) -> usize
-    requires { ⌜ Room (spaced 32 (now list)) at (now out) ⌝ }
-    ensures { λ r. ⌜ Put (spaced 32 (now (list .entry))) at (now (out .entry)) (now (out .exit)) r ⌝ }
+    requires { ⌜ Room (spaced (limits .assumptions) (now list)) at (now out) ⌝ }
+    ensures { λ r. ⌜ Put (spaced (limits .assumptions) (now (list .entry))) at (now (out .entry)) (now (out .exit)) r ⌝ }
 {
     let mut next = at;
     for i in 0..list.len() {
@@ -86,8 +88,8 @@ fn members(list: &[Set], at: usize, out: &mut [u8]) -> usize
 
 // The line of n from the first byte on.
 pub fn line(n: u32, words: &[u8], list: &[Set], out: &mut [u8]) -> usize
-    requires { ⌜ Room (row 32 n (now words) (now list)) 0 (now out) ⌝ }
-    ensures { λ r. ⌜ Put (row 32 n (now (words .entry)) (now (list .entry))) 0 (now (out .entry)) (now (out .exit)) r ⌝ }
+    requires { ⌜ Room (row (limits .assumptions) n (now words) (now list)) 0 (now out) ⌝ }
+    ensures { λ r. ⌜ Put (row (limits .assumptions) n (now (words .entry)) (now (list .entry))) 0 (now (out .entry)) (now (out .exit)) r ⌝ }
 {
     let worded = number(n, 0, out);
     let listed = copy(words, worded, out);

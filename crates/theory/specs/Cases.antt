@@ -22,7 +22,8 @@ verdict L A N J = judge L A N J
 
 -- room for n members of a label and m nogoods
 abbrev pub room : ℕ → ℕ → Limits
-room n m = record { label = n; nogoods = m }
+room n m =
+    record { assumptions = limits .assumptions; claims = limits .claims; numbers = limits .numbers; held = limits .held; supports = limits .supports; label = n; nogoods = m }
 
 -- document 01's listed case
 abbrev pub worked : List Justification

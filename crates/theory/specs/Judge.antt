@@ -4,6 +4,7 @@ use mathlib.Core.List.{List, [], _∷_, map}
 use Prim.Native.Nat.{suc, zero, ℕ}
 use lib.Dec.{eqb, ltb}
 use lib.ListN.{length}
+pub use Rattle.theory.specs.Limits.{Limits, limits}
 use Rattle.theory.specs.Lists.{alike, choose, numbersTo, someOf}
 use Rattle.theory.specs.Stages.{Justification, follows, labelOf, nogoodsOf}
 
@@ -25,14 +26,6 @@ sameSets l m = alike eqb l m
 -- all labels and nogoods agree
 unfoldable pub agree : Stage → Stage → Bool
 agree s t = sameSets (s .nogoods) (t .nogoods) && alike sameSets (s .labels) (t .labels)
-
-pub record Limits : Type 0 where
-  pub label : ℕ
-  pub nogoods : ℕ
-
--- the product's
-abbrev pub limits : Limits
-limits = record { label = 12; nogoods = 32 }
 
 unfoldable pub nogoodsLong : Limits → Stage → Bool
 nogoodsLong L s = ltb (L .nogoods) (length (s .nogoods))

@@ -2,6 +2,7 @@ pub mod Lists
 pub mod Places
 pub mod Sets
 pub mod Stages
+pub mod Limits
 pub mod Judge
 pub mod Demands
 pub mod Step

@@ -6,6 +6,7 @@ use Rattle.stages.specs.declared.Lists.{Lists}
 use Rattle.store.specs.Reading.{listHeld}
 use Rattle.text.specs.Texts.{row, word}
 use Rattle.theory.specs.Lists.{choose}
+use Rattle.theory.specs.Limits.{limits}
 
 -- the word of n, whose list is l, c telling whether n follows from all assumptions together: `nogood` for 0; for the others `supported`; where the label is empty `contradicted` or `unsupported`
 unfoldable pub wordOf : ℕ → List ℕ → Bool → List ℕ
@@ -15,4 +16,4 @@ wordOf (suc i) (E ∷ l) c = word " supported"
 
 -- the number, its word and the members of its list
 unfoldable pub lineWith : Lists → ℕ → Bool → List ℕ
-lineWith t n c = row 32 n (wordOf n (listHeld t n) c) (listHeld t n)
+lineWith t n c = row (limits .assumptions) n (wordOf n (listHeld t n) c) (listHeld t n)

@@ -17,6 +17,7 @@ use Rattle.rules.proofs.Faults.{fault-none}
 use Rattle.rules.proofs.Laws.{Ranged}
 use Rattle.rules.specs.Items.{faultOf}
 use Rattle.theory.proofs.Lists.{either, not-so, some-elim}
+use Rattle.theory.specs.Limits.{limits}
 use Rattle.theory.specs.Lists.{choose, each, someOf}
 use Rattle.theory.specs.Stages.{Justification}
 use Rattle.writing.specs.Writing.{bytesOf, recordFor}
@@ -92,12 +93,12 @@ record-back N j l h r =
     let s : List ℕ = j .supports in
     let k : ℕ = length s in
     let rest : List ℕ = each bytesOf s ++ l in
-    let fits : k ≤ 4 = r .few in
-    let last : ℕ → List ℕ → Taken Item = λ k l₂. choose (ltb 4 k) (bad Supports) (andThen (numbersFrom k l₂) (λ s l₃. unless (faultOf N c s) (record { consequent = c; supports = s }) l₃)) in
+    let fits : k ≤ limits .supports = r .few in
+    let last : ℕ → List ℕ → Taken Item = λ k l₂. choose (ltb (limits .supports) k) (bad Supports) (andThen (numbersFrom k l₂) (λ s l₃. unless (faultOf N c s) (record { consequent = c; supports = s }) l₃)) in
     ap (λ (m : List ℕ). recordFrom N m) (append-assoc (bytesOf c) (bytesOf k ++ each bytesOf s) l ∙ ap (λ (m : List ℕ). bytesOf c ++ m) (append-assoc (bytesOf k) (each bytesOf s) l))
-    ∙ ap (λ (t : Taken ℕ). andThen t (λ c l₁. andThen (numberFrom l₁) (λ k l₂. choose (ltb 4 k) (bad Supports) (andThen (numbersFrom k l₂) (λ s l₃. unless (faultOf N c s) (record { consequent = c; supports = s }) l₃))))) (number-back c (bytesOf k ++ rest) (omega (arith, r .low)))
+    ∙ ap (λ (t : Taken ℕ). andThen t (λ c l₁. andThen (numberFrom l₁) (λ k l₂. choose (ltb (limits .supports) k) (bad Supports) (andThen (numbersFrom k l₂) (λ s l₃. unless (faultOf N c s) (record { consequent = c; supports = s }) l₃))))) (number-back c (bytesOf k ++ rest) (omega (arith, r .low)))
     ∙ ap (λ (t : Taken ℕ). andThen t last) (number-back k rest (omega arith))
-    ∙ ap (λ (b : Bool). choose b (bad Supports) (andThen (numbersFrom k rest) (λ s l₃. unless (faultOf N c s) (record { consequent = c; supports = s }) l₃))) (le-ltb 4 k fits)
+    ∙ ap (λ (b : Bool). choose b (bad Supports) (andThen (numbersFrom k rest) (λ s l₃. unless (faultOf N c s) (record { consequent = c; supports = s }) l₃))) (le-ltb (limits .supports) k fits)
     ∙ ap (λ (t : Taken (List ℕ)). andThen t (λ s l₃. unless (faultOf N c s) (record { consequent = c; supports = s }) l₃)) (numbers-back s l (λ x m. omega (arith, r .between x m .1)))
     ∙ unless-done (faultOf N c s) (itemFor j) l (ranged-faultless N j r)
 
@@ -115,10 +116,10 @@ records-back N r (j ∷ J) h f =
 
 -- ---- the header
 
-pub header-back : (A M n : ℕ) (l : List ℕ) → A ≤ 32 → M ≤ 96 → n ≤ 256 → headerFrom (bytesOf A ++ (bytesOf M ++ (bytesOf n ++ l))) ≡ got (record { assumptions = A; claims = M; records = n }) l
+pub header-back : (A M n : ℕ) (l : List ℕ) → A ≤ limits .assumptions → M ≤ limits .claims → n ≤ limits .held → headerFrom (bytesOf A ++ (bytesOf M ++ (bytesOf n ++ l))) ≡ got (record { assumptions = A; claims = M; records = n }) l
 unfolding headerFrom
 header-back A M n l a m k =
-    rw (number-back A (bytesOf M ++ (bytesOf n ++ l)) (omega arith), number-back M (bytesOf n ++ l) (omega arith), number-back n l (omega arith), le-ltb 32 A a, le-ltb 96 M m, le-ltb 256 n k)
+    rw (number-back A (bytesOf M ++ (bytesOf n ++ l)) (omega arith), number-back M (bytesOf n ++ l) (omega arith), number-back n l (omega arith), le-ltb (limits .assumptions) A a, le-ltb (limits .claims) M m, le-ltb (limits .held) n k)
 
 -- ---- numbers made of each, one after another
 

@@ -27,6 +27,7 @@ use Rattle.store.specs.Calls.{answer, noStore, storeOf}
 use Rattle.store.specs.Shape.{heldFits}
 use Rattle.store.specs.declared.Store.{Store}
 use Rattle.theory.proofs.Lists.{and-right, clash, either, some-intro}
+use Rattle.theory.specs.Limits.{limits}
 use Rattle.theory.specs.Lists.{each}
 use Rattle.theory.specs.Stages.{Justification}
 use Rattle.writing.proofs.Back.{bytes-length, bytes-short, each-each, header-back, itemFor, ranged-faultless, recordBytes, records-back}
@@ -51,7 +52,7 @@ meant-back N j r = ap (λ (l : List ℕ). record { consequent = j .consequent; s
 abbrev pub caseFor : ℕ → ℕ → List Justification → Case
 caseFor A M J = record { header = record { assumptions = A; claims = M; records = length J }; items = map itemFor J }
 
-module _ (A M : ℕ) (J : List Justification) (few : A ≤ 32) (claims : M ≤ 96) (room : length J ≤ 256) (ranged : (j : Justification) → Mem j J → Ranged (A + M) j) where
+module _ (A M : ℕ) (J : List Justification) (few : A ≤ limits .assumptions) (claims : M ≤ limits .claims) (room : length J ≤ limits .held) (ranged : (j : Justification) → Mem j J → Ranged (A + M) j) where
   pub case-fine : Sound (caseFor A M J)
   case-fine = record {
     limited = record { assumptions = few; claims = claims; records = room };
@@ -83,7 +84,7 @@ numbers-short [] f = refl
 numbers-short (x ∷ l) f = omega (arith, bytes-short x (f x (here refl)), length-append (bytesOf x) (each bytesOf l), numbers-short l (λ y m. f y (there m)))
 
 -- of rising numbers up to 128 at most one takes two bytes
-numbers-rise : (N p : ℕ) (l : List ℕ) → N ≤ 128 → climbs N p l ≡ true → length (each bytesOf l) ≤ length l + 1
+numbers-rise : (N p : ℕ) (l : List ℕ) → N ≤ limits .numbers → climbs N p l ≡ true → length (each bytesOf l) ≤ length l + 1
 unfolding each climbs
 numbers-rise N p [] n h = omega arith
 numbers-rise N p (x ∷ l) n h =
@@ -94,7 +95,7 @@ numbers-rise N p (x ∷ l) n h =
     (either (ltb x 128))
 
 -- a consequent 128 is not among its supports
-record-length : (N : ℕ) (j : Justification) → N ≤ 128 → Ranged N j → length (recordBytes j) ≤ 7
+record-length : (N : ℕ) (j : Justification) → N ≤ limits .numbers → Ranged N j → length (recordBytes j) ≤ 7
 unfolding recordFor each
 record-length N j n r =
     let c : ℕ = j .consequent in
@@ -123,7 +124,7 @@ module _ (h : Held) (fits : heldFits h ≡ true) where
   fine : Fitting h
   fine = fits-elim h fits
 
-  few : h .count ≤ 256
+  few : h .count ≤ limits .held
   few = right-elim h (fine .right) .few
 
   many : length (saidBy h) ≡ h .count
@@ -137,8 +138,8 @@ module _ (h : Held) (fits : heldFits h ≡ true) where
   unfolding caseOf
   file-spells =
       let J : List Justification = saidBy h in
-      let a : A ≤ 32 = fine .few in
-      let m : M ≤ 96 = fine .claims in
+      let a : A ≤ limits .assumptions = fine .few in
+      let m : M ≤ limits .claims = fine .claims in
       let e : fileOf h ≡ bytesOf A ++ (bytesOf M ++ (bytesOf (length J) ++ each recordBytes J)) = file-parts h ∙ ap (λ (n : ℕ). bytesOf A ++ (bytesOf M ++ (bytesOf n ++ each recordBytes J))) (sym many) in
       ap (λ (l : List ℕ). caseAfter (headerFrom l)) e
       ∙ ap caseAfter (header-back A M (length J) (each recordBytes J) a m (omega (arith, few, many)))
@@ -157,7 +158,7 @@ module _ (h : Held) (fits : heldFits h ≡ true) where
 
   -- ---- how long it is
 
-  low : A + M ≤ 128
+  low : A + M ≤ limits .numbers
   low = omega (arith, fine .few, fine .claims)
 
   records-length : (J : List Justification) → ((j : Justification) → Mem j J → Ranged (A + M) j) → length (each recordBytes J) ≤ 7 * length J
@@ -165,7 +166,7 @@ module _ (h : Held) (fits : heldFits h ≡ true) where
   records-length [] f = omega arith
   records-length (j ∷ J) f = omega (arith, record-length (A + M) j low (f j (here refl)), length-append (recordBytes j) (each recordBytes J), records-length J (λ i m. f i (there m)))
 
-  -- 4 bytes before the records, 256 records of 7
+  -- 4 bytes before the records, a full store of records of 7
   pub file-length : length (fileOf h) ≤ 1796
   file-length =
       let R : List ℕ = each recordBytes (saidBy h) in

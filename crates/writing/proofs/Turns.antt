@@ -25,6 +25,7 @@ use Rattle.store.specs.declared.Store.{Store}
 use Rattle.text.proofs.Writing.{Left, left-as, left-byte, left-none}
 use Rattle.text.specs.Writing.{Put, Room}
 use Rattle.theory.proofs.Lists.{and-left}
+use Rattle.theory.specs.Limits.{limits}
 use Rattle.theory.specs.Lists.{each}
 use Rattle.theory.specs.Stages.{Justification}
 use Rattle.writing.proofs.Back.{bytes-one, bytes-two, recordBytes}
@@ -81,7 +82,7 @@ module _ (h : Held) (right : heldRight h ≡ true) (j : ℕ) where
   held-end q = each-end recordBytes (saidBy h) j (omega (arith, said-many h right))
 
 -- each place in use: its consequent and its count of supports are low
-pub held-entry : (h : Held) → heldFits h ≡ true → (j : ℕ) → j < h .count → (getD (h .entries) j beyond .consequent ≤ 128) × (getD (h .entries) j beyond .count ≤ 4)
+pub held-entry : (h : Held) → heldFits h ≡ true → (j : ℕ) → j < h .count → (getD (h .entries) j beyond .consequent ≤ limits .numbers) × (getD (h .entries) j beyond .count ≤ limits .supports)
 held-entry h fits j q =
     let f = fits-elim h fits in
     let N : ℕ = h .assumptions + h .claims in

@@ -5,17 +5,20 @@ use replies::Reply;
 use rules::Entry;
 use rules::Held;
 use store::Store;
+use theory::HELD;
+use theory::SUPPORTS;
 ghost use mathlib.Core.Bool.{true};
 ghost use mathlib.Core.Path.{_≡_};
 ghost use Prim.Native.Nat.{_<_, _≤_};
 ghost use Rattle.rules.specs.Held.{meaning};
 ghost use Rattle.store.specs.Shape.{heldFits};
 ghost use Rattle.text.specs.Writing.{Put, Room};
+ghost use Rattle.theory.specs.Limits.{limits};
 ghost use Rattle.theory.specs.Lists.{each};
 ghost use Rattle.writing.specs.Writing.{Writes, bytesOf, fileOf, recordFor};
 
-// No file of a store of right shape is longer: 4 bytes before the records, and 256 records of 7.
-pub const LONGEST: usize = 1796;
+// No file of a store of right shape is longer: 4 bytes before the records, and each record with all its supports, two bytes for the highest number.
+pub const LONGEST: usize = 4 + HELD * (SUPPORTS + 3);
 
 // The number n in its shortest form.
 fn put_number(n: u32, at: usize, out: &mut [u8]) -> usize
@@ -45,7 +48,7 @@ fn put_numbers(list: &[u8], at: usize, out: &mut [u8]) -> usize
 
 // The record of what the place says.
 fn put_entry(entry: Entry, at: usize, out: &mut [u8]) -> usize
-    requires { ⌜ (entry .consequent ≤ 128) × (entry .count ≤ 4) × Room (each bytesOf (recordFor (meaning entry))) at (now out) ⌝ }
+    requires { ⌜ (entry .consequent ≤ limits .numbers) × (entry .count ≤ limits .supports) × Room (each bytesOf (recordFor (meaning entry))) at (now out) ⌝ }
     ensures { λ r. ⌜ Put (each bytesOf (recordFor (meaning entry))) at (now (out .entry)) (now (out .exit)) r ⌝ }
 {
     let count = entry.count;

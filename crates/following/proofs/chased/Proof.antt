@@ -1,7 +1,7 @@
 -- `following::chased` meets its contract. The invariant: justifications held were gone over. Assumes nothing.
 use mathlib.Core.List.{List}
 use mathlib.Core.Path.{_∙_, _≡_, ap, refl, sym}
-use Prim.Native.Nat.{_-_, _<_, _≤_, ℕ}
+use Prim.Native.Nat.{_+_, _-_, _<_, _≤_, ℕ}
 use native.Mathlib.Omega.{arith}
 use borrow.Author.Needs.{needs}
 use lib.ListN.{length}
@@ -12,12 +12,13 @@ use Rattle.rules.proofs.Scan.{right-count, right-elim}
 use Rattle.rules.specs.Held.{saidBy}
 use Rattle.following.proofs.chased.Statement.{statement}
 use Rattle.following.proofs.chased.Tie as tie
+use Rattle.theory.specs.Limits.{limits}
 
 abbrev Inv-loop : tie.InvT-loop
-Inv-loop hints from held count marks₀ n₀ k₀ marks n k = (n ≤ 128) × (length marks ≡ 129) × Hurried (saidBy held) marks₀ marks
+Inv-loop hints from held count marks₀ n₀ k₀ marks n k = (n ≤ limits .numbers) × (length marks ≡ limits .numbers + 1) × Hurried (saidBy held) marks₀ marks
 
 abbrev μ-loop : tie.MeasureT-loop
-μ-loop hints from held count marks₀ n₀ k₀ marks n k = 128 - k
+μ-loop hints from held count marks₀ n₀ k₀ marks n k = limits .numbers - k
 
 loop-holds : tie.Need-loop-holds Inv-loop μ-loop
 loop-holds c = (c .before .pre .2, search needs, hurried-none _ _)

@@ -1,6 +1,6 @@
 -- `following::hints` is safe; its answer is a hint and nothing is said of it but its length. Assumes nothing.
 use mathlib.Core.Path.{_∙_, _≡_}
-use Prim.Native.Nat.{_-_, _≤_}
+use Prim.Native.Nat.{_+_, _-_, _≤_}
 use native.Mathlib.Omega.{arith}
 use borrow.Author.Needs.{needs}
 use lib.ListN.{length, length-set}
@@ -8,9 +8,10 @@ use Rattle.following.proofs.Places.{entry-first}
 use Rattle.rules.proofs.Scan.{right-elim}
 use Rattle.following.proofs.hints.Statement.{statement}
 use Rattle.following.proofs.hints.Tie as tie
+use Rattle.theory.specs.Limits.{limits}
 
 abbrev Inv-loop : tie.InvT-loop
-Inv-loop held count places₀ j₀ places j = (j ≤ count) × (length places ≡ 129)
+Inv-loop held count places₀ j₀ places j = (j ≤ count) × (length places ≡ limits .numbers + 1)
 
 abbrev μ-loop : tie.MeasureT-loop
 μ-loop held count places₀ j₀ places j = count - j

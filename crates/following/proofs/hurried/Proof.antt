@@ -1,6 +1,6 @@
 -- `following::hurried` meets its contract. The invariant: justifications held were gone over. Assumes nothing.
 use mathlib.Core.Path.{_∙_, _≡_}
-use Prim.Native.Nat.{_-_}
+use Prim.Native.Nat.{_+_, _-_}
 use native.Mathlib.Omega.{arith}
 use borrow.Author.Needs.{needs}
 use lib.ListN.{length}
@@ -9,12 +9,13 @@ use Rattle.following.specs.Promised.{Hurried}
 use Rattle.rules.specs.Held.{saidBy}
 use Rattle.following.proofs.hurried.Statement.{statement}
 use Rattle.following.proofs.hurried.Tie as tie
+use Rattle.theory.specs.Limits.{limits}
 
 abbrev Inv-loop : tie.InvT-loop
 Inv-loop held places marks₀ n₀ marks n = Hurried (saidBy held) marks₀ marks
 
 abbrev μ-loop : tie.MeasureT-loop
-μ-loop held places marks₀ n₀ marks n = 129 - n
+μ-loop held places marks₀ n₀ marks n = (limits .numbers + 1) - n
 
 hints-requires : tie.Need-hints-requires Inv-loop μ-loop
 hints-requires c κs = search needs

@@ -1,16 +1,17 @@
 -- `labels::drawn` meets its contract. Assumes nothing.
-use Prim.Native.Nat.{_-_}
+use Prim.Native.Nat.{_+_, _-_}
 use native.Mathlib.Omega.{arith}
 use borrow.Author.Needs.{needs}
 use Rattle.labels.proofs.Drawing.{Drawn, drawn-all, drawn-full, drawn-more, drawn-none}
 use Rattle.labels.proofs.drawn.Statement.{statement}
 use Rattle.labels.proofs.drawn.Tie as tie
+use Rattle.theory.specs.Limits.{limits}
 
 abbrev Inv-loop : tie.InvT-loop
 Inv-loop pool limit sets₀ i₀ sets i = Drawn pool limit sets i
 
 abbrev μ-loop : tie.MeasureT-loop
-μ-loop pool limit sets₀ i₀ sets i = 33 - i
+μ-loop pool limit sets₀ i₀ sets i = (limits .nogoods + 1) - i
 
 loop-holds : tie.Need-loop-holds Inv-loop μ-loop
 loop-holds c = drawn-none _ _

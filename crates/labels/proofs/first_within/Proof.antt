@@ -9,6 +9,7 @@ use Rattle.sets.specs.Promised.{meet}
 use borrow.Author.Needs.{needs}
 use Rattle.labels.proofs.first_within.Statement.{statement}
 use Rattle.labels.proofs.first_within.Tie as tie
+use Rattle.theory.specs.Limits.{limits}
 
 abbrev Inv-loop : tie.InvT-loop
 Inv-loop list e count others i₀ i = (count ≡ length list) × (i ≤ count) × (firstWithin list e ≡ i + firstWithin (drop i list) e)
@@ -44,7 +45,7 @@ loop-again c = let l = c .before .before .before .before .loop in
       l .inv .0,
       omega arith,
       first-on _ _ _ (l .inv .2) (omega arith) _
-          (some-out 32 (getD (a .list .now) (l .i) 0) (a .e) (omega (arith, known)) (omega arith) (λ z. c .if2 .left (c .before .meet .ensures ∙ ap (meet (getD (a .list .now) (l .i) 0)) (c .before .before .before .before .before .without .ensures) ∙ z))) refl,
+          (some-out (limits .assumptions) (getD (a .list .now) (l .i) 0) (a .e) (omega (arith, known)) (omega arith) (λ z. c .if2 .left (c .before .meet .ensures ∙ ap (meet (getD (a .list .now) (l .i) 0)) (c .before .before .before .before .before .without .ensures) ∙ z))) refl,
     )
 
 returns : tie.Need-returns Inv-loop μ-loop
@@ -55,7 +56,7 @@ returns-2 c = let l = c .before .before .before .before .loop in
     let a = c .before .before .before .before .before .before .before .args in
     let known = c .before .before .shared-slice-known2 .given (l .i) in
     first-here _ _ (l .i) (l .inv .2) (omega arith) _
-    (none-out 32 (getD (a .list .now) (l .i) 0) (a .e) (omega (arith, known)) (omega arith) (sym (c .before .meet .ensures ∙ ap (meet (getD (a .list .now) (l .i) 0)) (c .before .before .before .before .before .without .ensures)) ∙ c .if2 .taken)) refl
+    (none-out (limits .assumptions) (getD (a .list .now) (l .i) 0) (a .e) (omega (arith, known)) (omega arith) (sym (c .before .meet .ensures ∙ ap (meet (getD (a .list .now) (l .i) 0)) (c .before .before .before .before .before .without .ensures)) ∙ c .if2 .taken)) refl
 
 pub first-within-spec : {M : Type 1} → statement M
 first-within-spec =

@@ -7,12 +7,13 @@ use lib.ListN.{drop, length}
 use borrow.Author.Needs.{needs}
 use Rattle.script.proofs.Taking.{above-at, above-not}
 use Rattle.theory.proofs.Places.{any-end}
+use Rattle.theory.specs.Limits.{limits}
 use Rattle.theory.specs.Lists.{someOf}
 use Rattle.script.proofs.has_above.Statement.{statement}
 use Rattle.script.proofs.has_above.Tie as tie
 
 abbrev Inv-loop : tie.InvT-loop
-Inv-loop values i₀ i = (i ≤ length values) × (someOf (ltb 32) values ≡ someOf (ltb 32) (drop i values))
+Inv-loop values i₀ i = (i ≤ length values) × (someOf (ltb (limits .assumptions)) values ≡ someOf (ltb (limits .assumptions)) (drop i values))
 
 abbrev μ-loop : tie.MeasureT-loop
 μ-loop values i₀ i = length values - i
@@ -39,7 +40,7 @@ loop-again : tie.Need-loop-again Inv-loop μ-loop
 loop-again c = let l = c .before .before .before .loop in (omega arith, l .inv .1 ∙ above-not _ (l .i) (omega arith) (c .if1 .left))
 
 returns-2 : tie.Need-returns-2 Inv-loop μ-loop
-returns-2 c = let l = c .before .loop in sym (l .inv .1 ∙ any-end (ltb 32) _ (l .i) (omega arith))
+returns-2 c = let l = c .before .loop in sym (l .inv .1 ∙ any-end (ltb (limits .assumptions)) _ (l .i) (omega arith))
 
 pub has-above-spec : {M : Type 1} → statement M
 has-above-spec =

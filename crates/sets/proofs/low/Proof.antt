@@ -1,15 +1,17 @@
 -- `sets::low` meets its contract. Assumes nothing.
-use native.Mathlib.Omega.{arith}
 use borrow.Author.Needs.{needs}
-use Rattle.sets.proofs.Operations.{range-test}
+use Rattle.sets.proofs.Operations.{range-test, range-whole}
 use Rattle.sets.proofs.low.Statement.{statement}
 use Rattle.sets.proofs.low.Tie as tie
 
-shl-result : tie.Need-shl-result
-shl-result c = search needs
-
 returns : tie.Need-returns
-returns c = range-test 64 (c .args .e) (c .args .a) (omega arith)
+returns c = range-whole 32 (c .before .args .e) (c .before .args .a) (search needs) (c .if1 .taken)
+
+shr-result : tie.Need-shr-result
+shr-result c = search needs
+
+returns-2 : tie.Need-returns-2
+returns-2 c = range-test (c .before .args .e) (c .before .args .a)
 
 pub low-spec : {M : Type 1} → statement M
-low-spec = tie.close (tie.spec shl-result returns)
+low-spec = tie.close (tie.spec returns shr-result returns-2)

@@ -1,6 +1,6 @@
 -- `stages::laid` meets its contract. The loop: those before a place are laid. Assumes nothing.
 use mathlib.Core.Path.{_∙_, _≡_, ap, refl}
-use Prim.Native.Nat.{_-_, _<_, _≤_, ℕ}
+use Prim.Native.Nat.{_*_, _-_, _<_, _≤_, ℕ}
 use native.Mathlib.Omega.{arith}
 use lib.ListN.{getD, length}
 use Rattle.labels.specs.Layout.{entryAt}
@@ -11,12 +11,13 @@ use Rattle.stages.proofs.Sixes.{laid-all, laid-long, laid-on}
 use borrow.Author.Needs.{needs}
 use Rattle.stages.proofs.laid.Statement.{statement}
 use Rattle.stages.proofs.laid.Tie as tie
+use Rattle.theory.specs.Limits.{limits}
 
 abbrev Inv-loop : tie.InvT-loop
-Inv-loop held rules₀ j₀ rules j = (j ≤ 256) × (length rules ≡ 1536) × ((k : ℕ) → k < j → entryAt rules k ≡ getD (held .entries) k beyond)
+Inv-loop held rules₀ j₀ rules j = (j ≤ limits .held) × (length rules ≡ limits .numbers * limits .label) × ((k : ℕ) → k < j → entryAt rules k ≡ getD (held .entries) k beyond)
 
 abbrev μ-loop : tie.MeasureT-loop
-μ-loop held rules₀ j₀ rules j = 256 - j
+μ-loop held rules₀ j₀ rules j = limits .held - j
 
 loop-holds : tie.Need-loop-holds Inv-loop μ-loop
 loop-holds c = (omega arith, refl, λ k h. absurd (omega arith))
@@ -89,7 +90,7 @@ loop-again c = let l = c .before .before .before .loop in
 
 returns : tie.Need-returns Inv-loop μ-loop
 returns c = let l = c .before .loop in
-    let e : length (c .before .before .args .t1 .entries) ≡ 256 = search (needs, length-mapped) in
+    let e : length (c .before .before .args .t1 .entries) ≡ limits .held = search (needs, length-mapped) in
     laid-all (l .rules) (c .before .before .args .t1 .entries) e (λ k h. l .inv .2 k (omega arith))
 
 pub laid-spec : {M : Type 1} → statement M

@@ -18,6 +18,7 @@ use Rattle.stages.specs.Steps.{lists, stageBy}
 use Rattle.stages.specs.declared.Lists.{Lists}
 use Rattle.stages.proofs.next.Statement.{statement}
 use Rattle.stages.proofs.next.Tie as tie
+use Rattle.theory.specs.Limits.{limits}
 
 touched-requires : tie.Need-touched-requires
 touched-requires c κs = (c .before .before .before .before .pre .0 .judgeable, c .before .before .before .before .pre .2 .long)
@@ -44,7 +45,7 @@ returns : tie.Need-returns
 returns c =
     let p = c .before .before .before .before .before .before .before .before .pre in
     let a = c .before .before .before .before .before .before .before .before .args in
-    turn-stopped (a .held) (a .depth) _ _ _ _ Nogoods over-not-done refl (next-over (a .depth + 1) _ (built-over 32 (stageBy (a .held) (a .depth + 1) .nogoods) _ (c .before .before .refuted .ensures) (c .before .if1 .taken)) _ refl) (c .stopped .ensures)
+    turn-stopped (a .held) (a .depth) _ _ _ _ Nogoods over-not-done refl (next-over (a .depth + 1) _ (built-over (limits .nogoods) (stageBy (a .held) (a .depth + 1) .nogoods) _ (c .before .before .refuted .ensures) (c .before .if1 .taken)) _ refl) (c .stopped .ensures)
 
 array-share-prefix-nogoods : tie.Need-array-share-prefix-nogoods
 array-share-prefix-nogoods c =

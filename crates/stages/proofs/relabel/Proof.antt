@@ -17,6 +17,7 @@ use Rattle.stages.proofs.Stages.{layout, members-are, olds-lie, room-sh
 use Rattle.stages.specs.Steps.{lists, stageBy}
 use Rattle.stages.specs.declared.Lists.{Lists}
 use Rattle.theory.proofs.Judgement.{stage-length}
+use Rattle.theory.specs.Limits.{limits}
 use Rattle.stages.proofs.relabel.Statement.{statement}
 use Rattle.stages.proofs.relabel.Tie as tie
 
@@ -104,7 +105,7 @@ build-requires c κs =
     let w = wide (a .held) (p .0 .2 .judgeable) in
     let lay = layout _ _ (p .0 .2 .room) was (p .0 .2 .is) in
     let h : l .i < a .held .assumptions + a .held .claims = c .before .before .before .if1 .taken in
-    let top : l .i + 1 ≤ 128 = omega arith in
+    let top : l .i + 1 ≤ limits .numbers = omega arith in
     let is = meant-laid (a .rules .now) (a .held) (p .9) (l .hi) (l .hi + getD (a .t3) (l .i + 1) 0) ∙ part-is (a .held) (p .0 .2 .judgeable) (l .i + 1) (l .hi) (l .hi + getD (a .t3) (l .i + 1) 0) (l .inv .part) (tally-end (a .held) (p .0 .2 .judgeable) (a .t3) (p .1) (l .i + 1) (l .hi) top (l .inv .part)) in
     (lay, part-laid (a .rules .now) (a .held) (p .9) (p .0 .2 .judgeable) (l .hi) _ (tally-inside _ (p .0 .2 .judgeable) _ (p .1) (l .i + 1) (l .hi) top (l .inv .part)), tally-low _ (p .0 .2 .judgeable) _ (p .1) (l .i + 1) (l .hi) top (l .inv .part), omega arith, label-still (a .held) was (p .0 .2) _ (p .4) (l .i + 1) (omega arith) _ is _ _ (p .2) (olds-lie (a .olds .now) (a .members .now) (a .sizes .now) (l .i) (p .10)))
 
@@ -142,7 +143,7 @@ returns c =
     let lay = layout _ _ (p .0 .2 .room) was (p .0 .2 .is) in
     let h : l .i < a .held .assumptions + a .held .claims = c .before .before .before .before .before .before .if1 .taken in
     let n = stage-length (a .held .assumptions) (a .held .assumptions + a .held .claims) (saidBy (a .held)) (a .depth + 1) in
-    over-at (a .held) (a .depth) (l .i) (l .inv .short) (omega arith) (built-over 12 (getD (stageBy (a .held) (a .depth + 1) .labels) (l .i) []) _ (label-laid (a .held) was (p .0 .2) (a .t3) (p .1) (a .rules .now) (p .9) _ (p .2) (l .i) (l .hi) h (l .inv .part) _ (olds-lie (a .olds .now) (a .members .now) (a .sizes .now) (l .i) (p .10)) _ (c .before .before .build .ensures)) (c .if3 .taken)) _ _ _
+    over-at (a .held) (a .depth) (l .i) (l .inv .short) (omega arith) (built-over (limits .label) (getD (stageBy (a .held) (a .depth + 1) .labels) (l .i) []) _ (label-laid (a .held) was (p .0 .2) (a .t3) (p .1) (a .rules .now) (p .9) _ (p .2) (l .i) (l .hi) h (l .inv .part) _ (olds-lie (a .olds .now) (a .members .now) (a .sizes .now) (l .i) (p .10)) _ (c .before .before .build .ensures)) (c .if3 .taken)) _ _ _
 
 put-requires : tie.Need-put-requires Inv-loop μ-loop
 put-requires c κs = let p = c .before .before .before .before .before .before .before .before .before .before .before .before .before .before .before .before .before .before .pre in
@@ -165,7 +166,7 @@ loop-again c =
     let lay = layout _ _ (p .0 .2 .room) was (p .0 .2 .is) in
     let h : l .i < a .held .assumptions + a .held .claims = c .before .before .before .before .before .before .before .before .before .before .before .before .before .before .before .before .if1 .taken in
     let b = label-laid (a .held) was (p .0 .2) (a .t3) (p .1) (a .rules .now) (p .9) _ (p .2) (l .i) (l .hi) h (l .inv .part) _ (olds-lie (a .olds .now) (a .members .now) (a .sizes .now) (l .i) (p .10)) _ (c .before .before .before .before .before .before .before .before .before .before .before .before .build .ensures) in
-    relabelling-put (a .held) (a .depth) _ _ _ (l .hi) (l .i) (l .inv) w h _ (tally-on (a .held) (p .0 .2 .judgeable) (a .t3) (p .1) (l .i + 1) (l .hi) (omega (arith, w, c .before .before .before .before .before .before .before .before .before .before .before .before .before .before .before .before .if1 .taken)) (l .inv .part)) (c .before .before .before .before .before .before .before .before .before .before .before .before .build .result) (built-length 12 (getD (stageBy (a .held) (a .depth + 1) .labels) (l .i) []) _ b (c .before .before .before .before .before .before .before .before .before .before .if3 .left)) (built-sets 12 (getD (stageBy (a .held) (a .depth + 1) .labels) (l .i) []) _ b (c .before .before .before .before .before .before .before .before .before .before .if3 .left)) (built-short 12 (getD (stageBy (a .held) (a .depth + 1) .labels) (l .i) []) _ b (c .before .before .before .before .before .before .before .before .before .before .if3 .left)) _ (old-is (a .held) was (p .0 .2) (l .i) h _ (olds-lie (a .olds .now) (a .members .now) (a .sizes .now) (l .i) (p .10))) _ _ _ (c .before .before .before .before .before .before .put .ensures)
+    relabelling-put (a .held) (a .depth) _ _ _ (l .hi) (l .i) (l .inv) w h _ (tally-on (a .held) (p .0 .2 .judgeable) (a .t3) (p .1) (l .i + 1) (l .hi) (omega (arith, w, c .before .before .before .before .before .before .before .before .before .before .before .before .before .before .before .before .if1 .taken)) (l .inv .part)) (c .before .before .before .before .before .before .before .before .before .before .before .before .build .result) (built-length (limits .label) (getD (stageBy (a .held) (a .depth + 1) .labels) (l .i) []) _ b (c .before .before .before .before .before .before .before .before .before .before .if3 .left)) (built-sets (limits .label) (getD (stageBy (a .held) (a .depth + 1) .labels) (l .i) []) _ b (c .before .before .before .before .before .before .before .before .before .before .if3 .left)) (built-short (limits .label) (getD (stageBy (a .held) (a .depth + 1) .labels) (l .i) []) _ b (c .before .before .before .before .before .before .before .before .before .before .if3 .left)) _ (old-is (a .held) was (p .0 .2) (l .i) h _ (olds-lie (a .olds .now) (a .members .now) (a .sizes .now) (l .i) (p .10))) _ _ _ (c .before .before .before .before .before .before .put .ensures)
 
 loop-less-2 : tie.Need-loop-less-2 Inv-loop μ-loop
 loop-less-2 c = omega (arith, c .before .before .before .before .if1 .taken)
@@ -187,7 +188,7 @@ strike-requires c κs =
     let i = c .before .before .before .before .before .before .loop .i in
     let m = c .before .before .before .before .before .before .before .before .before .before .before .before .before .args .olds .now in
     let n = c .before .before .before .before .before .before .before .before .before .before .before .before .before .args .sizes .now in
-    omega (arith, length-take (12 * i + getD n i 0 - 12 * i) (drop (12 * i) m), layout _ _ (p .room) _ (p .is) .sizes-small i)
+    omega (arith, length-take (limits .label * i + getD n i 0 - limits .label * i) (drop (limits .label * i) m), layout _ _ (p .room) _ (p .is) .sizes-small i)
 
 put-requires-2 : tie.Need-put-requires-2 Inv-loop μ-loop
 put-requires-2 c κs =

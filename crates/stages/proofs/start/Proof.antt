@@ -8,9 +8,10 @@ use native.Mathlib.Omega.{arith}
 use borrow.Author.Needs.{needs}
 use Rattle.stages.proofs.start.Statement.{statement}
 use Rattle.stages.proofs.start.Tie as tie
+use Rattle.theory.specs.Limits.{limits}
 
 abbrev Inv-loop : tie.InvT-loop
-Inv-loop assumptions lists₀ i₀ lists i = (i ≤ assumptions) × (lists .sizes ≡ sizesTo i) × (lists .members ≡ membersTo i) × (lists .count ≡ 0) × (lists .nogoods ≡ replicate 32 0) × (lists .depth ≡ 0)
+Inv-loop assumptions lists₀ i₀ lists i = (i ≤ assumptions) × (lists .sizes ≡ sizesTo i) × (lists .members ≡ membersTo i) × (lists .count ≡ 0) × (lists .nogoods ≡ replicate (limits .nogoods) 0) × (lists .depth ≡ 0)
 
 abbrev μ-loop : tie.MeasureT-loop
 μ-loop assumptions lists₀ i₀ lists i = assumptions - i
@@ -20,9 +21,6 @@ loop-holds c = (omega arith, sizes-none, members-none, refl, refl, refl)
 
 cast-at : tie.Need-cast-at Inv-loop μ-loop
 cast-at c = search needs
-
-cast-only : tie.Need-cast-only Inv-loop μ-loop
-cast-only c = search needs
 
 add-only : tie.Need-add-only Inv-loop μ-loop
 add-only c = search needs
@@ -39,7 +37,7 @@ loop-less c = search needs
 loop-again : tie.Need-loop-again Inv-loop μ-loop
 loop-again c =
     let l = c .before .before .loop in
-    let h : l .i < 128 = omega (arith, c .before .before .before .pre) in
+    let h : l .i < limits .numbers = omega (arith, c .before .before .before .pre) in
     (omega arith, sizes-more (l .i) h _ (l .inv .1), members-more (l .i) h _ (l .inv .2) _ (c .only .ensures), l .inv .3, l .inv .4, l .inv .5)
 
 returns : tie.Need-returns Inv-loop μ-loop
@@ -71,7 +69,6 @@ start-spec =
     loop-holds
     cast-at
     element-write-lists
-    cast-only
     add-only
     only-requires
     mul-lists

@@ -1,6 +1,6 @@
 -- `stages::tally` meets its contract. Assumes nothing.
 use mathlib.Core.Path.{_∙_, _≡_, refl}
-use Prim.Native.Nat.{_-_, _≤_}
+use Prim.Native.Nat.{_+_, _-_, _≤_}
 use native.Mathlib.Omega.{arith}
 use lib.ListN.{getD, length, length-set}
 use Rattle.rules.proofs.Scan.{right-elim}
@@ -9,9 +9,10 @@ use Rattle.rules.specs.Held.{saidBy}
 use Rattle.stages.proofs.Parts.{Counted, count-all, count-few, count-none, count-turn, entry-low}
 use Rattle.stages.proofs.tally.Statement.{statement}
 use Rattle.stages.proofs.tally.Tie as tie
+use Rattle.theory.specs.Limits.{limits}
 
 abbrev Inv-loop : tie.InvT-loop
-Inv-loop held count tallies₀ j₀ tallies j = (j ≤ count) × (length tallies ≡ 129) × Counted (saidBy held) j tallies
+Inv-loop held count tallies₀ j₀ tallies j = (j ≤ count) × (length tallies ≡ limits .numbers + 1) × Counted (saidBy held) j tallies
 
 abbrev μ-loop : tie.MeasureT-loop
 μ-loop held count tallies₀ j₀ tallies j = count - j

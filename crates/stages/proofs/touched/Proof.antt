@@ -1,7 +1,7 @@
 -- `stages::touched` meets its contract. Assumes nothing.
 use mathlib.Core.List.{map}
 use mathlib.Core.Path.{_∙_, _≡_, refl}
-use Prim.Native.Nat.{_-_, _≤_}
+use Prim.Native.Nat.{_+_, _-_, _≤_}
 use native.Mathlib.Omega.{arith}
 use lib.ListN.{length, length-set, take}
 use Rattle.rules.proofs.Scan.{right-elim}
@@ -12,9 +12,10 @@ use Rattle.stages.proofs.Parts.{entry-few, entry-low, entry-ranged}
 use Rattle.stages.specs.Steps.{Touched}
 use Rattle.stages.proofs.touched.Statement.{statement}
 use Rattle.stages.proofs.touched.Tie as tie
+use Rattle.theory.specs.Limits.{limits}
 
 abbrev Inv-loop : tie.InvT-loop
-Inv-loop moved held count first marks₀ j₀ marks j = (j ≤ count) × (length marks ≡ 129) × Touched moved (map meaning (take j (held .entries))) marks
+Inv-loop moved held count first marks₀ j₀ marks j = (j ≤ count) × (length marks ≡ limits .numbers + 1) × Touched moved (map meaning (take j (held .entries))) marks
 
 abbrev μ-loop : tie.MeasureT-loop
 μ-loop moved held count first marks₀ j₀ marks j = count - j

@@ -6,19 +6,20 @@ use Rattle.text.specs.Texts.{digits, row, spaced, word}
 use Rattle.text.proofs.Writing.{Left, left-byte, left-none, left-room, left-start, left-then}
 use Rattle.text.proofs.line.Statement.{statement}
 use Rattle.text.proofs.line.Tie as tie
+use Rattle.theory.specs.Limits.{limits}
 
 -- what is left to be written of the whole line of s
 abbrev Rest : tie.Start → List ℕ → ℕ → List ℕ → Type 0
-Rest s t at out = Left t at out (row 32 (s .args .n) (s .args .words .now) (s .args .list .now)) 0 (s .args .out .now)
+Rest s t at out = Left t at out (row (limits .assumptions) (s .args .n) (s .args .words .now) (s .args .list .now)) 0 (s .args .out .now)
 
-begun : (s : tie.Start) → Rest s (digits (s .args .n) ++ (s .args .words .now ++ (spaced 32 (s .args .list .now) ++ (10 ∷ [])))) 0 (s .args .out .now)
+begun : (s : tie.Start) → Rest s (digits (s .args .n) ++ (s .args .words .now ++ (spaced (limits .assumptions) (s .args .list .now) ++ (10 ∷ [])))) 0 (s .args .out .now)
 unfolding row word
 begun s = left-start (s .pre)
 
-numbered : (c : tie.After-number) → let s = c .before .before .before .before .before in Rest s (s .args .words .now ++ (spaced 32 (s .args .list .now) ++ (10 ∷ []))) (c .number .result) (c .number .last .1 .1 .0)
+numbered : (c : tie.After-number) → let s = c .before .before .before .before .before in Rest s (s .args .words .now ++ (spaced (limits .assumptions) (s .args .list .now) ++ (10 ∷ []))) (c .number .result) (c .number .last .1 .1 .0)
 numbered c = left-then _ _ (begun (c .before .before .before .before .before)) (c .number .ensures)
 
-worded : (c : tie.After-copy) → let s = c .before .before .before .before .before .before .before .before .before in Rest s (spaced 32 (s .args .list .now) ++ (10 ∷ [])) (c .copy .result) (c .copy .last .1 .1 .0)
+worded : (c : tie.After-copy) → let s = c .before .before .before .before .before .before .before .before .before in Rest s (spaced (limits .assumptions) (s .args .list .now) ++ (10 ∷ [])) (c .copy .result) (c .copy .last .1 .1 .0)
 worded c = left-then _ _ (numbered (c .before .before .before .before)) (c .copy .ensures)
 
 listed : (c : tie.After-members) → let s = c .before .before .before .before .before .before .before .before .before .before .before .before .before in Rest s (10 ∷ []) (c .members .result) (c .members .last .1 .1 .0)
@@ -31,7 +32,7 @@ copy-requires : tie.Need-copy-requires
 copy-requires c κs = left-room (c .before .before .before .before .before .before .before .before .args .words .now) _ (numbered (c .before .before .before))
 
 members-requires : tie.Need-members-requires
-members-requires c κs = left-room (spaced 32 (c .before .before .before .before .before .before .before .before .before .before .before .before .args .list .now)) _ (worded (c .before .before .before))
+members-requires c κs = left-room (spaced (limits .assumptions) (c .before .before .before .before .before .before .before .before .before .before .before .before .args .list .now)) _ (worded (c .before .before .before))
 
 slice-write-out : tie.Need-slice-write-out
 slice-write-out c = omega (arith, listed (c .before .before) .room)

@@ -10,9 +10,10 @@ use Rattle.text.proofs.Rests.{spaced-end, spaced-turn}
 use Rattle.text.proofs.Writing.{Left, left-byte, left-none, left-room, left-start, left-then}
 use Rattle.text.proofs.members.Statement.{statement}
 use Rattle.text.proofs.members.Tie as tie
+use Rattle.theory.specs.Limits.{limits}
 
 abbrev Inv-loop : tie.InvT-loop
-Inv-loop list at out₀ next₀ i₀ i-end out next i = (i-end ≡ length list) × (i ≤ length list) × Left (spaced 32 (drop i list)) next out (spaced 32 list) at out₀
+Inv-loop list at out₀ next₀ i₀ i-end out next i = (i-end ≡ length list) × (i ≤ length list) × Left (spaced (limits .assumptions) (drop i list)) next out (spaced (limits .assumptions) list) at out₀
 
 abbrev μ-loop : tie.MeasureT-loop
 μ-loop list at out₀ next₀ i₀ i-end out next i = i-end - i
@@ -20,11 +21,11 @@ abbrev μ-loop : tie.MeasureT-loop
 inside : (c : tie.In-loop Inv-loop μ-loop) → c .before .loop .i < length (c .before .before .before .before .args .list .now)
 inside c = omega arith
 
-turn : (c : tie.In-loop Inv-loop μ-loop) → let s = c .before .before .before .before in let i = c .before .loop .i in let l = s .args .list .now in Left (32 ∷ (braced 32 (getD l i 0) ++ spaced 32 (drop (i + 1) l))) (c .before .loop .next) (c .before .loop .out) (spaced 32 l) (s .args .at) (s .args .out .now)
-turn c = rw (← spaced-turn 32 (c .before .before .before .before .args .list .now) (c .before .loop .i) (inside c)) (c .before .loop .inv .2)
+turn : (c : tie.In-loop Inv-loop μ-loop) → let s = c .before .before .before .before in let i = c .before .loop .i in let l = s .args .list .now in Left (32 ∷ (braced (limits .assumptions) (getD l i 0) ++ spaced (limits .assumptions) (drop (i + 1) l))) (c .before .loop .next) (c .before .loop .out) (spaced (limits .assumptions) l) (s .args .at) (s .args .out .now)
+turn c = rw (← spaced-turn (limits .assumptions) (c .before .before .before .before .args .list .now) (c .before .loop .i) (inside c)) (c .before .loop .inv .2)
 
-ended : (c : tie.After-loop Inv-loop μ-loop) → let s = c .before .before .before .before in Left [] (c .before .loop .next) (c .before .loop .out) (spaced 32 (s .args .list .now)) (s .args .at) (s .args .out .now)
-ended c = rw (spaced-end 32 (c .before .before .before .before .args .list .now) (c .before .loop .i) (omega arith)) at (c .before .loop .inv .2)
+ended : (c : tie.After-loop Inv-loop μ-loop) → let s = c .before .before .before .before in Left [] (c .before .loop .next) (c .before .loop .out) (spaced (limits .assumptions) (s .args .list .now)) (s .args .at) (s .args .out .now)
+ended c = rw (spaced-end (limits .assumptions) (c .before .before .before .before .args .list .now) (c .before .loop .i) (omega arith)) at (c .before .loop .inv .2)
 
 loop-holds : tie.Need-loop-holds Inv-loop μ-loop
 loop-holds c = (refl, omega arith, left-start (c .before .before .pre))
@@ -42,7 +43,7 @@ add-braces : tie.Need-add-braces Inv-loop μ-loop
 add-braces c = omega (arith, turn (c .before) .room, turn (c .before) .same)
 
 braces-requires : tie.Need-braces-requires Inv-loop μ-loop
-braces-requires c κs = left-room (braced 32 (getD (c .before .before .before .before .before .before .args .list .now) (c .before .before .before .loop .i) 0)) _ (left-byte _ _ (turn (c .before .before)))
+braces-requires c κs = left-room (braced (limits .assumptions) (getD (c .before .before .before .before .before .before .args .list .now) (c .before .before .before .loop .i) 0)) _ (left-byte _ _ (turn (c .before .before)))
 
 add-i : tie.Need-add-i Inv-loop μ-loop
 add-i c = omega (arith, inside (c .before .before .before .before .before))

@@ -1,7 +1,7 @@
 -- `labels::pool::enter` meets its contract. Assumes nothing.
 use mathlib.Core.Bool.{true}
 use mathlib.Core.Path.{_∙_, _≡_, subst}
-use Prim.Native.Nat.{ℕ}
+use Prim.Native.Nat.{_+_, ℕ}
 use native.Mathlib.Omega.{arith}
 use lib.ListN.{length, length-set}
 use Rattle.labels.specs.Pool.{Entered}
@@ -9,6 +9,7 @@ use Rattle.labels.proofs.Pools.{enter-full, enter-room, purge-sorted}
 use borrow.Author.Needs.{needs}
 use Rattle.labels.proofs.pool.enter.Statement.{statement}
 use Rattle.labels.proofs.pool.enter.Tie as tie
+use Rattle.theory.specs.Limits.{limits}
 
 purge-requires : tie.Need-purge-requires
 purge-requires c κs = search needs
@@ -19,7 +20,7 @@ squeeze-requires c κs = (search needs, purge-sorted (c .before .before .before 
 returns : tie.Need-returns
 returns c =
     let s = c .before .before .before .before .before in
-    let e : length (s .args .pool .now) ≡ 33 = search needs in
+    let e : length (s .args .pool .now) ≡ limits .nogoods + 1 = search needs in
     let same = c .before .squeeze .kept .0 ∙ c .before .before .before .purge .kept .0 in (
       subst (λ (v : ℕ). Entered (s .args .pool .now) (s .args .fill) (s .args .e) (c .before .squeeze .last .0) (record { count = v; out = true; bound = c .before .squeeze .result; why = s .args .e })) e
           (enter-full (s .args .pool .now) (c .before .before .before .purge .last .0) (c .before .squeeze .last .0) (s .args .fill) (s .args .e) (c .before .before .before .purge .result) (c .before .squeeze .result) same (s .pre .fits) (c .before .before .before .purge .ensures .0) (c .before .before .before .purge .ensures .1) (c .before .squeeze .ensures) (omega (arith, e, c .if1 .taken))),
@@ -35,7 +36,7 @@ add-t12 c = search needs
 returns-2 : tie.Need-returns-2
 returns-2 c =
     let s = c .before .before .before .before .before in
-    let e : length (s .args .pool .now) ≡ 33 = search needs in
+    let e : length (s .args .pool .now) ≡ limits .nogoods + 1 = search needs in
     let same = c .before .squeeze .kept .0 ∙ c .before .before .before .purge .kept .0 in (
       enter-room (s .args .pool .now) (c .before .before .before .purge .last .0) (c .before .squeeze .last .0) (s .args .fill) (s .args .e) (c .before .before .before .purge .result) (c .before .squeeze .result) same (s .pre .fits) (c .before .before .before .purge .ensures .0) (c .before .before .before .purge .ensures .1) (c .before .squeeze .ensures) (omega (arith, e, c .if1 .left)),
       length-set (c .before .squeeze .last .0) _ _ ∙ same,
