@@ -11,6 +11,7 @@ use Rattle.stages.specs.declared.Lists.{Lists}
 use Rattle.store.specs.Shape.{rightShape, top}
 use Rattle.store.specs.declared.Store.{Store}
 use Rattle.theory.specs.Demands.{fromAll}
+use Rattle.theory.specs.Limits.{limits}
 use Rattle.theory.specs.Lists.{choose}
 use Rattle.theory.specs.Sets.{inRange}
 

@@ -1,6 +1,7 @@
 -- `judged` meets its contract: what is held, then the stages. Assumes nothing.
 use mathlib.Core.Bool.{true}
 use mathlib.Core.Path.{_∙_, _≡_, ap, sym}
+use native.Mathlib.Omega.{arith}
 use borrow.Author.Needs.{needs}
 use borrow.Author.Tests.{not-false, not-true}
 use Rattle.replies.specs.declared.Reply.the-variants.{Shape}
@@ -24,7 +25,7 @@ returns : tie.Need-returns
 returns c = ap (answer Shape) (c .start .ensures) ∙ judged-shape (c .before .before .before .args .held) (sym (c .before .before .held-fits .ensures) ∙ not-true _ (c .before .if1 .taken))
 
 judge-requires : tie.Need-judge-requires
-judge-requires c κs = let f = fits-elim (c .before .before .args .held) (fits c) in record { right = f .right; assumptions = f .few; claims = f .claims }
+judge-requires c κs = let f = fits-elim (c .before .before .args .held) (fits c) in record { right = f .right; assumptions = f .few; numbers = omega (arith, f .few, f .claims) }
 
 number-requires : tie.Need-number-requires
 number-requires c κs = search needs
