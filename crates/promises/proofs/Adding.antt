@@ -49,7 +49,7 @@ module _ {A M : ℕ} {H : List Justification} {s : Store} (f : Form A M H s) (c 
   unless x =
       choose (not (isDone x)) (answer x s)
       (choose (someOf (sameJustification i) J) (answer Already s)
-      (choose (leb 256 (length J)) (answer Full s)
+      (choose (leb (limits .held) (length J)) (answer Full s)
       (storeOf s A M (put i J)))) .reply
 
   reply-is : addOf s c l .reply ≡ unless (faultOf N c l)
@@ -73,10 +73,10 @@ module _ {A M : ℕ} {H : List Justification} {s : Store} (f : Form A M H s) (c 
         (says-same A N (in-order-members (i ∷ H)) (judge limits A N larger)
         (judge-says A N larger (λ j m t k. in-range j m .between t k .1) (judge limits A N larger) refl))
 
-    joined-says : given (Mem i H) Already (given (256 ≤ length J) Full (StagesSay A N (i ∷ H))) (unless Done)
+    joined-says : given (Mem i H) Already (given (limits .held ≤ length J) Full (StagesSay A N (i ∷ H))) (unless Done)
     joined-says =
         by-choice _ (λ (o : Outcome). o .reply) (someOf (sameJustification i) J) (answer Already s) _ held-test refl
-        (λ (p : someOf (sameJustification i) J ≡ false). by-choice _ (λ (o : Outcome). o .reply) (leb 256 (length J)) (answer Full s) (storeOf s A M (put i J)) (most-test 256 (length J)) refl
+        (λ (p : someOf (sameJustification i) J ≡ false). by-choice _ (λ (o : Outcome). o .reply) (leb (limits .held) (length J)) (answer Full s) (storeOf s A M (put i J)) (most-test (limits .held) (length J)) refl
         (λ q. subst (λ (K : List Justification). StagesSay A N (i ∷ H) (storeOf s A M K .reply)) (in-order-new i H p) larger-says))
 
   add-says : AddSays A M H c l (addOf s c l .reply)
@@ -95,4 +95,4 @@ reached {A} {M} {H} c l r w =
     let K : List Justification = justificationOf (A + M) c l ∷ H in
     subst (AddSays A M H c l) (r .sound)
     (fault-told (A + M) c l (λ (x : Reply). x) _ Number Falsity Itself refl refl refl
-    (λ d. passes Reply _ _ Done _ (r .new) (passes Reply _ _ Done _ (λ (z : 256 ≤ length (inOrder H)). omega (arith, r .room)) (room-says A (A + M) K w))) Supports refl)
+    (λ d. passes Reply _ _ Done _ (r .new) (passes Reply _ _ Done _ (λ (z : limits .held ≤ length (inOrder H)). omega (arith, r .room)) (room-says A (A + M) K w))) Supports refl)

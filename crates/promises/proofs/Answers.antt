@@ -35,6 +35,7 @@ use Rattle.theory.proofs.Demands.{carries-means}
 use Rattle.theory.proofs.Listing.{below-elim, listing-elim, listing-intro}
 use Rattle.theory.proofs.Lists.{clash, not-so, some-elim, some-intro}
 use Rattle.theory.specs.Demands.{carries, contradicts, fromAll}
+use Rattle.theory.specs.Limits.{limits}
 use Rattle.theory.specs.Places.{table}
 use Rattle.theory.specs.Sets.{contains, listing}
 use Rattle.theory.specs.Stages.{Justification}
@@ -185,7 +186,7 @@ module _ {A M : ℕ} {H : List Justification} {s : Store} (f : Form A M H s) whe
 
   pub line-text : (n : ℕ) → n ≤ A + M → lineText s n ≡ textOf A H n (listHeld (s .lists) n)
   unfolding lineText lineWith
-  line-text n h = ap (λ (w : List ℕ). row 32 n w (listHeld (s .lists) n)) (word-by n h)
+  line-text n h = ap (λ (w : List ℕ). row (limits .assumptions) n w (listHeld (s .lists) n)) (word-by n h)
 
   pub line-by : (n : ℕ) → n ≤ A + M → (out : List ℕ) → length (textOf A H n (listHeld (s .lists) n)) ≤ length out
       → readOf s (line n out) ≡ reads (line n out) (written (textOf A H n (listHeld (s .lists) n))) s (over (textOf A H n (listHeld (s .lists) n)) out)

@@ -34,6 +34,7 @@ use Rattle.rules.specs.Items.{faultOf, justificationOf}
 use Rattle.store.specs.Calls.{noStore, storeOf}
 use Rattle.theory.proofs.Lists.{clash}
 use Rattle.theory.specs.Judge.{Verdict, judge, limits}
+use Rattle.theory.specs.Limits.{overCounts}
 use Rattle.theory.specs.Lists.{choose, someOf}
 use Rattle.theory.specs.Stages.{Justification}
 
@@ -149,7 +150,7 @@ module _ (A N t : ℕ) where
   sound c s l = unless (faultOf N c s) (item c s) l
 
   abbrev counted : ℕ → ℕ → List ℕ → Taken Item
-  counted c k l = choose (ltb 4 k) (bad Supports) (andThen (numbersFrom k l) (sound c))
+  counted c k l = choose (ltb (limits .supports) k) (bad Supports) (andThen (numbersFrom k l) (sound c))
 
   abbrev headed : ℕ → List ℕ → Taken Item
   headed c l = andThen (numberFrom l) (counted c)
@@ -172,11 +173,11 @@ module _ (A N t : ℕ) where
       let b : (x : Reply) → h (bad x) ≡ (numberOf x, suc r) = λ x. e x (suc r) in
       number-told (suc r) l _ (λ t. h (andThen t headed)) b (λ c l₁.
       number-told (suc r) l₁ _ (λ t. h (andThen t (counted c))) b (λ k l₂.
-      by-choice _ h (ltb 4 k) (bad Supports) (andThen (numbersFrom k l₂) (sound c)) (less-test 4 k) (b Supports)
-      (λ (p : ltb 4 k ≡ false). numbers-told (suc r) k l₂ _ (λ t. h (andThen t (sound c))) b (λ s l₃ q.
+      by-choice _ h (ltb (limits .supports) k) (bad Supports) (andThen (numbersFrom k l₂) (sound c)) (less-test (limits .supports) k) (b Supports)
+      (λ (p : ltb (limits .supports) k ≡ false). numbers-told (suc r) k l₂ _ (λ t. h (andThen t (sound c))) b (λ s l₃ q.
       few-told N c s (λ x. h (unless x (item c s) l₃)) _ (4, suc r) (5, suc r) (17, suc r) (b Number) (b Falsity) (b Itself)
       (λ d. records-told n (suc r) (justificationOf N c s ∷ H) l₃ (λ R. g (withItem (item c s) R)) e (omega arith) (ended-next H n g (item c s) d f))
-      (omega (arith, ltb-false 4 k p))))))
+      (omega (arith, ltb-false (limits .supports) k p))))))
 
 -- ---- the file
 
@@ -184,7 +185,7 @@ abbrev header : ℕ → ℕ → ℕ → Header
 header A M J = record { assumptions = A; claims = M; records = J }
 
 abbrev counts : ℕ → ℕ → ℕ → List ℕ → Taken Header
-counts A M J l = choose (ltb 32 A || ltb 96 M) (bad Counts) (choose (ltb 256 J) (bad Full) (got (header A M J) l))
+counts A M J l = choose (overCounts A M) (bad Counts) (choose (ltb (limits .held) J) (bad Full) (got (header A M J) l))
 
 neither : (a b : Bool) → a || b ≡ false → (a ≡ false) × (b ≡ false)
 neither false b e = (refl, e)
@@ -210,12 +211,12 @@ load-told bytes =
     number-told 0 bytes _ (λ t. g (andThen t (λ A l₁. andThen (numberFrom l₁) (λ M l₂. andThen (numberFrom l₂) (counts A M))))) (λ x. refl) (λ A l₁.
     number-told 0 l₁ _ (λ t. g (andThen t (λ M l₂. andThen (numberFrom l₂) (counts A M)))) (λ x. refl) (λ M l₂.
     number-told 0 l₂ _ (λ t. g (andThen t (counts A M))) (λ x. refl) (λ J l₃.
-    by-choice _ g (ltb 32 A || ltb 96 M) (bad Counts) (choose (ltb 256 J) (bad Full) (got (header A M J) l₃)) (or-test (less-test 32 A) (less-test 96 M)) refl
-    (λ (p : ltb 32 A || ltb 96 M ≡ false). by-choice _ g (ltb 256 J) (bad Full) (got (header A M J) l₃) (less-test 256 J) refl
-    (λ (q : ltb 256 J ≡ false). records-told A (A + M) J J 0 [] l₃ (λ R. reportOf (loadedOf (caseWith (header A M J) R))) (λ f m. refl) (omega arith)
+    by-choice _ g (overCounts A M) (bad Counts) (choose (ltb (limits .held) J) (bad Full) (got (header A M J) l₃)) (or-test (less-test (limits .assumptions) A) (less-test (limits .claims) M)) refl
+    (λ (p : overCounts A M ≡ false). by-choice _ g (ltb (limits .held) J) (bad Full) (got (header A M J) l₃) (less-test (limits .held) J) refl
+    (λ (q : ltb (limits .held) J ≡ false). records-told A (A + M) J J 0 [] l₃ (λ R. reportOf (loadedOf (caseWith (header A M J) R))) (λ f m. refl) (omega arith)
     (λ l m each K j. (
       stages-ended (record { header = header A M J; items = l })
-          (record { limited = record { assumptions = ltb-false 32 A (neither (ltb 32 A) (ltb 96 M) p .0); claims = ltb-false 96 M (neither (ltb 32 A) (ltb 96 M) p .1); records = ltb-false 256 J q }; many = m; faultless = each }) K j,
+          (record { limited = record { assumptions = ltb-false (limits .assumptions) A (neither (ltb (limits .assumptions) A) (ltb (limits .claims) M) p .0); claims = ltb-false (limits .claims) M (neither (ltb (limits .assumptions) A) (ltb (limits .claims) M) p .1); records = ltb-false (limits .held) J q }; many = m; faultless = each }) K j,
       refl,
     )))))))
 
@@ -259,21 +260,21 @@ plain-numbers (suc n) l = plain-then (numberFrom l) _ (plain-number l) (λ x l�
 plain-fault : (N c : ℕ) (s : List ℕ) → Unnamed (faultOf N c s)
 unfolding faultOf
 plain-fault N c s =
-    chosen Unnamed (ltb 4 (length s)) (refl, λ z. omega arith) (chosen Unnamed (ltb N c || someOf (ltb N) s) (refl, λ z. omega arith) (chosen Unnamed (someOf (eqb 0) s) (refl, λ z. omega arith)
+    chosen Unnamed (ltb (limits .supports) (length s)) (refl, λ z. omega arith) (chosen Unnamed (ltb N c || someOf (ltb N) s) (refl, λ z. omega arith) (chosen Unnamed (someOf (eqb 0) s) (refl, λ z. omega arith)
     (chosen Unnamed (someOf (eqb c) s) (refl, λ z. omega arith) (refl, λ z. omega arith))))
 
 plain-record : (N : ℕ) (l : List ℕ) → Plain (recordFrom N l)
 unfolding recordFrom unless
 plain-record N l =
     plain-then (numberFrom l) _ (plain-number l) (λ c l₁. plain-then (numberFrom l₁) _ (plain-number l₁) (λ k l₂.
-    chosen Plain (ltb 4 k) (plain-bad Item Supports (refl, λ z. omega arith)) (plain-then (numbersFrom k l₂) _ (plain-numbers k l₂) (λ s l₃.
+    chosen Plain (ltb (limits .supports) k) (plain-bad Item Supports (refl, λ z. omega arith)) (plain-then (numbersFrom k l₂) _ (plain-numbers k l₂) (λ s l₃.
     chosen Plain (eqb (numberOf (faultOf N c s)) 0) (plain-got (record { consequent = c; supports = s }) l₃) (plain-bad Item (faultOf N c s) (plain-fault N c s))))))
 
 plain-header : (l : List ℕ) → Plain (headerFrom l)
 unfolding headerFrom
 plain-header l =
     plain-then (numberFrom l) _ (plain-number l) (λ A l₁. plain-then (numberFrom l₁) _ (plain-number l₁) (λ M l₂. plain-then (numberFrom l₂) _ (plain-number l₂) (λ J l₃.
-    chosen Plain (ltb 32 A || ltb 96 M) (plain-bad Header Counts (refl, λ z. omega arith)) (chosen Plain (ltb 256 J) (plain-bad Header Full (refl, λ z. omega arith)) (plain-got (header A M J) l₃)))))
+    chosen Plain (overCounts A M) (plain-bad Header Counts (refl, λ z. omega arith)) (chosen Plain (ltb (limits .held) J) (plain-bad Header Full (refl, λ z. omega arith)) (plain-got (header A M J) l₃)))))
 
 unfoldable Read : {X : Type 0} → Reading X → Type 0
 Read (whole x) = Unit

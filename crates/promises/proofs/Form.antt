@@ -42,6 +42,7 @@ use Rattle.store.specs.declared.Outcome.{Outcome}
 use Rattle.store.specs.declared.Store.{Store}
 use Rattle.theory.proofs.Lists.{clash}
 use Rattle.theory.specs.Judge.{Stage, Verdict, judge, labelOver, limits, nogoodsOver, settled}
+use Rattle.theory.specs.Limits.{overCounts}
 use Rattle.theory.specs.Lists.{choose, someOf}
 use Rattle.theory.specs.Stages.{Justification}
 
@@ -73,9 +74,9 @@ done-by s s′ t h v e = let r = settled-only s t h v e in ap (ofVerdict s′ h)
 -- ---- the form of a made store
 
 pub record Form (A M : ℕ) (H : List Justification) (s : Store) : Type 0 where
-  pub few : A ≤ 32
-  pub claims : M ≤ 96
-  pub room : length (inOrder H) ≤ 256
+  pub few : A ≤ limits .assumptions
+  pub claims : M ≤ limits .claims
+  pub room : length (inOrder H) ≤ limits .held
   pub ranged : (j : Justification) → Mem j H → Ranged (A + M) j
   pub store : storeOf noStore A M (inOrder H) ≡ answer Done s
 
@@ -127,7 +128,7 @@ tried s right A M n J c l =
     choose (not right) (answer Shape s)
     (choose (not (isDone (faultOf (A + M) c l))) (answer (faultOf (A + M) c l) s)
     (choose (someOf (sameJustification (justificationOf (A + M) c l)) J) (answer Already s)
-    (choose (leb 256 n) (answer Full s)
+    (choose (leb (limits .held) n) (answer Full s)
     (storeOf s A M (put (justificationOf (A + M) c l) J)))))
 
 pub add-tried : (s : Store) (c : ℕ) (l : List ℕ) → addOf s c l ≡ tried s (rightShape s) (s .held .assumptions) (s .held .claims) (s .held .count) (saidBy (s .held)) c l
@@ -162,7 +163,7 @@ pass-fault s t false x h q = absurd (fault-not x h (ap (λ (a : Outcome). number
 pub record Joined (A M n : ℕ) (J : List Justification) (c : ℕ) (l : List ℕ) (t : Store) : Type 0 where
   pub sound : faultOf (A + M) c l ≡ Done
   pub new : someOf (sameJustification (justificationOf (A + M) c l)) J ≡ false
-  pub room : leb 256 n ≡ false
+  pub room : leb (limits .held) n ≡ false
   pub store : storeOf noStore A M (put (justificationOf (A + M) c l) J) ≡ answer Done t
 
 pub tried-done : (s t : Store) (right : Bool) (A M n : ℕ) (J : List Justification) (c : ℕ) (l : List ℕ) → tried s right A M n J c l ≡ answer Done t → Joined A M n J c l t
@@ -173,7 +174,7 @@ tried-done s t right A M n J c l e =
     let p₁ = pass (not right) (answer Shape s) _ t (λ (z : _≡_ {A = ℕ} 2 0). omega arith) e in
     let p₂ = pass-fault s t (isDone x) x refl (p₁ .1) in
     let p₃ = pass (someOf (sameJustification i) J) (answer Already s) _ t (λ (z : _≡_ {A = ℕ} 1 0). omega arith) (p₂ .1) in
-    let p₄ = pass (leb 256 n) (answer Full s) _ t (λ (z : _≡_ {A = ℕ} 7 0). omega arith) (p₃ .1) in
+    let p₄ = pass (leb (limits .held) n) (answer Full s) _ t (λ (z : _≡_ {A = ℕ} 7 0). omega arith) (p₃ .1) in
     record { sound = p₂ .0; new = p₃ .0; room = p₄ .0; store = done-by s noStore t (heldOf A M (put i J)) (judge limits A (A + M) (put i J)) (p₄ .1) }
 
 module _ {A M : ℕ} {H : List Justification} {s t : Store} (f : Form A M H s) (c : ℕ) (l : List ℕ) (e : addOf s c l ≡ answer Done t) where
@@ -188,7 +189,7 @@ module _ {A M : ℕ} {H : List Justification} {s t : Store} (f : Form A M H s) (
       record {
         few = f .few;
         claims = f .claims;
-        room = omega (arith, ap length o, put-length i J, leb-false 256 (length J) (p .room));
+        room = omega (arith, ap length o, put-length i J, leb-false (limits .held) (length J) (p .room));
         ranged = λ j m. ⊎-elim (λ (q : j ≡ i). subst (Ranged (A + M)) (sym q) (faultless-ranged (A + M) c l (p .sound))) (λ k. f .ranged j k) (List·Memᴰ·cases-cons m);
         store = ap (storeOf noStore A M) o ∙ p .store;
       }
@@ -282,10 +283,10 @@ none-store A M = ap (ofVerdict noStore (heldOf A M [])) (judge-none A (A + M))
 open-form : (A M : ℕ) (s : Store) → openOf A M ≡ answer Done s → Form A M [] s
 unfolding openOf inOrder
 open-form A M s e =
-    let p = pass (ltb 32 A || ltb 96 M) (answer Counts noStore) _ s (λ (z : _≡_ {A = ℕ} 3 0). omega arith) e in
+    let p = pass (overCounts A M) (answer Counts noStore) _ s (λ (z : _≡_ {A = ℕ} 3 0). omega arith) e in
     record {
-      few = ltb-false 32 A (neither-left (ltb 32 A) (ltb 96 M) (p .0));
-      claims = ltb-false 96 M (neither-right (ltb 32 A) (ltb 96 M) (p .0));
+      few = ltb-false (limits .assumptions) A (neither-left (ltb (limits .assumptions) A) (ltb (limits .claims) M) (p .0));
+      claims = ltb-false (limits .claims) M (neither-right (ltb (limits .assumptions) A) (ltb (limits .claims) M) (p .0));
       room = omega arith;
       ranged = λ j m. elim m [ ];
       store = none-store A M ∙ p .1;
@@ -300,7 +301,7 @@ open-form A M s e =
     neither-right false b h = h
 
 -- the store of a set of justifications, judged once: so loading is to make it
-pub judged-form : (A M : ℕ) (J H : List Justification) (s : Store) → A ≤ 32 → M ≤ 96 → length J ≤ 256 → ((j : Justification) → Mem j J → Ranged (A + M) j)
+pub judged-form : (A M : ℕ) (J H : List Justification) (s : Store) → A ≤ limits .assumptions → M ≤ limits .claims → length J ≤ limits .held → ((j : Justification) → Mem j J → Ranged (A + M) j)
     → ordered J ≡ true → SameMembers J H → storeOf noStore A M J ≡ answer Done s → Form A M H s
 judged-form A M J H s few claims room ranged order same e =
     let o : J ≡ inOrder H = in-order-is J H order same in
@@ -341,7 +342,7 @@ module _ (c : Case) (sound : Sound c) where
   pub case-held : heldBy c ≡ inOrder (putIn c)
   case-held = in-order-is (heldBy c) (putIn c) case-order case-members
 
-  case-few : length (heldBy c) ≤ 256
+  case-few : length (heldBy c) ≤ limits .held
   unfolding heldOf
   case-few = right-elim (heldOf A′ M′ (heldBy c)) (case-sure c sound .right) .few
 

@@ -76,7 +76,7 @@ module _ (A N : ℕ) (J : List Justification) where
         labels = λ n h l. short n h l r;
       }
     where
-      short : (n : ℕ) → 1 ≤ n → n ≤ N → Room (stageAt A N J k) → length (labelAt A J k n) ≤ 12
+      short : (n : ℕ) → 1 ≤ n → n ≤ N → Room (stageAt A N J k) → length (labelAt A J k n) ≤ limits .label
       short zero h l r = absurd (not-suc-le-zero h)
       short (suc i) h l r = omega (arith, room-short (stageAt A N J k) r i, ap length (stage-label A N J k i l))
 
@@ -103,7 +103,7 @@ module _ (A N : ℕ) (J : List Justification) where
     over-nogoods t = record {
       stage = t .0;
       earlier = passed-room (t .0) (t .3);
-      over = omega (arith, ltb-true 32 (length (stageAt A N J (t .0) .nogoods)) (t .4), ap length (stage-nogoods A N J (t .0)));
+      over = omega (arith, ltb-true (limits .nogoods) (length (stageAt A N J (t .0) .nogoods)) (t .4), ap length (stage-nogoods A N J (t .0)));
     }
 
     over-label : (n : ℕ) → Told limits (stageAt A N J) 0 (suc (length (consequents J))) (labelOver n) → LabelFull A N J n
@@ -115,7 +115,7 @@ module _ (A N : ℕ) (J : List Justification) where
         let r = long-some 12 0 ls m (t .5) in
         let e : r .0 ≡ m = omega (arith, r .1) in
         let low : r .0 < N = omega (arith, r .2 .there-is, stage-length A N J k) in
-        let few : length (nogoodsAt A J k) ≤ 32 = omega (arith, few-at k (t .4), ap length (stage-nogoods A N J k)) in
+        let few : length (nogoodsAt A J k) ≤ limits .nogoods = omega (arith, few-at k (t .4), ap length (stage-nogoods A N J k)) in
         record {
           stage = k;
           earlier = passed-room k (t .3);
@@ -126,10 +126,10 @@ module _ (A N : ℕ) (J : List Justification) where
           lower = λ n p q. under k n m p (omega arith) (λ i h. r .2 .lower i (omega arith)) (omega arith);
         }
       where
-        few-at : (k : ℕ) → nogoodsLong limits (stageAt A N J k) ≡ false → length (stageAt A N J k .nogoods) ≤ 32
-        few-at k h = ltb-false 32 (length (stageAt A N J k .nogoods)) h
+        few-at : (k : ℕ) → nogoodsLong limits (stageAt A N J k) ≡ false → length (stageAt A N J k .nogoods) ≤ limits .nogoods
+        few-at k h = ltb-false (limits .nogoods) (length (stageAt A N J k .nogoods)) h
 
-        under : (k n m : ℕ) → 1 ≤ n → n < suc m → ((i : ℕ) → i < m → length (getD (stageAt A N J k .labels) i []) ≤ 12) → m < N → length (labelAt A J k n) ≤ 12
+        under : (k n m : ℕ) → 1 ≤ n → n < suc m → ((i : ℕ) → i < m → length (getD (stageAt A N J k .labels) i []) ≤ limits .label) → m < N → length (labelAt A J k n) ≤ limits .label
         under k zero m p q f l = absurd (not-suc-le-zero p)
         under k (suc i) m p q f l = omega (arith, f i (omega arith), ap length (stage-label A N J k i (omega arith)))
 

@@ -32,6 +32,7 @@ use Rattle.store.specs.Shape.{heldFits, rightShape, top}
 use Rattle.store.specs.declared.Outcome.{Outcome}
 use Rattle.store.specs.declared.Store.{Store}
 use Rattle.theory.specs.Judge.{Verdict, judge, labelOver, limits, nogoodsOver, settled}
+use Rattle.theory.specs.Limits.{overCounts}
 use Rattle.theory.specs.Lists.{choose, someOf}
 use Rattle.theory.specs.Places.{table}
 use Rattle.theory.specs.Sets.{inRange}
@@ -61,7 +62,7 @@ module _ (s : Store) where
   unfolding joinedBy
   keeps-join j =
       keeps-choose (someOf (sameJustification j) (saidBy (s .held))) (answer Already s) _ refl
-      (keeps-choose (leb 256 (s .held .count)) (answer Full s) _ refl (keeps-store (s .held .assumptions) (s .held .claims) (put j (saidBy (s .held)))))
+      (keeps-choose (leb (limits .held) (s .held .count)) (answer Full s) _ refl (keeps-store (s .held .assumptions) (s .held .claims) (put j (saidBy (s .held)))))
 
   pub add-keeps : (c : ℕ) (l : List ℕ) → (addOf s c l .reply ≡ Done → ⊥) → addOf s c l .store ≡ s
   unfolding addOf
@@ -181,7 +182,7 @@ none-opened = refl
 
 pub open-keeps : (A M : ℕ) → (openOf A M .reply ≡ Done → ⊥) → openOf A M .store ≡ openOf 0 0 .store
 unfolding openOf
-open-keeps A M n = keeps-choose noStore (ltb 32 A || ltb 96 M) (answer Counts noStore) (answer Done (startStore A M)) refl (λ k. absurd (k refl)) n ∙ sym none-opened
+open-keeps A M n = keeps-choose noStore (overCounts A M) (answer Counts noStore) (answer Done (startStore A M)) refl (λ k. absurd (k refl)) n ∙ sym none-opened
 
 loaded-keeps : (R : Reading Case) → (loadedOf R .reply ≡ Done → ⊥) → loadedOf R .store ≡ noStore
 loaded-keeps (whole f) n = keeps-store noStore (f .header .assumptions) (f .header .claims) (heldBy f) n
@@ -221,7 +222,7 @@ pub bare-keeps : (q : Query) (l : List Handed) (out : List ℕ) → (toldNumber 
 unfolding askOf
 bare-keeps q l out =
     let N : ℕ = q .assumptions + q .claims in
-    bare-choose out (ltb 32 (q .assumptions) || ltb 96 (q .claims)) (answered (refusedAs (q .what) Counts) out) _ refl
+    bare-choose out (ltb (limits .assumptions) (q .assumptions) || ltb (limits .claims) (q .claims)) (answered (refusedAs (q .what) Counts) out) _ refl
     (bare-choose out (not (isDone (faultsOf N l))) (answered (refusedAs (q .what) (faultsOf N l)) out) _ refl
     (bare-choose out (not (inRange (q .assumptions) (q .set))) (answered (refusedAs (q .what) Number) out) _ refl
     (tell-keeps out N (barely N l) (q .set) (q .what))))

@@ -18,6 +18,7 @@ use Rattle.stagetext.proofs.Laws.{latest-low}
 use Rattle.stagetext.specs.Stagetext.{lastStage, latest}
 use Rattle.theory.proofs.Following.{follows-cases, follows-later}
 use Rattle.theory.proofs.Places.{getD-table, length-table}
+use Rattle.theory.specs.Limits.{limits}
 use Rattle.theory.specs.Lists.{choose}
 use Rattle.theory.specs.Places.{table}
 use Rattle.theory.specs.Stages.{Justification, follows}
@@ -64,29 +65,29 @@ module _ (J : List Justification) (E : ℕ) (p : Placeable J) where
   w = record { consequents = p .consequents; supports = p .supports }
 
   abbrev T : List ℕ
-  T = table 129 (sinceOf J E)
+  T = table (limits .numbers + 1) (sinceOf J E)
 
   last-under : lastStage J E < 255
   unfolding lastStage
   last-under = latest-low T 0 (omega arith)
 
-  since-under : (n : ℕ) → n < 129 → sinceOf J E n < 255 → sinceOf J E n ≤ lastStage J E
+  since-under : (n : ℕ) → n < limits .numbers + 1 → sinceOf J E n < 255 → sinceOf J E n ≤ lastStage J E
   unfolding lastStage
   since-under n low h =
-      let e : getD T n 0 ≡ sinceOf J E n = getD-table 129 (sinceOf J E) n 0 low in
-      omega (arith, e, latest-above T 0 n (omega (arith, low, length-table 129 (sinceOf J E))) (omega (arith, e, h)))
+      let e : getD T n 0 ≡ sinceOf J E n = getD-table (limits .numbers + 1) (sinceOf J E) n 0 low in
+      omega (arith, e, latest-above T 0 n (omega (arith, low, length-table (limits .numbers + 1) (sinceOf J E))) (omega (arith, e, h)))
 
   -- a number without a place follows at stage 0 or never
-  high : (k n : ℕ) → 129 ≤ n → follows J k E n ≡ true → follows J zero E n ≡ true
+  high : (k n : ℕ) → limits .numbers + 1 ≤ n → follows J k E n ≡ true → follows J zero E n ≡ true
   high zero n h f = f
   high (suc k) n h f = ⊎-elim (high k n h) (λ g. absurd (omega (arith, h, g .2 .of, p .consequents (g .0) (g .1)))) (follows-cases J k E n f)
 
   -- after it nothing new follows
   pub last-ends : (k n : ℕ) → follows J k E n ≡ true → follows J (lastStage J E) E n ≡ true
-  last-ends k n f = elim (decLt n 129) [
+  last-ends k n f = elim (decLt n (limits .numbers + 1)) [
     | yes low ↦
-        let g : follows J 129 E n ≡ true = ended-129 J E w 129 (omega arith) (k + 129) (omega arith) n (follows-later J k (k + 129) E n (omega arith) f) in
-        let m : sinceOf J E n ≤ 129 = leb-true (sinceOf J E n) 129 (since-by J E n w 129 (omega arith) ∙ g) in
+        let g : follows J (limits .numbers + 1) E n ≡ true = ended-129 J E w (limits .numbers + 1) (omega arith) (k + (limits .numbers + 1)) (omega arith) n (follows-later J k (k + (limits .numbers + 1)) E n (omega arith) f) in
+        let m : sinceOf J E n ≤ limits .numbers + 1 = leb-true (sinceOf J E n) (limits .numbers + 1) (since-by J E n w (limits .numbers + 1) (omega arith) ∙ g) in
         sym (since-by J E n w (lastStage J E) last-under) ∙ le-leb (sinceOf J E n) (lastStage J E) (since-under n low (omega (arith, m)))
     | no o ↦ follows-later J zero (lastStage J E) E n (omega arith) (high k n (omega arith) f)
   ]
@@ -98,7 +99,7 @@ module _ (J : List Justification) (E : ℕ) (p : Placeable J) where
       ⊎-elim (λ (z : latest 0 T ≡ 0). absurd (omega (arith, z, e)))
       (λ v.
       let n : ℕ = v .0 in
-      let q : sinceOf J E n ≡ suc k = sym (getD-table 129 (sinceOf J E) n 0 (omega (arith, v .1, length-table 129 (sinceOf J E)))) ∙ sym (v .2) ∙ e in
+      let q : sinceOf J E n ≡ suc k = sym (getD-table (limits .numbers + 1) (sinceOf J E) n 0 (omega (arith, v .1, length-table (limits .numbers + 1) (sinceOf J E)))) ∙ sym (v .2) ∙ e in
       let u : suc k < 255 = omega (arith, e, last-under) in
       (n, sym (since-by J E n w (suc k) u) ∙ le-leb (sinceOf J E n) (suc k) (omega (arith, q)), sym (since-by J E n w k (omega arith)) ∙ lt-leb (sinceOf J E n) k (omega (arith, q))))
       (latest-one T 0)

@@ -14,7 +14,7 @@ use Rattle.theory.specs.Judge.{Stage, consequents, course, judge, labelLong, li
 module _ (A N : ℕ) where
   none-few : nogoodsLong limits (stageAt A N [] 0) ≡ false
   unfolding nogoodsLong
-  none-few = ap (λ (l : List ℕ). ltb 32 (length l)) (stage-nogoods A N [] 0 ∙ nogoods-zero A [])
+  none-few = ap (λ (l : List ℕ). ltb (limits .nogoods) (length l)) (stage-nogoods A N [] 0 ∙ nogoods-zero A [])
 
   one-at-most : (i : ℕ) → i < N → length (getD (stageAt A N [] 0 .labels) i []) ≤ 1
   one-at-most i h = elim (decLt i A) [

@@ -52,6 +52,7 @@ use Rattle.theory.proofs.Lists.{each-same}
 use Rattle.theory.proofs.Places.{getD-table, length-table}
 use Rattle.theory.proofs.Sameness.{same-follows}
 use Rattle.theory.specs.Demands.{carries, contradicts}
+use Rattle.theory.specs.Limits.{limits, overCounts}
 use Rattle.theory.specs.Lists.{choose, each, numbersBelow, those}
 use Rattle.theory.specs.Places.{table}
 use Rattle.theory.specs.Sets.{inRange}
@@ -73,11 +74,11 @@ module _ (J H : List Justification) (f : SameMembers J H) where
     upTo-same (suc k) n = ap₂ (λ (S : ℕ → ℕ → ℕ → Bool) (x : ℕ). choose (S k E n) x (choose (S (suc k) E n) (suc k) 255)) same (upTo-same k n)
 
     since-same : (n : ℕ) → sinceOf J E n ≡ sinceOf H E n
-    since-same n = since-129 J E v n ∙ upTo-same 129 n ∙ sym (since-129 H E w n)
+    since-same n = since-129 J E v n ∙ upTo-same (limits .numbers + 1) n ∙ sym (since-129 H E w n)
 
     last-same : lastStage J E ≡ lastStage H E
     unfolding lastStage
-    last-same = ap (latest 0) (table-same 129 (sinceOf J E) (sinceOf H E) 0 (λ n l. since-same n))
+    last-same = ap (latest 0) (table-same (limits .numbers + 1) (sinceOf J E) (sinceOf H E) 0 (λ n l. since-same n))
 
     pub text-same : (N : ℕ) → stageText N J E ≡ stageText N H E
     unfolding stageText stageLine
@@ -216,8 +217,8 @@ module _ {A M : ℕ} {H : List Justification} {s : Store} (f : Form A M H s) whe
     list-placed : Placed L
     list-placed = bare-placed N (omega (arith, f .few, f .claims)) l sound
 
-    counts : ltb 32 A || ltb 96 M ≡ false
-    counts = ap₂ (λ (a b : Bool). a || b) (le-ltb 32 A (f .few)) (le-ltb 96 M (f .claims))
+    counts : overCounts A M ≡ false
+    counts = ap₂ (λ (a b : Bool). a || b) (le-ltb (limits .assumptions) A (f .few)) (le-ltb (limits .claims) M (f .claims))
 
     range : (E : ℕ) → inRange (s .held .assumptions) E ≡ inRange A E
     range E = ap (λ (a : ℕ). inRange a E) (form-a f)
@@ -227,7 +228,7 @@ module _ {A M : ℕ} {H : List Justification} {s : Store} (f : Form A M H s) whe
       asked : (q : Query) → q .assumptions ≡ A → q .claims ≡ M → askOf q l out ≡ choose (not (inRange A (q .set))) (answered (refusedAs (q .what) Number) out) (tellOf N L (q .set) (q .what) out)
       unfolding askOf
       asked q e m =
-          ap₂ (λ (a c : ℕ). choose (ltb 32 a || ltb 96 c) (answered (refusedAs (q .what) Counts) out)
+          ap₂ (λ (a c : ℕ). choose (overCounts a c) (answered (refusedAs (q .what) Counts) out)
           (choose (not (isDone (faultsOf (a + c) l))) (answered (refusedAs (q .what) (faultsOf (a + c) l)) out)
           (choose (not (inRange a (q .set))) (answered (refusedAs (q .what) Number) out) (tellOf (a + c) (barely (a + c) l) (q .set) (q .what) out)))) e m
           ∙ ap (λ (b : Bool). choose b (answered (refusedAs (q .what) Counts) out) (choose (not (isDone (faultsOf N l))) (answered (refusedAs (q .what) (faultsOf N l)) out) rest)) counts
@@ -289,14 +290,14 @@ module _ {A M : ℕ} {H : List Justification} {s : Store} (f : Form A M H s) whe
           go false = refl
 
 -- ---- a bare list
-bare-told : (q : Query) (l : List Handed) (out : List ℕ) → q .assumptions ≤ 32 → q .claims ≤ 96 → faultsOf (q .assumptions + q .claims) l ≡ Done → q .set < 2 ^ (q .assumptions)
+bare-told : (q : Query) (l : List Handed) (out : List ℕ) → q .assumptions ≤ limits .assumptions → q .claims ≤ limits .claims → faultsOf (q .assumptions + q .claims) l ≡ Done → q .set < 2 ^ (q .assumptions)
     → askOf q l out ≡ tellOf (q .assumptions + q .claims) (barely (q .assumptions + q .claims) l) (q .set) (q .what) out
 unfolding askOf inRange
 bare-told q l out a m d h =
     let N : ℕ = q .assumptions + q .claims in
     let told : Answered = tellOf N (barely N l) (q .set) (q .what) out in
     let unless : Answered = choose (not (ltb (q .set) (2 ^ (q .assumptions)))) (answered (refusedAs (q .what) Number) out) told in
-    ap₂ (λ (x y : Bool). choose (x || y) (answered (refusedAs (q .what) Counts) out) (choose (not (isDone (faultsOf N l))) (answered (refusedAs (q .what) (faultsOf N l)) out) unless)) (le-ltb 32 (q .assumptions) a) (le-ltb 96 (q .claims) m)
+    ap₂ (λ (x y : Bool). choose (x || y) (answered (refusedAs (q .what) Counts) out) (choose (not (isDone (faultsOf N l))) (answered (refusedAs (q .what) (faultsOf N l)) out) unless)) (le-ltb (limits .assumptions) (q .assumptions) a) (le-ltb (limits .claims) (q .claims) m)
     ∙ ap (λ (r : Reply). choose (not (isDone r)) (answered (refusedAs (q .what) r) out) unless) d
     ∙ ap (λ (b : Bool). choose (not b) (answered (refusedAs (q .what) Number) out) told) (lt-ltb (q .set) (2 ^ (q .assumptions)) h)
 
@@ -306,8 +307,8 @@ held-enough s r E =
     let f = shape-elim s r .0 in
     stages-length (saidBy (s .held)) (placed s f) E (top (s .held)) (followable s f .low)
 
-bare-enough : (A M : ℕ) (l : List Handed) → A ≤ 32 → M ≤ 96 → faultsOf (A + M) l ≡ Done → (E : ℕ) → length (stageText (A + M) (barely (A + M) l) E) ≤ longest
-bare-enough A M l a m d E = let low : A + M ≤ 128 = omega arith in stages-length (barely (A + M) l) (bare-placed (A + M) low l d) E (A + M) low
+bare-enough : (A M : ℕ) (l : List Handed) → A ≤ limits .assumptions → M ≤ limits .claims → faultsOf (A + M) l ≡ Done → (E : ℕ) → length (stageText (A + M) (barely (A + M) l) E) ≤ longest
+bare-enough A M l a m d E = let low : A + M ≤ limits .numbers = omega arith in stages-length (barely (A + M) l) (bare-placed (A + M) low l d) E (A + M) low
 
 pub plain-path : PlainPath ours
 plain-path = record {

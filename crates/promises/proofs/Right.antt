@@ -42,7 +42,7 @@ module _ {A M : ℕ} {H : List Justification} {s : Store} (f : Form A M H s) whe
       let t = settled-told limits A (A + M) J depth (form-settled f .stage) (form-settled f .verdict) in
       subst Room (sym form-stage) (record { few = t .4; short = t .5 })
 
-  pub form-low : depth ≤ 129
+  pub form-low : depth ≤ limits .numbers + 1
   form-low = let t = settled-told limits A (A + M) J depth (form-settled f .stage) (form-settled f .verdict) in
       omega (arith, t .1, consequents-few (A + M) J (λ j m. form-ranged f j m .low), f .few, f .claims)
 
@@ -57,7 +57,7 @@ module _ {A M : ℕ} {H : List Justification} {s : Store} (f : Form A M H s) whe
   pub form-right : rightShape s ≡ true
   unfolding rightShape heldFits
   form-right =
-      and-intro (and-intro (le-leb (s .held .assumptions) 32 (omega (arith, form-a f, f .few))) (and-intro (le-leb (s .held .claims) 96 (omega (arith, form-m f, f .claims))) held-fit))
+      and-intro (and-intro (le-leb (s .held .assumptions) (limits .assumptions) (omega (arith, form-a f, f .few))) (and-intro (le-leb (s .held .claims) (limits .claims) (omega (arith, form-m f, f .claims))) held-fit))
       (ap₂ (λ (a m : ℕ). listsRight (s .lists) a (a + m)) (form-a f) (form-m f) ∙ lists-fit)
 
 -- a made store has the right shape

@@ -23,6 +23,7 @@ use Rattle.store.specs.Calls.{ofVerdict}
 use Rattle.store.specs.declared.Store.{Store}
 use Rattle.theory.proofs.Lists.{clash, or-cases, some-elim, some-intro}
 use Rattle.theory.specs.Judge.{Verdict, labelOver, nogoodsOver, settled}
+use Rattle.theory.specs.Limits.{limits}
 use Rattle.theory.specs.Lists.{choose, someOf}
 use Rattle.theory.specs.Sets.{inRange}
 use Rattle.theory.specs.Stages.{Justification}
@@ -121,20 +122,20 @@ module _ (N c : ℕ) (l : List ℕ) {X : Type 0} (f : Reply → X) (next : X →
   LowRows = given (Above N c l) x₄ (given (Mem 0 l) x₅ (given (Mem c l) x₁₇ next))
 
   -- at most 4 supports
-  low-told : ltb 4 (length l) ≡ false → LowRows (f (choose (ltb N c || someOf (ltb N) l) Number (choose (someOf (eqb 0) l) Falsity (choose (someOf (eqb c) l) Itself Done))))
+  low-told : ltb (limits .supports) (length l) ≡ false → LowRows (f (choose (ltb N c || someOf (ltb N) l) Number (choose (someOf (eqb 0) l) Falsity (choose (someOf (eqb c) l) Itself Done))))
   unfolding faultOf
   low-told h =
       by-choice _ f (ltb N c || someOf (ltb N) l) _ _ (above-test N c l) e₄
       (λ (p : ltb N c || someOf (ltb N) l ≡ false). by-choice _ f (someOf (eqb 0) l) _ _ (has-test 0 l) e₅
       (λ (q : someOf (eqb 0) l ≡ false). by-choice next f (someOf (eqb c) l) _ _ (has-test c l) e₁₇ (λ (r : someOf (eqb c) l ≡ false). k (rw (h, p, q, r)))))
 
-  pub few-told : length l ≤ 4 → LowRows (f (faultOf N c l))
+  pub few-told : length l ≤ limits .supports → LowRows (f (faultOf N c l))
   unfolding faultOf
-  few-told h = let z : ltb 4 (length l) ≡ false = le-ltb 4 (length l) h in rw z (low-told z)
+  few-told h = let z : ltb (limits .supports) (length l) ≡ false = le-ltb (limits .supports) (length l) h in rw z (low-told z)
 
-  pub fault-told : (x₆ : X) → f Supports ≡ x₆ → given (4 < length l) x₆ LowRows (f (faultOf N c l))
+  pub fault-told : (x₆ : X) → f Supports ≡ x₆ → given (limits .supports < length l) x₆ LowRows (f (faultOf N c l))
   unfolding faultOf
-  fault-told x₆ e₆ = by-choice LowRows f (ltb 4 (length l)) _ _ (less-test 4 (length l)) e₆ low-told
+  fault-told x₆ e₆ = by-choice LowRows f (ltb (limits .supports) (length l)) _ _ (less-test (limits .supports) (length l)) e₆ low-told
 
 -- ---- the stages
 

@@ -27,6 +27,7 @@ use Rattle.store.specs.Shape.{heldFits, rightShape, top}
 use Rattle.store.specs.declared.Store.{Store}
 use Rattle.theory.proofs.Lists.{all-elim, all-intro, and-intro, and-left, and-right, clash, not-so, or-cases, or-left, or-right}
 use Rattle.theory.proofs.Order.{before-elim, before-fewer, before-less}
+use Rattle.theory.specs.Limits.{limits}
 use Rattle.theory.specs.Lists.{allOf, someOf, sortedBy}
 use Rattle.theory.specs.Sets.{before, inRange, within}
 use Rattle.theory.specs.Stages.{Justification, ahead, lesser}
@@ -112,7 +113,7 @@ module _ (l : Lists) (A N : ℕ) where
   lists-say r =
       let t = lists-elim l A N r in
       record {
-        labels = λ i h. list-says A (getD (l .sizes) i 0) (take 12 (drop (12 * i) (l .members))) (t .label i h);
+        labels = λ i h. list-says A (getD (l .sizes) i 0) (take (limits .label) (drop (limits .label * i) (l .members))) (t .label i h);
         above = λ i p q. sym (eqb-true 0 (getD (l .sizes) i 0) (rest-at (eqb 0) (l .sizes) N 0 (t .spare) i p q));
         nogoods = list-says A (l .count) (l .nogoods) (t .nogoods);
         depth = t .depth;
@@ -123,7 +124,7 @@ module _ (l : Lists) (A N : ℕ) where
       lists-intro l A N
       (record {
         depth = t .depth;
-        label = λ i h. list-right A (getD (l .sizes) i 0) (take 12 (drop (12 * i) (l .members))) (t .labels i h);
+        label = λ i h. list-right A (getD (l .sizes) i 0) (take (limits .label) (drop (limits .label * i) (l .members))) (t .labels i h);
         spare = rest-places (eqb 0) (l .sizes) N 0 (λ i p q. eq-eqb 0 (getD (l .sizes) i 0) (sym (t .above i p q)));
         nogoods = list-right A (l .count) (l .nogoods) (t .nogoods);
       })
@@ -341,7 +342,7 @@ module _ (h : Held) where
   unfolding heldFits
   held-right f =
       let inside : h .count ≤ length (h .entries) = omega (arith, f .count, f .places) in
-      and-intro (le-leb (h .assumptions) 32 (f .assumptions)) (and-intro (le-leb (h .claims) 96 (f .claims))
+      and-intro (le-leb (h .assumptions) (limits .assumptions) (f .assumptions)) (and-intro (le-leb (h .claims) (limits .claims) (f .claims))
       (right-intro h
       (record {
         few = f .count;

@@ -59,6 +59,7 @@ use Rattle.theory.proofs.Lists.{clash}
 use Rattle.theory.proofs.Judgement.{same-judge}
 use Rattle.theory.specs.Demands.{carries, contradicts}
 use Rattle.theory.specs.Judge.{Verdict, judge, limits}
+use Rattle.theory.specs.Limits.{overCounts}
 use Rattle.theory.specs.Lists.{choose, someOf}
 use Rattle.theory.specs.Sets.{inRange}
 use Rattle.theory.specs.Stages.{Justification}
@@ -76,7 +77,7 @@ wrote w = writtenNumber (w .answer)
 
 open-told : (A M : ℕ) → OpenRows A M (replied (openOf A M))
 unfolding openOf
-open-told A M = by-choice noRow replied (ltb 32 A || ltb 96 M) (answer Counts noStore) (answer Done (startStore A M)) (or-test (less-test 32 A) (less-test 96 M)) refl (λ z. refl)
+open-told A M = by-choice noRow replied (overCounts A M) (answer Counts noStore) (answer Done (startStore A M)) (or-test (less-test (limits .assumptions) A) (less-test (limits .claims) M)) refl (λ z. refl)
 
 -- ---- add
 
@@ -123,19 +124,19 @@ module _ (s : Store) (c : ℕ) (l : List ℕ) where
     stored-names = stages-name A N (j ∷ J) s (heldOf A (s .held .claims) (put j J)) verdict judged
 
     abbrev unlessFull : Outcome
-    unlessFull = choose (leb 256 (s .held .count)) (answer Full s) stored
+    unlessFull = choose (leb (limits .held) (s .held .count)) (answer Full s) stored
 
-    join-told : given (Mem j J) 1 (given (256 ≤ s .held .count) 7 (StageRows A N (enlarged s c l))) (replied (joinedBy s j))
+    join-told : given (Mem j J) 1 (given (limits .held ≤ s .held .count) 7 (StageRows A N (enlarged s c l))) (replied (joinedBy s j))
     unfolding joinedBy
     join-told =
         by-choice _ replied (someOf (sameJustification j) J) (answer Already s) unlessFull held-test refl
-        (λ p. by-choice _ replied (leb 256 (s .held .count)) (answer Full s) stored (most-test 256 (s .held .count)) refl (λ q. stored-told))
+        (λ p. by-choice _ replied (leb (limits .held) (s .held .count)) (answer Full s) stored (most-test (limits .held) (s .held .count)) refl (λ q. stored-told))
 
     join-names : Names (LabelFull A N (enlarged s c l)) (joinedBy s j .reply)
     unfolding joinedBy
     join-names =
         names-choice _ (λ (o : Outcome). o .reply) (someOf (sameJustification j) J) (answer Already s) unlessFull (unnamed _ Already refl (λ z. omega arith))
-        (λ p. names-choice _ (λ (o : Outcome). o .reply) (leb 256 (s .held .count)) (answer Full s) stored (unnamed _ Full refl (λ z. omega arith)) (λ q. stored-names))
+        (λ p. names-choice _ (λ (o : Outcome). o .reply) (leb (limits .held) (s .held .count)) (answer Full s) stored (unnamed _ Full refl (λ z. omega arith)) (λ q. stored-names))
 
   abbrev unlessFault : Reply → Outcome
   unlessFault x = choose (not (isDone x)) (answer x s) (joinedBy s j)
@@ -151,8 +152,8 @@ module _ (s : Store) (c : ℕ) (l : List ℕ) where
   add-names =
       let f : Reply → Reply = λ x. unlessFault x .reply in
       names-choice _ (λ (o : Outcome). o .reply) (not (rightShape s)) (answer Shape s) (unlessFault (faultOf N c l)) (unnamed _ Shape refl (λ z. omega arith))
-      (λ p. names-choice _ f (ltb 4 (length l)) Supports _ (unnamed _ Supports refl (λ z. omega arith))
-      (λ (q₁ : ltb 4 (length l) ≡ false). names-choice _ f (ltb N c || someOf (ltb N) l) Number _ (unnamed _ Number refl (λ z. omega arith))
+      (λ p. names-choice _ f (ltb (limits .supports) (length l)) Supports _ (unnamed _ Supports refl (λ z. omega arith))
+      (λ (q₁ : ltb (limits .supports) (length l) ≡ false). names-choice _ f (ltb N c || someOf (ltb N) l) Number _ (unnamed _ Number refl (λ z. omega arith))
       (λ (q₂ : ltb N c || someOf (ltb N) l ≡ false). names-choice _ f (someOf (eqb 0) l) Falsity _ (unnamed _ Falsity refl (λ z. omega arith))
       (λ (q₃ : someOf (eqb 0) l ≡ false). names-choice _ f (someOf (eqb c) l) Itself Done (unnamed _ Itself refl (λ z. omega arith))
       (λ (q₄ : someOf (eqb c) l ≡ false). join-names (not-false (rightShape s) p) (rw (q₁, q₂, q₃, q₄)))))))
@@ -224,7 +225,7 @@ module _ (s : Store) (c : ℕ) (l : List ℕ) where
   withdraw-names =
       let f : Reply → Reply = λ x. faultElse x .reply in
       names-choice _ (λ (o : Outcome). o .reply) (not (rightShape s)) (answer Shape s) (faultElse (faultOf most c l)) (unnamed _ Shape refl (λ z. omega arith))
-      (λ p. names-choice _ f (ltb 4 (length l)) Supports _ (unnamed _ Supports refl (λ z. omega arith))
+      (λ p. names-choice _ f (ltb (limits .supports) (length l)) Supports _ (unnamed _ Supports refl (λ z. omega arith))
       (λ q₁. names-choice _ f (ltb most c || someOf (ltb most) l) Number _ (unnamed _ Number refl (λ z. omega arith))
       (λ q₂. names-choice _ f (someOf (eqb 0) l) Falsity _ (unnamed _ Falsity refl (λ z. omega arith))
       (λ q₃. names-choice _ f (someOf (eqb c) l) Itself Done (unnamed _ Itself refl (λ z. omega arith))
@@ -399,7 +400,7 @@ module _ (q : Query) (l : List Handed) (out : List ℕ) where
   bare-told : BareRows q l out (answeredBy (askOf q l out))
   unfolding askOf
   bare-told =
-      by-choice _ answeredBy (ltb 32 (q .assumptions) || ltb 96 (q .claims)) (refusal-of Counts) (afterItems (faultsOf Q l)) (or-test (less-test 32 (q .assumptions)) (less-test 96 (q .claims))) (refused-number (q .what) Counts)
+      by-choice _ answeredBy (ltb (limits .assumptions) (q .assumptions) || ltb (limits .claims) (q .claims)) (refusal-of Counts) (afterItems (faultsOf Q l)) (or-test (less-test (limits .assumptions) (q .assumptions)) (less-test (limits .claims) (q .claims))) (refused-number (q .what) Counts)
       (λ p. items-told Q (λ r. answeredBy (afterItems r)) (refused-number (q .what) Supports) (refused-number (q .what) Number) (refused-number (q .what) Falsity) (refused-number (q .what) Itself) (LastRows (q .what)) l
       (λ d. last-told (q .what) (not (inRange (q .assumptions) (q .set))) set-test))
 
@@ -435,7 +436,7 @@ module _ (q : Query) (l : List Handed) (out : List ℕ) where
   unfolding askOf
   bare-kind =
       let w : What = q .what in
-      kind-choose w (ltb 32 (q .assumptions) || ltb 96 (q .claims)) Counts _
+      kind-choose w (ltb (limits .assumptions) (q .assumptions) || ltb (limits .claims) (q .claims)) Counts _
       (kind-choose w (not (isDone (faultsOf Q l))) (faultsOf Q l) _ (kind-choose w (not (inRange (q .assumptions) (q .set))) Number _ (tell-kind w)))
 
 -- ---- all of it

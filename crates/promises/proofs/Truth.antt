@@ -15,6 +15,7 @@ use Rattle.promises.specs.Demand2.{Demand2, Tells}
 use Rattle.replies.specs.declared.Reply.the-variants.{Done}
 use Rattle.store.specs.Calls.{openOf}
 use Rattle.store.specs.declared.Store.{Store}
+use Rattle.theory.specs.Limits.{limits}
 use Rattle.theory.specs.Stages.{Justification}
 use Rattle.promises.proofs.Printing.{listed-printed, long-printed, refused-printed}
 
@@ -37,9 +38,9 @@ form-tells f = record {
   withdrawing = form-withdrawing f;
 }
 
-pub opens : (A M : ℕ) → A ≤ 32 → M ≤ 96 → openOf A M .reply ≡ Done
+pub opens : (A M : ℕ) → A ≤ limits .assumptions → M ≤ limits .claims → openOf A M .reply ≡ Done
 unfolding openOf
-opens A M a m = rw (le-ltb 32 A a, le-ltb 96 M m)
+opens A M a m = rw (le-ltb (limits .assumptions) A a, le-ltb (limits .claims) M m)
 
 pub demand-2 : Demand2 ours
 demand-2 = record {

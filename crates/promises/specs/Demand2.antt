@@ -21,6 +21,7 @@ use Rattle.store.specs.declared.Store.{Store}
 use Rattle.text.specs.Texts.{heading, row, word}
 use Rattle.theory.specs.Demands.{carries, contradicts, fromAll}
 use Rattle.theory.specs.Judge.{consequents, stageAt}
+use Rattle.theory.specs.Limits.{limits}
 use Rattle.theory.specs.Lists.{choose, each, numbersBelow, someOf, sortedBy}
 use Rattle.theory.specs.Places.{table}
 use Rattle.theory.specs.Sets.{before, listing, within}
@@ -86,7 +87,7 @@ wordBy A H (suc i) = choose (carriedBy A H (suc i)) (word " supported") (choose 
 
 -- the line of n whose list is l, as the listing has it
 abbrev pub textOf : ℕ → Input → ℕ → List ℕ → List ℕ
-textOf A H n l = row 32 n (wordBy A H n) l
+textOf A H n l = row (limits .assumptions) n (wordBy A H n) l
 
 -- line one: A, M, distinct justifications held, depth
 abbrev pub firstText : ℕ → ℕ → Input → Store → List ℕ
@@ -135,7 +136,7 @@ pub record Tells (C : Calls) (A M : ℕ) (H : Input) (s : Store) : Type 0 where
 
 pub record Demand2 (C : Calls) : Type 0 where
   -- a store can be opened
-  pub opens : (A M : ℕ) → A ≤ 32 → M ≤ 96 → C .opening A M .reply ≡ Done
+  pub opens : (A M : ℕ) → A ≤ limits .assumptions → M ≤ limits .claims → C .opening A M .reply ≡ Done
   -- a file without fault: the stages of its whole set decide
   pub loads : (bytes : List ℕ) (f : Case) → caseOf bytes ≡ whole f → (r : Reply) → (C .loading bytes .reply ≡ r) ↔ StagesSay (f .header .assumptions) (f .header .assumptions + f .header .claims) (putIn f) r
   -- every store made by the calls tells the truth of what was put in

@@ -14,6 +14,7 @@ use Rattle.store.specs.Shape.{rightShape}
 use Rattle.store.specs.declared.Store.{Store}
 use Rattle.theory.specs.Demands.{carries, contradicts, fromAll}
 use Rattle.theory.specs.Judge.{consequents}
+use Rattle.theory.specs.Limits.{limits}
 use Rattle.theory.specs.Lists.{numbersTo, those}
 use Rattle.theory.specs.Sets.{among, contains, inRange, together, union, within, without}
 use Rattle.theory.specs.Stages.{Justification, follows, labelAt, nogoodsAt}
@@ -36,8 +37,8 @@ pub record Unrivalled (l : List ℕ) (E : ℕ) : Type 0 where
 
 -- every number of every justification is at most 128, as of a store or of a bare list without fault
 pub record Placeable (H : Input) : Type 0 where
-  pub consequents : (j : Justification) → Mem j H → j .consequent ≤ 128
-  pub supports : (j : Justification) → Mem j H → (n : ℕ) → Mem n (j .supports) → n ≤ 128
+  pub consequents : (j : Justification) → Mem j H → j .consequent ≤ limits .numbers
+  pub supports : (j : Justification) → Mem j H → (n : ℕ) → Mem n (j .supports) → n ≤ limits .numbers
 
 -- H are the justifications held, E is a set of assumptions
 pub record Meaning : Type 1 where

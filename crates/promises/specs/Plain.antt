@@ -23,6 +23,7 @@ use Rattle.rules.specs.Held.{saidBy}
 use Rattle.stagetext.specs.Stagetext.{longest, stageText}
 use Rattle.store.specs.Shape.{rightShape, top}
 use Rattle.store.specs.declared.Store.{Store}
+use Rattle.theory.specs.Limits.{limits}
 use Rattle.theory.specs.Lists.{choose}
 use Rattle.theory.specs.Places.{table}
 
@@ -57,9 +58,9 @@ pub record PlainPath (C : Calls) : Type 0 where
   pub enough : {A M : ℕ} {H : Input} {s : Store} → Made C A M H s → (E : ℕ) → length (stageText (A + M) H E) ≤ longest
   -- .. for any store of right shape, forged or not, and for a bare list without fault
   pub enough-held : (s : Store) → rightShape s ≡ true → (E : ℕ) → length (stageText (top (s .held)) (saidBy (s .held)) E) ≤ longest
-  pub enough-bare : (A M : ℕ) (l : List Handed) → A ≤ 32 → M ≤ 96 → faultsOf (A + M) l ≡ Done → (E : ℕ) → length (stageText (A + M) (barely (A + M) l) E) ≤ longest
+  pub enough-bare : (A M : ℕ) (l : List Handed) → A ≤ limits .assumptions → M ≤ limits .claims → faultsOf (A + M) l ≡ Done → (E : ℕ) → length (stageText (A + M) (barely (A + M) l) E) ≤ longest
   -- a bare list, any number of items: what follows by it, and nothing else
-  pub bare : (q : Query) (l : List Handed) (out : List ℕ) → q .assumptions ≤ 32 → q .claims ≤ 96 → faultsOf (q .assumptions + q .claims) l ≡ Done → q .set < 2 ^ (q .assumptions)
+  pub bare : (q : Query) (l : List Handed) (out : List ℕ) → q .assumptions ≤ limits .assumptions → q .claims ≤ limits .claims → faultsOf (q .assumptions + q .claims) l ≡ Done → q .set < 2 ^ (q .assumptions)
       → C .bare q l out ≡ tellOf (q .assumptions + q .claims) (barely (q .assumptions + q .claims) l) (q .set) (q .what) out
   -- where a made store has the same put in, it answers as the store's calls do, refusals too
   pub bare-question : {A M : ℕ} {H : Input} {s : Store} → Made C A M H s → (l : List Handed) → faultsOf (A + M) l ≡ Done → SameMembers H (barely (A + M) l)

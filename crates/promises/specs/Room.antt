@@ -9,14 +9,15 @@ use Rattle.promises.specs.Rows.{given, naming}
 use Rattle.replies.specs.declared.Reply.{Reply}
 use Rattle.replies.specs.declared.Reply.the-variants.{Already, Done, Falsity, Full, Itself, Label, Nogoods, Number, Supports, Unheld}
 use Rattle.rules.specs.Items.{faultOf, justificationOf}
+use Rattle.theory.specs.Limits.{limits}
 use Rattle.theory.specs.Stages.{labelAt, nogoodsAt}
 
 -- ---- A assumptions, the numbers up to N, the justifications H
 
 -- all lists of stage k are within their limits
 pub record InRoom (A N : ℕ) (H : Input) (k : ℕ) : Type 0 where
-  pub nogoods : length (nogoodsAt A H k) ≤ 32
-  pub labels : (n : ℕ) → 1 ≤ n → n ≤ N → length (labelAt A H k n) ≤ 12
+  pub nogoods : length (nogoodsAt A H k) ≤ limits .nogoods
+  pub labels : (n : ℕ) → 1 ≤ n → n ≤ N → length (labelAt A H k n) ≤ limits .label
 
 -- the lists of every stage are
 abbrev pub AllInRoom : ℕ → ℕ → Input → Type 0
@@ -26,17 +27,17 @@ AllInRoom A N H = (k : ℕ) → InRoom A N H k
 pub record NogoodsFull (A N : ℕ) (H : Input) : Type 0 where
   pub stage : ℕ
   pub earlier : (i : ℕ) → i < stage → InRoom A N H i
-  pub over : 32 < length (nogoodsAt A H stage)
+  pub over : limits .nogoods < length (nogoodsAt A H stage)
 
 -- at the first stage with a list over its limit the nogoods are not over, and n is the lowest number whose label is
 pub record LabelFull (A N : ℕ) (H : Input) (n : ℕ) : Type 0 where
   pub stage : ℕ
   pub earlier : (i : ℕ) → i < stage → InRoom A N H i
-  pub nogoods : length (nogoodsAt A H stage) ≤ 32
+  pub nogoods : length (nogoodsAt A H stage) ≤ limits .nogoods
   pub real : 1 ≤ n
   pub range : n ≤ N
-  pub over : 12 < length (labelAt A H stage n)
-  pub lower : (m : ℕ) → 1 ≤ m → m < n → length (labelAt A H stage m) ≤ 12
+  pub over : limits .label < length (labelAt A H stage n)
+  pub lower : (m : ℕ) → 1 ≤ m → m < n → length (labelAt A H stage m) ≤ limits .label
 
 -- the replies of the stages: at the first stage with a list over its limit 9 if the nogoods are over, else 8; else done
 abbrev pub StagesSay : ℕ → ℕ → Input → Reply → Type 0
@@ -54,7 +55,7 @@ Above N c l = (N < c) ⊎ ((x : ℕ) × Mem x l × (N < x))
 -- the faults of the item, then the next rows
 abbrev pub ItemSays : ℕ → ℕ → List ℕ → (Reply → Type 0) → Reply → Type 0
 ItemSays N c l next =
-    given (4 < length l) Supports
+    given (limits .supports < length l) Supports
     (given (Above N c l) Number
     (given (Mem 0 l) Falsity
     (given (Mem c l) Itself
@@ -65,7 +66,7 @@ abbrev pub AddSays : ℕ → ℕ → Input → ℕ → List ℕ → Reply → Ty
 AddSays A M H c l =
     ItemSays (A + M) c l
     (given (Mem (justificationOf (A + M) c l) H) Already
-    (given (256 ≤ length (inOrder H)) Full
+    (given (limits .held ≤ length (inOrder H)) Full
     (StagesSay A (A + M) (putting (justificationOf (A + M) c l) H))))
 
 -- withdrawing it: the column "withdraw"
@@ -79,4 +80,4 @@ WithdrawSays A M H c l =
 pub record Reaches (A M : ℕ) (H : Input) (c : ℕ) (l : List ℕ) : Type 0 where
   pub sound : faultOf (A + M) c l ≡ Done
   pub new : Mem (justificationOf (A + M) c l) H → ⊥
-  pub room : length (inOrder H) < 256
+  pub room : length (inOrder H) < limits .held

@@ -14,6 +14,7 @@ use Rattle.store.specs.Calls.{answer, isDone}
 use Rattle.store.specs.Shape.{rightShape}
 use Rattle.store.specs.declared.Outcome.{Outcome}
 use Rattle.store.specs.declared.Store.{Store}
+use Rattle.theory.specs.Limits.{limits}
 use Rattle.theory.specs.Lists.{choose}
 
 -- a way to add one justification
@@ -43,6 +44,6 @@ pub record OneByOne (C : Calls) : Type 0 where
   pub one-by-one : (s : Store) (l : List Handed) (out : List ℕ) → rightShape s ≡ true → length l ≤ length out
       → C .addingAll s l out ≡ left (answer Done (afterEach (C .adding) s l)) (numbersEach (C .adding) s l ++ drop (length l) out)
   -- the supports of an item are as many as its count says
-  pub few : (h : Handed) → h .count ≤ 4 → suppliedBy h ≡ take (h .count) (h .supports)
+  pub few : (h : Handed) → h .count ≤ limits .supports → suppliedBy h ≡ take (h .count) (h .supports)
   -- .. and a count above four is 6, whatever stands there
-  pub many : (s : Store) (h : Handed) → rightShape s ≡ true → 4 < h .count → giving (C .adding) s h ≡ answer Supports s
+  pub many : (s : Store) (h : Handed) → rightShape s ≡ true → limits .supports < h .count → giving (C .adding) s h ≡ answer Supports s

@@ -11,6 +11,7 @@ use Rattle.rules.specs.declared.Entry.{Entry}
 use Rattle.rules.specs.declared.Held.{Held}
 use Rattle.stages.specs.declared.Lists.{Lists}
 use Rattle.store.specs.declared.Store.{Store}
+use Rattle.theory.specs.Limits.{limits}
 use Rattle.theory.specs.Sets.{among}
 
 -- ---- lists of sets
@@ -36,10 +37,10 @@ pub record ListSays (A count : ℕ) (places : List ℕ) : Type 0 where
 
 -- labels in their own twelve places; those of numbers above N are empty; the nogoods; the depth
 pub record ListsSay (A N : ℕ) (l : Lists) : Type 0 where
-  pub labels : (i : ℕ) → i < 128 → ListSays A (getD (l .sizes) i 0) (take 12 (drop (12 * i) (l .members)))
+  pub labels : (i : ℕ) → i < limits .numbers → ListSays A (getD (l .sizes) i 0) (take (limits .label) (drop (limits .label * i) (l .members)))
   pub above : (i : ℕ) → N ≤ i → i < length (l .sizes) → getD (l .sizes) i 0 ≡ 0
   pub nogoods : ListSays A (l .count) (l .nogoods)
-  pub depth : l .depth ≤ 129
+  pub depth : l .depth ≤ limits .numbers + 1
 
 -- ---- justifications
 
@@ -60,22 +61,22 @@ Ahead d e =
 -- a place in use: in range; the supports strictly rising, never 0 and never the consequent; unused places zero
 pub record EntrySays (N : ℕ) (e : Entry) : Type 0 where
   pub consequent : e .consequent ≤ N
-  pub few : e .count ≤ 4
-  pub places : length (e .supports) ≡ 4
+  pub few : e .count ≤ limits .supports
+  pub places : length (e .supports) ≡ limits .supports
   pub real : (p : ℕ) → p < e .count → (0 < getD (e .supports) p 0) × (getD (e .supports) p 0 ≤ N)
   pub rising : (p q : ℕ) → p < q → q < e .count → getD (e .supports) p 0 < getD (e .supports) q 0
   pub foreign : (p : ℕ) → p < e .count → getD (e .supports) p 0 ≡ e .consequent → ⊥
-  pub spare : (p : ℕ) → e .count ≤ p → p < 4 → getD (e .supports) p 0 ≡ 0
+  pub spare : (p : ℕ) → e .count ≤ p → p < limits .supports → getD (e .supports) p 0 ≡ 0
 
 -- counts within the limits, justifications in range and strictly in order, unused places zero
 pub record HeldSays (h : Held) : Type 0 where
-  pub assumptions : h .assumptions ≤ 32
-  pub claims : h .claims ≤ 96
-  pub count : h .count ≤ 256
-  pub places : length (h .entries) ≡ 256
+  pub assumptions : h .assumptions ≤ limits .assumptions
+  pub claims : h .claims ≤ limits .claims
+  pub count : h .count ≤ limits .held
+  pub places : length (h .entries) ≡ limits .held
   pub used : (i : ℕ) → i < h .count → EntrySays (h .assumptions + h .claims) (getD (h .entries) i vacant)
   pub order : (i j : ℕ) → i < j → j < h .count → Ahead (getD (h .entries) i vacant) (getD (h .entries) j vacant)
-  pub spare : (i : ℕ) → h .count ≤ i → i < 256 → getD (h .entries) i vacant ≡ vacant
+  pub spare : (i : ℕ) → h .count ≤ i → i < limits .held → getD (h .entries) i vacant ≡ vacant
 
 -- ---- the store
 

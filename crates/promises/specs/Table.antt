@@ -30,15 +30,16 @@ use Rattle.stagetext.specs.Stagetext.{stageText}
 use Rattle.store.specs.Reading.{listHeld}
 use Rattle.store.specs.Shape.{heldFits, rightShape, top}
 use Rattle.store.specs.declared.Store.{Store}
+use Rattle.theory.specs.Limits.{limits}
 use Rattle.theory.specs.Stages.{Justification}
 use Rattle.listing.specs.Listing.{listingOf, listingText}
 use Rattle.writing.specs.Writing.{fileOf}
 
 -- ---- open
 
--- A above 32 or M above 96
+-- A or M above its limit
 abbrev pub OverCounts : ℕ → ℕ → Type 0
-OverCounts A M = (32 < A) ⊎ (96 < M)
+OverCounts A M = (limits .assumptions < A) ⊎ (limits .claims < M)
 
 abbrev pub OpenRows : ℕ → ℕ → ℕ → Type 0
 OpenRows A M = given (OverCounts A M) 3 noRow
@@ -64,7 +65,7 @@ enlarged s c l = handed s c l ∷ saidBy (s .held)
 abbrev pub HandedRows : Store → ℕ → List ℕ → (ℕ → Type 0) → ℕ → Type 0
 HandedRows s c l next =
     given (rightShape s ≡ false) 2
-    (given (4 < length l) 6
+    (given (limits .supports < length l) 6
     (given (Above (top (s .held)) c l) 4
     (given (Mem 0 l) 5
     (given (Mem c l) 17
@@ -74,7 +75,7 @@ abbrev pub AddRows : Store → ℕ → List ℕ → ℕ → Type 0
 AddRows s c l =
     HandedRows s c l
     (given (Mem (handed s c l) (saidBy (s .held))) 1
-    (given (256 ≤ s .held .count) 7
+    (given (limits .held ≤ s .held .count) 7
     (StageRows (s .held .assumptions) (top (s .held)) (enlarged s c l))))
 
 -- ---- add a list
@@ -129,7 +130,7 @@ AskRows s a = given (rightShape s ≡ false) 2 (ShapedRows s a)
 unfoldable pub ItemRows : ℕ → List Handed → (ℕ → Type 0) → ℕ → Type 0
 ItemRows N [] next = next
 ItemRows N (h ∷ l) next =
-    given (4 < length (suppliedBy h)) 6
+    given (limits .supports < length (suppliedBy h)) 6
     (given (Above N (h .consequent) (suppliedBy h)) 4
     (given (Mem 0 (suppliedBy h)) 5
     (given (Mem (h .consequent) (suppliedBy h)) 17
@@ -197,7 +198,7 @@ RecordRows A N zero r H l = given (0 < length l) (13, r) (λ a. StageRows A N H 
 RecordRows A N (suc n) r H l =
     NumberRows (suc r) l (λ c l₁.
     NumberRows (suc r) l₁ (λ k l₂.
-    given (4 < k) (6, suc r)
+    given (limits .supports < k) (6, suc r)
     (NumbersRows (suc r) k l₂ (λ s l₃.
     given (Above N c s) (4, suc r)
     (given (Mem 0 s) (5, suc r)
@@ -223,7 +224,7 @@ LoadRows l =
     NumberRows 0 l₁ (λ M l₂.
     NumberRows 0 l₂ (λ J l₃.
     given (OverCounts A M) (3, 0)
-    (given (256 < J) (7, 0)
+    (given (limits .held < J) (7, 0)
     (RecordRows A (A + M) J 0 [] l₃)))))
 
 -- n is the lowest number whose label is over, in the stages of the whole file
