@@ -13,6 +13,7 @@ use Rattle.store.specs.Reading.{heldFromAll}
 use Rattle.store.specs.Shape.{rightShape, top}
 use Rattle.store.specs.declared.Store.{Store}
 use Rattle.text.specs.Texts.{heading, refusal}
+use Rattle.theory.specs.Limits.{limits}
 use Rattle.theory.specs.Lists.{choose}
 use Rattle.wording.specs.Wording.{lineWith}
 
