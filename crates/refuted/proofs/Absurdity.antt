@@ -29,6 +29,7 @@ use Rattle.theory.proofs.Sets.{within-zero}
 use Rattle.theory.proofs.Start.{label-zero, label-zero-above, nogoods-zero}
 use Rattle.theory.specs.Cases.{from}
 use Rattle.theory.specs.Judge.{Stage, stageAt, stageOf}
+use Rattle.theory.specs.Limits.{limits}
 use Rattle.theory.specs.Lists.{allOf, numbersBelow, numbersTo, someOf, sortedBy, those}
 use Rattle.theory.specs.Sets.{before}
 use Rattle.theory.specs.Stages.{Justification, follows, labelAt, labelOf, nogoodsAt, nogoodsOf}
@@ -68,7 +69,7 @@ module _ (A : ℕ) (k : ℕ) where
 in-room : (A N k : ℕ) → InRoom A N H k
 in-room A N zero = record { nogoods = omega (arith, ap length (nogoods-zero A H)); labels = λ n p q. short n p }
   where
-    short : (n : ℕ) → 1 ≤ n → length (labelAt A H 0 n) ≤ 12
+    short : (n : ℕ) → 1 ≤ n → length (labelAt A H 0 n) ≤ limits .label
     short zero p = absurd (not-suc-le-zero p)
     short (suc i) p = elim (decLt i A) [
       | yes h ↦ omega (arith, ap length (label-zero A H i h))
@@ -93,7 +94,7 @@ reaches : (A M : ℕ) → Reaches A M [] 0 []
 unfolding faultOf someOf inOrder
 reaches A M = record { sound = rw (le-ltb (A + M) 0 zero-le); new = λ m. elim m [ ]; room = omega arith }
 
-module _ (A M : ℕ) (a : A ≤ 32) (m : M ≤ 96) where
+module _ (A M : ℕ) (a : A ≤ limits .assumptions) (m : M ≤ limits .claims) where
   room : AllInRoom A (A + M) (justificationOf (A + M) 0 [] ∷ [])
   room = subst (λ (j : Justification). AllInRoom A (A + M) (j ∷ [])) (sym (is-premise (A + M))) (in-room A (A + M))
 

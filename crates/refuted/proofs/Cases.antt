@@ -163,7 +163,7 @@ each-other-carry (suc (suc zero)) (suc (suc E)) p q r = absurd (omega arith)
 each-other-carry (suc (suc (suc zero))) (suc (suc E)) p q r = absurd (omega arith)
 each-other-carry (suc (suc (suc (suc n)))) E p q r = absurd (omega arith)
 
-each-other-texts : (row 32 2 (wordOf 2 [] false) [] ≡ word "2 unsupported\n") × (row 32 3 (wordOf 3 [] false) [] ≡ word "3 unsupported\n")
+each-other-texts : (row (limits .assumptions) 2 (wordOf 2 [] false) [] ≡ word "2 unsupported\n") × (row (limits .assumptions) 3 (wordOf 3 [] false) [] ≡ word "3 unsupported\n")
 unfolding row wordOf digits digitsIn spaced each word
 each-other-texts = (refl, refl)
 
@@ -173,11 +173,11 @@ each-other-follow = (refl, refl)
 
 -- the line of a number whose list is known, c telling whether it follows from all assumptions together
 pub prints : {A M : ℕ} {H : List Justification} {s : Store} (f : Form A M H s) (n : ℕ) → n ≤ A + M → (l : List ℕ) (c : Bool) (t : String)
-    → listHeld (s .lists) n ≡ l → fromAll A H n ≡ c → row 32 n (wordOf n l c) l ≡ word t → Prints ours s n t
+    → listHeld (s .lists) n ≡ l → fromAll A H n ≡ c → row (limits .assumptions) n (wordOf n l c) l ≡ word t → Prints ours s n t
 unfolding lineText lineWith
 prints {A} {H = H} {s = s} f n h l c t e k u out w =
     let x : textOf A H n (listHeld (s .lists) n) ≡ word t =
-    sym (line-text f n h) ∙ ap₂ (λ (y : List ℕ) (b : Bool). row 32 n (wordOf n y b) y) e (form-from-all f n ∙ k) ∙ u in
+    sym (line-text f n h) ∙ ap₂ (λ (y : List ℕ) (b : Bool). row (limits .assumptions) n (wordOf n y b) y) e (form-from-all f n ∙ k) ∙ u in
     line-by f n h out (omega (arith, ap length x)) ∙ ap (λ (y : List ℕ). reads (line n out) (written y) s (over y out)) x
 
 -- the answer where the nogoods and the label are known

@@ -118,7 +118,7 @@ seven l ls p =
     (ap (g 0) p, ap (g 1) p, ap (g 2) p, ap (g 3) p, ap (g 4) p, ap (g 5) p, ap (g 6) p)
 
 abbrev with : ℕ → List ℕ → Bool → List ℕ
-with n l c = row 32 n (wordOf n l c) l
+with n l c = row (limits .assumptions) n (wordOf n l c) l
 
 -- of a list that is not empty, and of the nogoods, whatever follows
 texts : (c : Bool) → (with 0 (3 ∷ 6 ∷ []) c ≡ word "0 nogood {1,2} {2,3}\n") × (with 1 (1 ∷ []) c ≡ word "1 supported {1}\n") × (with 2 (2 ∷ []) c ≡ word "2 supported {2}\n") × (with 3 (4 ∷ []) c ≡ word "3 supported {3}\n")
@@ -244,6 +244,7 @@ pub pinned : Pinned ours
 pinned =
     let l = seven (s .lists) _ (are .labels) in
     record {
+      limits-are = refl;
       numbers = refl;
       bytes = word-bytes;
       sowing-done = file-done sowingBytes sown (spelled .0) (omega arith);

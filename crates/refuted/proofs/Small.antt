@@ -19,6 +19,7 @@ use Rattle.store.specs.Calls.{addOf, answer, openOf, startStore}
 use Rattle.store.specs.declared.Outcome.{Outcome}
 use Rattle.store.specs.declared.Store.{Store}
 use Rattle.theory.proofs.Depth.{count-all}
+use Rattle.theory.specs.Limits.{limits}
 use Rattle.theory.specs.Lists.{numbersBelow, those}
 use Rattle.theory.specs.Sets.{bySize, listing}
 use Rattle.theory.specs.Stages.{Justification, follows, labelAt, labelOf, minimal, nogoodsAt, nogoodsOf}
@@ -32,11 +33,11 @@ module _ (A : ℕ) (J : List Justification) (k : ℕ) where
   unfolding labelAt labelOf
   few-members n = count-all (λ E. minimal A (λ F. follows J k F n) E && not (follows J k E zero)) (listing A)
 
-pub small-room : (A N : ℕ) (J : List Justification) → length (listing A) ≤ 12 → AllInRoom A N J
+pub small-room : (A N : ℕ) (J : List Justification) → length (listing A) ≤ limits .label → AllInRoom A N J
 small-room A N J h k = record { nogoods = omega (arith, few-nogoods A J k); labels = λ n p q. omega (arith, few-members A J k n) }
 
 -- three assumptions have eight sets
-few-sets : (A : ℕ) → A ≤ 3 → length (listing A) ≤ 12
+few-sets : (A : ℕ) → A ≤ 3 → length (listing A) ≤ limits .label
 unfolding listing bySize numbersBelow those ones
 few-sets zero h = omega arith
 few-sets (suc zero) h = omega arith
@@ -49,7 +50,7 @@ few-room A N J h = small-room A N J (few-sets A h)
 
 -- ---- answers 0
 
-pub opens-at : (A M : ℕ) → A ≤ 32 → M ≤ 96 → openOf A M ≡ answer Done (startStore A M)
+pub opens-at : (A M : ℕ) → A ≤ limits .assumptions → M ≤ limits .claims → openOf A M ≡ answer Done (startStore A M)
 opens-at A M a m = sym (open-done A M a m)
 
 pub done-with : (o : Outcome) → o .reply ≡ Done → o ≡ answer Done (o .store)
@@ -57,7 +58,7 @@ done-with o e = ap (λ (r : Reply). answer r (o .store)) e
 
 -- ---- stores made with at most three assumptions
 
-pub made-open : (A M : ℕ) → A ≤ 32 → M ≤ 96 → Made ours A M [] (openOf A M .store)
+pub made-open : (A M : ℕ) → A ≤ limits .assumptions → M ≤ limits .claims → Made ours A M [] (openOf A M .store)
 made-open A M a m = opened (done-with (openOf A M) (ap (λ (o : Outcome). o .reply) (opens-at A M a m)))
 
 module _ {A M : ℕ} {H : List Justification} {s : Store} (m : Made ours A M H s) (c : ℕ) (l : List ℕ) (r : Reaches A M H c l) (few : A ≤ 3) where
@@ -68,7 +69,7 @@ module _ {A M : ℕ} {H : List Justification} {s : Store} (m : Made ours A M H s
   made-add = added c l m (done-with (addOf s c l) add-done)
 
 -- one adding to an opened store
-module _ (A M c : ℕ) (l : List ℕ) (few : A ≤ 3) (claims : M ≤ 96) (sound : faultOf (A + M) c l ≡ Done) where
+module _ (A M c : ℕ) (l : List ℕ) (few : A ≤ 3) (claims : M ≤ limits .claims) (sound : faultOf (A + M) c l ≡ Done) where
   reaches-one : Reaches A M [] c l
   unfolding inOrder
   reaches-one = record { sound = sound; new = λ m. elim m [ ]; room = omega arith }

@@ -43,13 +43,13 @@ abbrev lent : List ℕ
 lent = replicate 15 0
 
 module _ (f : Store → ℕ → Bool) {A M : ℕ} {H : List Justification} {s : Store} (g : Form A M H s) (i : ℕ) (low : suc i ≤ A + M) (none : labelHeld (s .lists) (suc i) ≡ []) (c : Bool) (e : f s (suc i) ≡ c) where
-  said : (t : List ℕ) → row 32 (suc i) (wordOf (suc i) [] c) [] ≡ t → length t ≤ 15 → linedBy f s (suc i) lent .answer ≡ written t
+  said : (t : List ℕ) → row (limits .assumptions) (suc i) (wordOf (suc i) [] c) [] ≡ t → length t ≤ 15 → linedBy f s (suc i) lent .answer ≡ written t
   unfolding fitted lineWith
   said t u h =
       let r : rightShape s ≡ true = form-right g in
       let n : top (s .held) ≡ A + M = ap₂ (λ (a m : ℕ). a + m) (form-a g) (form-m g) in
       let p : suc i ≤ top (s .held) = omega arith in
-      let x : lineWith (s .lists) (suc i) (f s (suc i)) ≡ t = ap₂ (λ (l : List ℕ) (b : Bool). row 32 (suc i) (wordOf (suc i) l b) l) none e ∙ u in
+      let x : lineWith (s .lists) (suc i) (f s (suc i)) ≡ t = ap₂ (λ (l : List ℕ) (b : Bool). row (limits .assumptions) (suc i) (wordOf (suc i) l b) l) none e ∙ u in
       let k : length (lineWith (s .lists) (suc i) (f s (suc i))) ≤ length lent = omega (arith, ap length x) in
       rw (r, le-ltb (top (s .held)) (suc i) p, le-ltb (length lent) (length (lineWith (s .lists) (suc i) (f s (suc i)))) k) (ap written x)
 
@@ -125,7 +125,7 @@ musts : (textOf 1 (putIn beyond) 3 [] ≡ word "3 contradicted\n") × (textOf 1 
 unfolding wordBy carriedBy fromAll together listing bySize ones carries contradicts follows among digit someOf gives allOf setOf those numbersBelow row digits digitsIn spaced each word
 musts = (refl, refl)
 
-says : (row 32 3 (wordOf 3 [] false) [] ≡ word "3 unsupported\n") × (row 32 3 (wordOf 3 [] true) [] ≡ word "3 contradicted\n")
+says : (row (limits .assumptions) 3 (wordOf 3 [] false) [] ≡ word "3 unsupported\n") × (row (limits .assumptions) 3 (wordOf 3 [] true) [] ≡ word "3 contradicted\n")
 unfolding wordOf row digits digitsIn spaced each word
 says = (refl, refl)
 

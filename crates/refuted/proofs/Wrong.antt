@@ -102,7 +102,7 @@ refuses d = let z : _≡_ {A = ℕ} 3 0 = ap numberOf (d .opens 0 0 zero-le zero
 refuses-table : ReplyTable refusing → ⊥
 unfolding given
 refuses-table t =
-    let fits : OverCounts 0 0 → ⊥ = ⊎-elim (λ (p : 32 < 0). omega arith) (λ (p : 96 < 0). omega arith) in
+    let fits : OverCounts 0 0 → ⊥ = ⊎-elim (λ (p : limits .assumptions < 0). omega arith) (λ (p : limits .claims < 0). omega arith) in
     let z : _≡_ {A = ℕ} 3 0 = t .opening 0 0 0 .1 (inr (fits, refl)) in omega arith
 
 -- .. so does every program that answers no adding, or no loading, with 0

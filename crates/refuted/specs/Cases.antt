@@ -15,6 +15,7 @@ use Rattle.store.specs.Reading.{labelHeld, nogoodsHeld}
 use Rattle.store.specs.declared.Store.{Store}
 use Rattle.text.specs.Texts.{word}
 use Rattle.theory.specs.Cases.{from, worked}
+use Rattle.theory.specs.Limits.{limits}
 use Rattle.theory.specs.Lists.{numbersTo}
 
 -- ---- the stores, each as the calls hand it back
@@ -94,11 +95,11 @@ pub record PCases (C : Calls) : Type 0 where
   pub each-other-asked : (n E : ℕ) → 2 ≤ n → n ≤ 3 → E < 2 → C .reading (eachOther C) (question n E) .said ≡ Unsupported
   pub each-other-lines : Prints C (eachOther C) 2 "2 unsupported\n" × Prints C (eachOther C) 3 "3 unsupported\n"
   -- a premise for falsity, whatever A and M: one nogood, the empty set; all labels empty; depth 1. Not refused
-  pub absurdity-done : (A M : ℕ) → A ≤ 32 → M ≤ 96 → C .adding (C .opening A M .store) 0 [] .reply ≡ Done
-  pub absurdity-made : (A M : ℕ) → A ≤ 32 → M ≤ 96 → Made C A M (from 0 [] ∷ []) (absurdity C A M)
-  pub absurdity-nogoods : (A M : ℕ) → A ≤ 32 → M ≤ 96 → nogoodsHeld (absurdity C A M .lists) ≡ 0 ∷ []
-  pub absurdity-labels : (A M : ℕ) → A ≤ 32 → M ≤ 96 → (n : ℕ) → n ≤ A + M → labelHeld (absurdity C A M .lists) n ≡ []
-  pub absurdity-depth : (A M : ℕ) → A ≤ 32 → M ≤ 96 → absurdity C A M .lists .depth ≡ 1
+  pub absurdity-done : (A M : ℕ) → A ≤ limits .assumptions → M ≤ limits .claims → C .adding (C .opening A M .store) 0 [] .reply ≡ Done
+  pub absurdity-made : (A M : ℕ) → A ≤ limits .assumptions → M ≤ limits .claims → Made C A M (from 0 [] ∷ []) (absurdity C A M)
+  pub absurdity-nogoods : (A M : ℕ) → A ≤ limits .assumptions → M ≤ limits .claims → nogoodsHeld (absurdity C A M .lists) ≡ 0 ∷ []
+  pub absurdity-labels : (A M : ℕ) → A ≤ limits .assumptions → M ≤ limits .claims → (n : ℕ) → n ≤ A + M → labelHeld (absurdity C A M .lists) n ≡ []
+  pub absurdity-depth : (A M : ℕ) → A ≤ limits .assumptions → M ≤ limits .claims → absurdity C A M .lists .depth ≡ 1
   -- assumption 1 justified by assumption 2: label of 1 is {1} {2}
   pub assumed-done : C .adding (C .opening 2 0 .store) 1 (2 ∷ []) .reply ≡ Done
   pub assumed-made : Made C 2 0 (from 1 (2 ∷ []) ∷ []) (assumed C)

@@ -24,6 +24,7 @@ use Rattle.rules.specs.Held.{saidBy}
 use Rattle.store.specs.declared.Store.{Store}
 use Rattle.text.specs.Texts.{word}
 use Rattle.theory.specs.Cases.{from}
+use Rattle.theory.specs.Limits.{limits}
 use Rattle.theory.specs.Lists.{numbersBelow}
 use Rattle.theory.specs.Sets.{contains}
 
@@ -69,6 +70,8 @@ abbrev pub Refuses : Calls → Reply → ℕ → String → Type 0
 Refuses C r k t = (out : List ℕ) → length (word t) ≤ length out → C .refusal r k out ≡ record { answer = written (word t); bytes = over (word t) out }
 
 pub record Pinned (C : Calls) : Type 0 where
+  -- the limits of document 01
+  pub limits-are : limits ≡ record { assumptions = 32; claims = 96; numbers = 128; held = 256; supports = 4; label = 12; nogoods = 32 }
   -- the number of each reply
   pub numbers : map numberOf (Done ∷ Already ∷ Shape ∷ Counts ∷ Number ∷ Falsity ∷ Supports ∷ Full ∷ Label 5 ∷ Nogoods ∷ Ends ∷ Form ∷ After ∷ Long ∷ Short ∷ Place ∷ Itself ∷ Unheld ∷ [])
       ≡ 0 ∷ 1 ∷ 2 ∷ 3 ∷ 4 ∷ 5 ∷ 6 ∷ 7 ∷ 8 ∷ 9 ∷ 11 ∷ 12 ∷ 13 ∷ 14 ∷ 15 ∷ 16 ∷ 17 ∷ 18 ∷ []

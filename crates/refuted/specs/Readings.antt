@@ -17,6 +17,7 @@ use Rattle.store.specs.Shape.{top}
 use Rattle.store.specs.declared.Store.{Store}
 use Rattle.theory.specs.Cases.{from, worked}
 use Rattle.theory.specs.Judge.{Stage, agree, stageAt}
+use Rattle.theory.specs.Limits.{limits}
 use Rattle.theory.specs.Lists.{choose, numbersBelow, numbersTo, someOf, those}
 use Rattle.theory.specs.Sets.{contains, within}
 use Rattle.theory.specs.Stages.{Justification}
@@ -137,7 +138,7 @@ satisfyingStage A N J k = choose (satisfying N J falseLabels) falseLabels (stage
 
 -- some list of some stage up to the depth is too long while it is built
 unfoldable pub someHalfLong : ℕ → ℕ → List Justification → ℕ → Bool
-someHalfLong A N J d = someOf (λ k. someOf (halfLong 12 A N J k) (numbersTo N)) (numbersBelow d)
+someHalfLong A N J d = someOf (λ k. someOf (halfLong (limits .label) A N J k) (numbersTo N)) (numbersBelow d)
 
 -- 8 for it
 abbrev pub halfRefused : Store → Bool
