@@ -10,9 +10,9 @@ use lib.Dec.{eqb}
 use lib.ListN.{length}
 use borrow.Author.Tests.{ne-eqb}
 use Rattle.asking.specs.Asking.{byteOf, firstIn, reasoned}
-use Rattle.lines.specs.Lines.{wordOf}
 use Rattle.text.specs.Texts.{word}
 use Rattle.theory.proofs.Lists.{clash}
+use Rattle.wording.specs.Wording.{wordOf}
 
 -- the word of a label l, c telling whether the number follows from all assumptions together
 pub third-word : (i : ℕ) (l : List ℕ) (c : Bool) → (wordOf (suc i) l c ≡ word " contradicted") ↔ ((l ≡ []) × (c ≡ true))

@@ -7,7 +7,7 @@ use mathlib.Core.Path.{_≡_}
 use Prim.Native.Nat.{_+_, _≤_, suc, ℕ}
 use lib.ListN.{drop, length}
 use Rattle.asking.specs.Asking.{byteOf, firstIn, memberAt, standing}
-use Rattle.lines.specs.Lines.{caseText, lineText, refusalText, wordOf}
+use Rattle.lines.specs.Lines.{caseText, lineText, refusalText}
 use Rattle.plain.specs.Plainly.{byteOf as plainByte, plainBy}
 use Rattle.promises.specs.Calls.{Ask, Calls, Read, caseLine, context, file, line, listAll, member, over, plainContext, plainly, question, reads, stageLines, written}
 use Rattle.promises.specs.Made.{inOrder}
@@ -24,6 +24,7 @@ use Rattle.text.specs.Texts.{word}
 use Rattle.theory.specs.Demands.{fromAll}
 use Rattle.theory.specs.Places.{table}
 use Rattle.listing.specs.Listing.{listingText}
+use Rattle.wording.specs.Wording.{wordOf}
 use Rattle.writing.specs.Writing.{fileOf}
 
 -- what is read of the lists; of an empty label the third word, and byte 3, of the justifications, and so the file
