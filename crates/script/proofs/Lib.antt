@@ -3,6 +3,5 @@ pub mod Fields
 pub mod Lines
 pub mod Numerals
 pub mod Reading
-pub mod Words
 pub mod Taking
 pub mod Cases

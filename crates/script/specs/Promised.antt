@@ -9,8 +9,9 @@ use Rattle.script.specs.Script.{fieldAt, fieldsOf, hexByte, lineEnd, num
 use Rattle.script.specs.declared.Numeral.{Numeral}
 use Rattle.script.specs.declared.Read.{Read}
 use Rattle.script.specs.declared.Span.{Span}
+use Rattle.theory.specs.Judge.{sameSets}
 use Rattle.theory.specs.Limits.{limits}
-use Rattle.theory.specs.Lists.{alike, someOf}
+use Rattle.theory.specs.Lists.{someOf}
 
 -- the end of the line from a place on
 abbrev pub IsLineEnd : List ℕ → ℕ → ℕ → Type 0
@@ -38,7 +39,7 @@ AreBytes line from entry exit r = (r, exit) ≡ readInto hexByte (fieldsOf (drop
 
 -- whether a field is a word
 abbrev pub IsSame : List ℕ → List ℕ → Bool → Type 0
-IsSame field word r = r ≡ alike eqb field word
+IsSame field word r = r ≡ sameSets field word
 
 -- whether 0 is among the numbers
 abbrev pub HasZero : List ℕ → Bool → Type 0

@@ -180,45 +180,21 @@ pub fn bytes(line: &[u8], from: usize, out: &mut [u8]) -> Read
 pub fn same(field: &[u8], word: &[u8]) -> bool
     ensures { λ r. ⌜ IsSame (now (field .entry)) (now (word .entry)) r ⌝ }
 {
-    if field.len() != word.len() {
-        return false;
-    }
-    let mut i = 0;
-    while i < field.len() {
-        if field[i] != word[i] {
-            return false;
-        }
-        i += 1;
-    }
-    true
+    slices::equal(field, word)
 }
 
 // Whether 0 is among the numbers.
 pub fn has_zero(values: &[u32]) -> bool
     ensures { λ r. ⌜ HasZero (now (values .entry)) r ⌝ }
 {
-    let mut i = 0;
-    while i < values.len() {
-        if values[i] == 0 {
-            return true;
-        }
-        i += 1;
-    }
-    false
+    slices::has(values, 0)
 }
 
 // Whether a number is above the most assumptions, and so above every A.
 pub fn has_above(values: &[u32]) -> bool
     ensures { λ r. ⌜ HasAbove (now (values .entry)) r ⌝ }
 {
-    let mut i = 0;
-    while i < values.len() {
-        if ASSUMPTIONS < values[i] {
-            return true;
-        }
-        i += 1;
-    }
-    false
+    slices::over(values, ASSUMPTIONS)
 }
 
 // The set with assumption k; a number that no store has as an assumption is left out.
