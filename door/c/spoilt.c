@@ -471,7 +471,7 @@ static void spoil(reasons_store *store, long i) {
 
 int main(int argc, char **argv) {
     if (argc < 3) return 2;
-    if (argc > 3) state = strtoull(argv[3], NULL, 10) | 1;
+    if (argc > 3) state = 2 * strtoull(argv[3], NULL, 10) + 1;
     FILE *f = fopen(argv[1], "rb");
     uint8_t file[4096];
     size_t size = f ? fread(file, 1, sizeof file, f) : 0;
