@@ -43,6 +43,11 @@ impl Names {
         Ok(())
     }
 
+    /// Whether there is any name.
+    pub fn any(&self) -> bool {
+        !self.0.is_empty()
+    }
+
     /// The name of a number, or the number.
     pub fn name(&self, n: u32) -> String {
         self.0.get(&n).cloned().unwrap_or_else(|| n.to_string())
@@ -63,7 +68,7 @@ impl Names {
 
     /// A listing with names for its numbers; the first line stays as it is.
     pub fn in_listing(&self, listing: &str) -> String {
-        if self.0.is_empty() {
+        if !self.any() {
             return listing.to_string();
         }
         let mut lines = listing.split_inclusive('\n');
@@ -91,6 +96,9 @@ impl Names {
         out
     }
 }
+
+/// The words that lines and answers say of a number, and what stands between a number and its supports.
+const WORDS: [&str; 6] = ["supported", "unsupported", "contradicted", "inconsistent", "nogood", "from"];
 
 /// What 0 is called in a drawing.
 const FALSITY: &str = "falsity";
@@ -121,6 +129,9 @@ fn fit(name: &str) -> Result<(), &'static str> {
     }
     if name.contains(['{', '}', ',']) {
         return Err("a name with {, } or a comma");
+    }
+    if name.split_whitespace().any(|word| WORDS.contains(&word)) {
+        return Err("a name with a word of the listing");
     }
     if name.chars().any(|c| c.is_control() || unseen(c)) {
         return Err("a name with a control character");

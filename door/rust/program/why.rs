@@ -90,11 +90,11 @@ fn how(store: &Store, from: Set, goal: u32, names: &Names) -> String {
     text
 }
 
-/// A stage's line, with names for its numbers; the stage stays as it is.
+/// A stage's line, with names for its numbers and then commas between them, since a name may have blanks; the stage stays as it is.
 fn staged(line: &str, names: &Names) -> String {
     match line.split_once(' ') {
-        Some((stage, rest)) => format!("{stage} {}\n", names.in_text(rest)),
-        None => format!("{line}\n"),
+        Some((stage, rest)) if names.any() => format!("{stage} {}\n", names.in_text(&rest.replace(' ', ", "))),
+        _ => format!("{line}\n"),
     }
 }
 
