@@ -70,10 +70,13 @@ static_assert(sizeof(reasons_item) == 32 && offsetof(reasons_item, count) == 8 &
 typedef struct { uint32_t reply, named, record; reasons_store store; } reasons_kept;
 typedef struct { uint32_t reply, answer, reason; } reasons_reasoned;
 typedef struct { uint32_t reply; size_t value; } reasons_told;
+static_assert(sizeof(reasons_kept) == 7984 && offsetof(reasons_kept, named) == 4 && offsetof(reasons_kept, record) == 8 && offsetof(reasons_kept, store) == 16, "a store handed out");
+static_assert(sizeof(reasons_reasoned) == 12 && offsetof(reasons_reasoned, answer) == 4 && offsetof(reasons_reasoned, reason) == 8, "an answer with its reason");
+static_assert(sizeof(reasons_told) == 16 && offsetof(reasons_told, value) == 8, "a number told");
 
 /* What is asked of a bare list: what is 0 for the word of a number, 1 for the context, 2 or more for the stages; the number counts with 0 alone. */
 typedef struct { uint32_t assumptions, claims, what, number, set; } reasons_asked;
-static_assert(sizeof(reasons_asked) == 20, "the question of the library");
+static_assert(sizeof(reasons_asked) == 20 && offsetof(reasons_asked, what) == 8 && offsetof(reasons_asked, set) == 16, "the question of the library");
 
 reasons_kept door_open(uint32_t assumptions, uint32_t claims);
 reasons_kept door_load(const uint8_t *bytes, size_t length);
@@ -112,6 +115,13 @@ static inline const void *reasons_lent(const void *p) {
 /* So many supports; of a null pointer with a count above 0 as many zeros, at most 5, so that 5 or 6 refuses them: nothing becomes a premise by mistake. */
 static inline size_t reasons_count(const uint32_t *supports, size_t count) { return supports || count < 5 ? count : 5; }
 
+/* So many items; of a null list with a count above 0 one with too many supports, so that 6 refuses it, or 15 where it is added: nothing is answered of items that were not handed over. */
+static inline size_t reasons_items(const reasons_item *list, size_t items) { return list || !items ? items : 1; }
+static inline const reasons_item *reasons_list(const reasons_item *list) {
+    static const reasons_item faulty = {0, 5, {0, 0, 0, 0}};
+    return list ? list : &faulty;
+}
+
 static inline uint8_t *reasons_room(void *p) {
     static uint64_t nothing;
     return (uint8_t *)(p ? p : &nothing);
@@ -131,8 +141,9 @@ static inline reasons_reply reasons_tell(reasons_told t, size_t *value) {
     return (reasons_reply)t.reply;
 }
 
-/* ---- the calls. named, record, reason, length and written may be null; store, answer and set may not. A file, a list
-   and `out` may be null and then lend nothing, whatever length stands beside them. */
+/* ---- the calls. named, record, reason, length and written may be null; store, answer and set may not. A file and `out`
+   may be null and then lend nothing, whatever length stands beside them. So may a list with no items and supports with
+   no count; a null list with items is refused, with 6 or, in adding, with 15, and null supports with a count with 5 or 6. */
 
 /* The set of one assumption, 1 to 32; join sets with |. Of any other number, which is no assumption, the empty set. */
 static inline uint32_t reasons_assume(uint32_t k) { return k - 1 < 32 ? (uint32_t)1 << (k - 1) : 0; }
@@ -145,7 +156,8 @@ static inline reasons_reply reasons_open(reasons_store *store, uint32_t assumpti
 
 /* The store of a case file. Refused, the first fault: 11, 12; 3, 7; 6; 4, 5, 17; 13; then 9 and 8 by stage. A file of
    more than 4,096 bytes is not refused for its length here: 14 is for programs to give, before they load.
-   record is set to the record being read, from 1, 0 in the header; named to the number that 8 names, else 0. */
+   record is set to the record being read, from 1, 0 in the header; where it is done, to the number of records in the file;
+   named to the number that 8 names, else 0. */
 static inline reasons_reply reasons_load(reasons_store *store, const void *bytes, size_t length, uint32_t *record, uint32_t *named) {
     reasons_kept k = door_load((const uint8_t *)reasons_lent(bytes), bytes ? length : 0);
     if (record) *record = k.record;
@@ -160,9 +172,9 @@ static inline reasons_reply reasons_add(reasons_store *store, uint32_t consequen
 }
 
 /* Adds the items of a list in their order, each refused one passed over; a byte for each receives its reply, later bytes are kept.
-   Refused: 2, 15. Done says that the list was gone through, not that an item was added: its byte says that. An 8 names no number here. */
+   Refused: 2, 15; a null list with items lends no byte for a reply, and so is 15. Done says that the list was gone through, not that an item was added: its byte says that. An 8 names no number here. */
 static inline reasons_reply reasons_add_all(reasons_store *store, const reasons_item *list, size_t items, uint8_t *out, size_t room) {
-    reasons_kept k = door_add_all(*store, (const reasons_item *)reasons_lent(list), list ? items : 0, reasons_room(out), out ? room : 0);
+    reasons_kept k = door_add_all(*store, reasons_list(list), reasons_items(list, items), reasons_room(out), out && (list || !items) ? room : 0);
     return reasons_keep(&k, store, NULL);
 }
 
@@ -237,17 +249,17 @@ static inline reasons_reply reasons_plain_context(const reasons_store *store, ui
    3, then each item in order by 6, 4, 5, 17, then 4 for the number or the set asked, then, but for the question, 15. */
 static inline reasons_reply reasons_bare_question(uint32_t assumptions, uint32_t claims, const reasons_item *list, size_t items, uint32_t n, uint32_t set, reasons_answer *answer) {
     reasons_asked asked = {assumptions, claims, 0, n, set};
-    reasons_told t = door_bare(asked, (const reasons_item *)reasons_lent(list), list ? items : 0, reasons_room(NULL), 0);
+    reasons_told t = door_bare(asked, reasons_list(list), reasons_items(list, items), reasons_room(NULL), 0);
     if (t.reply == REASONS_DONE) *answer = (reasons_answer)t.value;
     return (reasons_reply)t.reply;
 }
 static inline reasons_reply reasons_bare_context(uint32_t assumptions, uint32_t claims, const reasons_item *list, size_t items, uint32_t set, uint8_t *out, size_t room) {
     reasons_asked asked = {assumptions, claims, 1, 0, set};
-    return (reasons_reply)door_bare(asked, (const reasons_item *)reasons_lent(list), list ? items : 0, reasons_room(out), out ? room : 0).reply;
+    return (reasons_reply)door_bare(asked, reasons_list(list), reasons_items(list, items), reasons_room(out), out ? room : 0).reply;
 }
 static inline reasons_reply reasons_bare_stages(uint32_t assumptions, uint32_t claims, const reasons_item *list, size_t items, uint32_t set, char *out, size_t room, size_t *length) {
     reasons_asked asked = {assumptions, claims, 2, 0, set};
-    return reasons_tell(door_bare(asked, (const reasons_item *)reasons_lent(list), list ? items : 0, reasons_room(out), out ? room : 0), length);
+    return reasons_tell(door_bare(asked, reasons_list(list), reasons_items(list, items), reasons_room(out), out ? room : 0), length);
 }
 
 /* The line of a refusal and of a record, as the listing program prints it; 30 bytes always do. Refused: 15. */

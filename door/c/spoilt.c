@@ -1,7 +1,9 @@
 /* spoilt FILE N [SEED]: N stores, most of them spoilt copies of FILE's, through every call that takes a store, and as many
    lists, faulty and not, through those of a bare list. The right shape, and what the lists say, are worked out here from
-   document 01; each call must answer 2 where the shape is wrong and what the lists say where it is right; each list its first
-   fault, or what follows by it. Every lent range ends at a page that may not be touched. */
+   the documents; each call must answer 2 where the shape is wrong and what the lists say where it is right, its texts and
+   bytes included; each list its first fault, or what follows by it. Of adding and withdrawing the reply and what is then
+   held are worked out, but for whether 8 or 9 is due; with few assumptions these too, and the lists and the depth of the
+   store that is handed out, by trying every set. Every lent range ends at a page that may not be touched. */
 #define _GNU_SOURCE
 #include "runs/common.h"
 
@@ -106,20 +108,98 @@ static uint8_t byte(const layout *s, uint32_t n, uint32_t set, const bool *follo
 static uint8_t plain(uint32_t n, const bool *follows) { return follows[0] ? REASONS_INCONSISTENT : follows[n] ? REASONS_SUPPORTED : REASONS_UNSUPPORTED; }
 
 static long counts[32];
-static uint8_t *context, *text, *listing, *stages, *written, *replied;
+static uint8_t *lent_end;
 static uint32_t *supports;
 enum { LISTED = 40 };
 static reasons_item *item, *listed;
 
-/* whether the last line has exactly the numbers that follow */
-static bool last_is(const uint8_t *lines, size_t length, unsigned top, const bool *follows) {
-    char want[600];
-    size_t from = length - 1, size = 0;
-    while (from && lines[from - 1] != '\n') from--;
-    while (lines[from] != ' ' && lines[from] != '\n') from++;
-    for (unsigned n = 0; n <= top; n++)
-        if (follows[n]) size += (size_t)sprintf(want + size, " %u", n);
-    return length - from == size + 1 && !memcmp(lines + from, want, size);
+/* ---- the texts and the case file */
+
+static char wanted[REASONS_LONGEST_LISTING + 1];
+
+static size_t set_text(char *at, uint32_t set) {
+    size_t size = (size_t)sprintf(at, " {");
+    for (unsigned k = 1; k <= 32; k++)
+        if (set >> (k - 1) & 1) size += (size_t)sprintf(at + size, size > 2 ? ",%u" : "%u", k);
+    return size + (size_t)sprintf(at + size, "}");
+}
+
+/* the line of n: its number, its word, its members; all are the numbers that follow from all assumptions together */
+static size_t line_text(const layout *s, uint32_t n, const bool *all, char *at) {
+    uint64_t count = n ? s->sizes[n - 1] : s->nogood_count;
+    const uint32_t *list = n ? s->members[n - 1] : s->nogoods;
+    size_t size = (size_t)sprintf(at, "%u %s", n, !n ? "nogood" : count ? "supported" : all[n] ? "contradicted" : "unsupported");
+    for (uint64_t i = 0; i < count; i++) size += set_text(at + size, list[i]);
+    return size + (size_t)sprintf(at + size, "\n");
+}
+
+static size_t case_text(const layout *s, char *at) { return (size_t)sprintf(at, "case %u %u %u %u\n", s->assumptions, s->claims, (unsigned)s->count, s->depth); }
+
+static size_t listing_text(const layout *s, const bool *all, char *at) {
+    size_t size = case_text(s, at);
+    for (uint32_t n = 0; n <= (uint32_t)(s->assumptions + s->claims); n++) size += line_text(s, n, all, at + size);
+    return size;
+}
+
+static char *number(char *at, unsigned n) {
+    if (n < 128) return *at = (char)n, at + 1;
+    return at[0] = (char)(n % 128 + 128), at[1] = (char)(n / 128), at + 2;
+}
+
+/* A, M, the count, then each justification: consequent, number of supports, supports */
+static size_t file_bytes(const layout *s, char *out) {
+    char *at = number(number(number(out, s->assumptions), s->claims), (unsigned)s->count);
+    for (uint64_t i = 0; i < s->count; i++) {
+        at = number(number(at, s->entries[i][0]), s->entries[i][1]);
+        for (int k = 0; k < s->entries[i][1]; k++) at = number(at, s->entries[i][2 + k]);
+    }
+    return (size_t)(at - out);
+}
+
+/* a line for each stage, up to the last with something new; the justifications as items */
+static size_t stages_text(const reasons_item *list, size_t items, uint32_t assumptions, uint32_t top, uint32_t set, char *at) {
+    bool now[129] = {false}, next[129];
+    size_t size = 0;
+    for (uint32_t k = 1; k <= assumptions; k++) now[k] = set >> (k - 1) & 1;
+    for (unsigned stage = 0;; stage++) {
+        size += (size_t)sprintf(at + size, "%u", stage);
+        for (uint32_t n = 0; n <= top; n++)
+            if (now[n]) size += (size_t)sprintf(at + size, " %u", n);
+        size += (size_t)sprintf(at + size, "\n");
+        memcpy(next, now, sizeof next);
+        for (size_t i = 0; i < items; i++) {
+            bool all = true;
+            for (size_t k = 0; all && k < list[i].count; k++) all = now[list[i].supports[k]];
+            if (all) next[list[i].consequent] = true;
+        }
+        if (!memcmp(now, next, sizeof next)) return size;
+        memcpy(now, next, sizeof now);
+    }
+}
+
+/* what is held, as items */
+static size_t held_items(const layout *s, reasons_item *to) {
+    for (uint64_t i = 0; i < s->count; i++) {
+        to[i] = (reasons_item){.consequent = s->entries[i][0], .count = s->entries[i][1]};
+        for (int k = 0; k < 4; k++) to[i].supports[k] = s->entries[i][2 + k];
+    }
+    return s->count;
+}
+
+/* room bytes at the end of what may be touched, each of them 9 */
+static uint8_t *room_of(size_t room) { return (uint8_t *)memset(lent_end - room, 9, room); }
+
+/* about as many bytes as are wanted: one less, as many, or a few more */
+static size_t about(size_t size) { return size + draw(5) - (size ? 1 : 0); }
+
+/* The reply to a call that writes into the last room bytes: it was refused already, or 15, and then no byte is written; else what is wanted, and the later bytes kept. */
+static void writes(reasons_reply got, reasons_reply refused, size_t room, const size_t *length, size_t size, const char *what, long i) {
+    reasons_reply want = refused ? refused : room < size ? REASONS_SHORT : REASONS_DONE;
+    size_t kept = want ? 0 : size;
+    counts[got]++;
+    if (got != want || (!want && (*length != size || memcmp(lent_end - room, wanted, size)))) fails(what, i);
+    for (size_t k = kept; k < room; k++)
+        if ((lent_end - room)[k] != 9) fails(what, i);
 }
 
 static reasons_reply met(reasons_reply r) {
@@ -130,49 +210,43 @@ static reasons_reply met(reasons_reply r) {
 static void reads(const reasons_store *store, const layout *s, bool ok, long i) {
     unsigned top = s->assumptions + s->claims;
     uint32_t n = draw(3) ? draw(top + 2) : draw(300), set = draw(2) ? draw(64) : (uint32_t)state, place = draw(14), reason, why, member;
-    bool within = s->assumptions >= 32 || !(set >> s->assumptions);
-    size_t length, room = draw(132);
+    bool within = s->assumptions >= 32 || !(set >> s->assumptions), all[129] = {false}, some[129] = {false};
+    size_t length = 0, size = 0, room;
     reasons_answer answer;
+    static reasons_item held[256];
+    if (ok) follow(s, s->assumptions ? ~(uint32_t)0 >> (32 - s->assumptions) : 0, all);
+    if (ok && within) follow(s, set, some);
 
-    reasons_reply want = !ok ? REASONS_SHAPE : n > top || !within ? REASONS_NUMBER : REASONS_DONE;
+    reasons_reply shape = ok ? REASONS_DONE : REASONS_SHAPE, asked = !ok ? REASONS_SHAPE : !within ? REASONS_NUMBER : REASONS_DONE;
+    reasons_reply want = asked ? asked : n > top ? REASONS_NUMBER : REASONS_DONE;
     if (met(reasons_question(store, n, set, &answer, &reason)) != want) fails("question", i);
     if (!want && (says(s, n, set, &why) != answer || why != reason)) fails("question's answer", i);
-
-    memset(context, 9, 132);
-    want = !ok ? REASONS_SHAPE : !within ? REASONS_NUMBER : room < top + 1 ? REASONS_SHORT : REASONS_DONE;
-    if (met(reasons_context(store, set, context + 132 - room, room)) != want) fails("context", i);
-    bool all[129], some[129];
-    if (ok) follow(s, s->assumptions ? ~(uint32_t)0 >> (32 - s->assumptions) : 0, all), follow(s, set, some);
-    for (size_t k = 0; k < 132; k++) {
-        bool of = !want && k >= 132 - room && k - (132 - room) <= top;
-        if (of && context[k] != byte(s, (uint32_t)(k - (132 - room)), set, all)) fails("context's bytes", i);
-        if (!of && context[k] != 9) fails("context's other bytes", i);
-    }
-    memset(context, 9, 132);
-    if (met(reasons_plain_context(store, set, context + 132 - room, room)) != want) fails("plain context", i);
-    for (size_t k = 0; k < 132; k++) {
-        bool of = !want && k >= 132 - room && k - (132 - room) <= top;
-        if (context[k] != (of ? plain((uint32_t)(k - (132 - room)), some) : 9)) fails("plain context's bytes", i);
-    }
-    want = !ok ? REASONS_SHAPE : n > top || !within ? REASONS_NUMBER : REASONS_DONE;
     if (met(reasons_plain_question(store, n, set, &answer)) != want || (!want && answer != plain(n, some))) fails("plain question", i);
-    want = !ok ? REASONS_SHAPE : !within ? REASONS_NUMBER : REASONS_DONE;
-    if (met(reasons_stages(store, set, (char *)stages, REASONS_LONGEST_STAGES, &length)) != want) fails("stages", i);
-    if (!want && !last_is(stages, length, top, some)) fails("the last stage", i);
-    want = ok ? REASONS_DONE : REASONS_SHAPE;
-    if (met(reasons_write(store, written, REASONS_LONGEST_CASE, &length)) != want) fails("write", i);
-    if (!want && (written[0] != s->assumptions || written[1] != s->claims || reasons_write(store, written, length - 1, NULL) != REASONS_SHORT)) fails("what is written", i);
 
-    uint64_t size = n == 0 ? s->nogood_count : n <= 128 ? s->sizes[n - 1] : 0;
-    want = !ok ? REASONS_SHAPE : n > top ? REASONS_NUMBER : place >= size ? REASONS_PLACE : REASONS_DONE;
+    if (!asked)
+        for (unsigned k = 0; k <= top; k++) wanted[k] = (char)byte(s, k, set, all);
+    room = about(size = asked ? 0 : top + 1);
+    writes(reasons_context(store, set, room_of(room), room), asked, room, &size, size, "context", i);
+    if (!asked)
+        for (unsigned k = 0; k <= top; k++) wanted[k] = (char)plain(k, some);
+    writes(reasons_plain_context(store, set, room_of(room), room), asked, room, &size, size, "plain context", i);
+    size = asked ? 0 : stages_text(held, held_items(s, held), s->assumptions, top, set, wanted), room = about(size);
+    writes(reasons_stages(store, set, (char *)room_of(room), room, &length), asked, room, &length, size, "stages", i);
+
+    uint64_t members = n == 0 ? s->nogood_count : n <= 128 ? s->sizes[n - 1] : 0;
+    want = !ok ? REASONS_SHAPE : n > top ? REASONS_NUMBER : place >= members ? REASONS_PLACE : REASONS_DONE;
     if (met(reasons_member(store, n, place, &member)) != want) fails("member", i);
     if (!want && member != (n ? s->members[n - 1][place] : s->nogoods[place])) fails("member's set", i);
 
     want = !ok ? REASONS_SHAPE : n > top ? REASONS_NUMBER : REASONS_DONE;
-    if (met(reasons_line(store, n, (char *)text, REASONS_LONGEST_LINE, &length)) != want) fails("line", i);
-    if (met(reasons_case_line(store, (char *)text, 19, &length)) != (ok ? REASONS_DONE : REASONS_SHAPE)) fails("first line", i);
-    if (ok && (reasons_case_line(store, (char *)text, length, &length) || reasons_case_line(store, (char *)text, length - 1, NULL) != REASONS_SHORT)) fails("first line's length", i);
-    if (met(reasons_listing(store, (char *)listing, REASONS_LONGEST_LISTING, &length)) != (ok ? REASONS_DONE : REASONS_SHAPE)) fails("listing", i);
+    size = want ? 0 : line_text(s, n, all, wanted), room = about(size);
+    writes(reasons_line(store, n, (char *)room_of(room), room, &length), want, room, &length, size, "line", i);
+    size = shape ? 0 : case_text(s, wanted), room = about(size);
+    writes(reasons_case_line(store, (char *)room_of(room), room, &length), shape, room, &length, size, "first line", i);
+    size = shape ? 0 : listing_text(s, all, wanted), room = about(size);
+    writes(reasons_listing(store, (char *)room_of(room), room, &length), shape, room, &length, size, "listing", i);
+    size = shape ? 0 : file_bytes(s, wanted), room = about(size);
+    writes(reasons_write(store, room_of(room), room, &length), shape, room, &length, size, "case file", i);
 }
 
 /* ---- a bare list */
@@ -204,7 +278,7 @@ static void follow_list(const reasons_item *list, size_t items, uint32_t assumpt
 
 static void bares(const layout *s, long i) {
     uint32_t assumptions = draw(16) ? s->assumptions : draw(40), claims = draw(16) ? s->claims : draw(110), top = assumptions + claims;
-    size_t items = draw(LISTED + 1), room = draw(132), length;
+    size_t items = draw(LISTED + 1), room, size, length = 0;
     reasons_item *list = listed + LISTED - items;
     reasons_reply want = assumptions > 32 || claims > 96 ? REASONS_COUNTS : REASONS_DONE;
     for (size_t k = 0; k < items; k++) {
@@ -221,15 +295,95 @@ static void bares(const layout *s, long i) {
     reasons_reply asked = want ? want : within ? REASONS_DONE : REASONS_NUMBER;
     want = asked ? asked : n > top ? REASONS_NUMBER : REASONS_DONE;
     if (met(reasons_bare_question(assumptions, claims, list, items, n, set, &answer)) != want || (!want && answer != plain(n, follows))) fails("bare question", i);
-    want = asked ? asked : room < top + 1 ? REASONS_SHORT : REASONS_DONE;
-    memset(context, 9, 132);
-    if (met(reasons_bare_context(assumptions, claims, list, items, set, context + 132 - room, room)) != want) fails("bare context", i);
-    for (size_t k = 0; k < 132; k++) {
-        bool of = !want && k >= 132 - room && k - (132 - room) <= top;
-        if (context[k] != (of ? plain((uint32_t)(k - (132 - room)), follows) : 9)) fails("bare context's bytes", i);
+    if (!asked)
+        for (uint32_t k = 0; k <= top; k++) wanted[k] = (char)plain(k, follows);
+    room = about(size = asked ? 0 : top + 1);
+    writes(reasons_bare_context(assumptions, claims, list, items, set, room_of(room), room), asked, room, &size, size, "bare context", i);
+    size = asked ? 0 : stages_text(list, items, assumptions, top, set, wanted), room = about(size);
+    writes(reasons_bare_stages(assumptions, claims, list, items, set, (char *)room_of(room), room, &length), asked, room, &length, size, "bare stages", i);
+}
+
+/* ---- a store changed */
+
+/* a justification as it is held: its supports rising, each once */
+static void entry_of(uint8_t *e, uint32_t consequent, const uint32_t *of, uint32_t count) {
+    memset(e, 0, 6);
+    e[0] = (uint8_t)consequent;
+    for (uint32_t n = 1; n <= 128; n++)
+        for (uint32_t k = 0; k < count; k++)
+            if (of[k] == n) {
+                e[2 + e[1]++] = (uint8_t)n;
+                break;
+            }
+}
+
+/* the place of the first that is not before it */
+static uint64_t place_of(const layout *s, const uint8_t *e) {
+    uint64_t at = 0;
+    while (at < s->count && compare(s->entries[at], e) < 0) at++;
+    return at;
+}
+
+/* with the justification put in at its place, or taken out from there */
+static layout holding(layout s, const uint8_t *e, bool in) {
+    uint64_t at = place_of(&s, e), rest = s.count - at;
+    if (in) {
+        memmove(s.entries[at + 1], s.entries[at], rest * 6);
+        memcpy(s.entries[at], e, 6);
+        s.count++;
+    } else {
+        memmove(s.entries[at], s.entries[at + 1], (rest - 1) * 6);
+        memset(s.entries[--s.count], 0, 6);
     }
-    if (met(reasons_bare_stages(assumptions, claims, list, items, set, (char *)stages, REASONS_LONGEST_STAGES, &length)) != asked) fails("bare stages", i);
-    if (!asked && (!last_is(stages, length, top, follows) || reasons_bare_stages(assumptions, claims, list, items, set, (char *)stages, length - 1, NULL) != REASONS_SHORT)) fails("the last bare stage", i);
+    return s;
+}
+
+enum { FEW = 4 };
+typedef bool followed[1 << FEW][129];
+
+/* the sets from which n follows, no proper subset with it: of a label those from which falsity does not */
+static uint64_t smallest(followed f, unsigned sets, uint32_t n, uint32_t *to) {
+    uint64_t count = 0;
+    for (unsigned size = 0; size <= FEW; size++)
+        for (unsigned e = 0; e < sets; e++) {
+            bool least = f[e][n] && !(n && f[e][0]) && (unsigned)__builtin_popcount(e) == size;
+            for (unsigned d = 0; least && d < e; d++) least = (d & e) != d || !f[d][n];
+            if (least) to[count++] = e;
+        }
+    return count;
+}
+
+/* the lists of a stage in their places */
+static void lists_of(layout *s, followed f) {
+    unsigned sets = 1u << s->assumptions;
+    memset(s->sizes, 0, sizeof s->sizes), memset(s->members, 0, sizeof s->members), memset(s->nogoods, 0, sizeof s->nogoods);
+    s->nogood_count = smallest(f, sets, 0, s->nogoods);
+    for (uint32_t n = 1; n <= (uint32_t)(s->assumptions + s->claims); n++) s->sizes[n - 1] = (uint8_t)smallest(f, sets, n, s->members[n - 1]);
+}
+
+/* The store of what is held with at most four assumptions: stage by stage, every set tried, until two agree. No list is over: none has more than six. */
+static layout judged(layout s) {
+    static followed now, next;
+    memset(now, 0, sizeof now);
+    for (unsigned e = 0; e < 1u << s.assumptions; e++)
+        for (unsigned k = 1; k <= s.assumptions; k++) now[e][k] = e >> (k - 1) & 1;
+    lists_of(&s, now);
+    memset(s.pad, 0, 6), memset(s.tail, 0, 7);
+    for (s.depth = 0;; s.depth++) {
+        memcpy(next, now, sizeof now);
+        for (unsigned e = 0; e < 1u << s.assumptions; e++)
+            for (uint64_t i = 0; i < s.count; i++) {
+                bool all = true;
+                for (int k = 0; all && k < s.entries[i][1]; k++) all = now[e][s.entries[i][2 + k]];
+                if (all) next[e][s.entries[i][0]] = true;
+            }
+        layout later = s;
+        lists_of(&later, next);
+        if (!memcmp(&later, &s, sizeof s)) return s;
+        later.depth = s.depth;
+        s = later;
+        memcpy(now, next, sizeof now);
+    }
 }
 
 /* whether the bytes that no call sets are clear */
@@ -237,6 +391,16 @@ static bool clean(const reasons_store *store) {
     layout s;
     memcpy(&s, store, sizeof s);
     return !memcmp(s.pad, "\0\0\0\0\0", 6) && !memcmp(s.tail, "\0\0\0\0\0\0", 7);
+}
+
+/* A change answered 0: the store holds what it should, has the right shape and clean padding, and with few assumptions the lists and the depth worked out. */
+static void stands(const reasons_store *after, const layout *held, const char *what, long i) {
+    layout now = places(after);
+    if (now.assumptions != held->assumptions || now.claims != held->claims || now.count != held->count || memcmp(now.entries, held->entries, sizeof now.entries)) fails(what, i);
+    if (!right(&now) || !clean(after)) fails(what, i);
+    if (now.assumptions > FEW) return;
+    layout want = judged(*held);
+    if (memcmp(&want, after, sizeof want)) fails(what, i);
 }
 
 static void changes(const reasons_store *store, const layout *s, bool ok, long i) {
@@ -250,24 +414,40 @@ static void changes(const reasons_store *store, const layout *s, bool ok, long i
         handed = supports + 4 - count;
         for (uint32_t k = 0; k < count; k++) handed[k] = e[2 + k];
     } else handed += 4 - count;
-    reasons_reply r = met(reasons_add(&after, n, handed, count, &named));
-    if ((r == REASONS_SHAPE) == ok) fails("add", i);
-    if (r ? memcmp(&after, store, sizeof after) != 0 : !reasons_shape(&after) || !clean(&after)) fails("add's store", i);
-    after = *store;
-    memset(item, 255, 32);
-    *item = (reasons_item){.consequent = n, .count = draw(8) ? count : 5 + draw(300)};
+    *item = (reasons_item){.consequent = n, .count = count};
     for (uint32_t k = 0; k < count; k++) item->supports[k] = handed[k];
-    *replied = 99;
-    reasons_reply one = met(reasons_add_all(&after, item, 1, replied, draw(8) ? 1 : 0));
-    if (one != (!ok ? REASONS_SHAPE : *replied == 99 ? REASONS_SHORT : REASONS_DONE)) fails("add_all", i);
-    if (!one && *replied != (item->count > 4 ? REASONS_SUPPORTS : r)) fails("add_all's byte", i);
-    reasons_store was = *store;
-    if (!one) reasons_clean(&was);
-    if (!one && !*replied ? !reasons_shape(&after) || !clean(&after) : memcmp(&after, &was, sizeof after) != 0) fails("add_all's store", i);
+
+    uint8_t e[6];
+    entry_of(e, n, handed, count);
+    reasons_reply first = !ok ? REASONS_SHAPE : fault(item, s->assumptions + s->claims);
+    uint64_t at = first ? 0 : place_of(s, e);
+    bool held = !first && at < s->count && !compare(s->entries[at], e), few = s->assumptions <= FEW;
+    reasons_reply want = first ? first : held ? REASONS_ALREADY : s->count == 256 ? REASONS_FULL : REASONS_DONE;
+    reasons_reply r = met(reasons_add(&after, n, handed, count, &named));
+    if (r != want && (want || few || (r != REASONS_LABEL && r != REASONS_NOGOODS))) fails("add", i);
+    if ((r == REASONS_LABEL) != (named > 0)) fails("the number that adding names", i);
+    layout with = *s;
+    if (!r) with = holding(*s, e, true), stands(&after, &with, "add's store", i);
+    else if (memcmp(&after, store, sizeof after)) fails("add's refusal", i);
+
+    reasons_store one = *store, was = *store;
+    bool lent_one = draw(8);
+    if (!draw(8)) item->count = 5 + draw(300);
+    uint8_t *byte_of = room_of(lent_one);
+    reasons_reply all = met(reasons_add_all(&one, item, 1, byte_of, lent_one));
+    if (all != (!ok ? REASONS_SHAPE : !lent_one ? REASONS_SHORT : REASONS_DONE)) fails("add_all", i);
+    if (!all && *byte_of != (item->count > 4 ? REASONS_SUPPORTS : r)) fails("add_all's byte", i);
+    if (all && lent_one && *byte_of != 9) fails("add_all's byte kept", i);
+    if (!all) reasons_clean(&was);
+    if (memcmp(&one, !all && !*byte_of ? &after : &was, sizeof one)) fails("add_all's store", i);
+
     after = *store;
+    want = first ? first : held ? REASONS_DONE : REASONS_UNHELD;
     r = met(reasons_withdraw(&after, n, handed, count, &named));
-    if ((r == REASONS_SHAPE) == ok) fails("withdraw", i);
-    if (r ? memcmp(&after, store, sizeof after) != 0 : !reasons_shape(&after) || !clean(&after)) fails("withdraw's store", i);
+    if (r != want && (want || few || (r != REASONS_LABEL && r != REASONS_NOGOODS))) fails("withdraw", i);
+    if ((r == REASONS_LABEL) != (named > 0)) fails("the number that withdrawing names", i);
+    if (!r) with = holding(*s, e, false), stands(&after, &with, "withdraw's store", i);
+    else if (memcmp(&after, store, sizeof after)) fails("withdraw's refusal", i);
 }
 
 /* Spoils a few bytes, most of them near the counts, or all of them; every fifth store is left whole or has its lists exchanged for others of right shape. */
@@ -291,7 +471,7 @@ static void spoil(reasons_store *store, long i) {
 
 int main(int argc, char **argv) {
     if (argc < 3) return 2;
-    if (argc > 3) state = strtoull(argv[3], NULL, 10) | 1;
+    if (argc > 3) state = 2 * strtoull(argv[3], NULL, 10) + 1;
     FILE *f = fopen(argv[1], "rb");
     uint8_t file[4096];
     size_t size = f ? fread(file, 1, sizeof file, f) : 0;
@@ -299,7 +479,8 @@ int main(int argc, char **argv) {
     memcpy(bytes, file, size);
     reasons_store whole, s;
     if (reasons_load(&whole, bytes, size, NULL, NULL)) return 2;
-    context = lent(132), text = lent(REASONS_LONGEST_LINE), listing = lent(REASONS_LONGEST_LISTING), stages = lent(REASONS_LONGEST_STAGES), written = lent(REASONS_LONGEST_CASE), supports = lent(16), item = lent(32), listed = lent(LISTED * sizeof *listed), replied = lent(1);
+    lent_end = (uint8_t *)lent(REASONS_LONGEST_LISTING + 8) + REASONS_LONGEST_LISTING + 8;
+    supports = lent(16), item = lent(32), listed = lent(LISTED * sizeof *listed);
     long stood = 0, all = atol(argv[2]);
     for (long i = 0; i < all; i++) {
         layout l;

@@ -80,6 +80,17 @@ pub struct Asked {
     pub set: u32,
 }
 
+/// The sizes and places of C's layout, as the header has them.
+const _: () = {
+    use std::mem::{offset_of, size_of};
+    assert!(size_of::<Raw>() == 7968 && std::mem::align_of::<Raw>() == 8);
+    assert!(size_of::<Kept>() == 7984 && offset_of!(Kept, named) == 4 && offset_of!(Kept, record) == 8 && offset_of!(Kept, store) == 16);
+    assert!(size_of::<Reasoned>() == 12 && offset_of!(Reasoned, answer) == 4 && offset_of!(Reasoned, reason) == 8);
+    assert!(size_of::<Told>() == 16 && offset_of!(Told, value) == 8);
+    assert!(size_of::<Item>() == 32 && offset_of!(Item, count) == 8 && offset_of!(Item, supports) == 16);
+    assert!(size_of::<Asked>() == 20 && offset_of!(Asked, what) == 8 && offset_of!(Asked, set) == 16);
+};
+
 #[link(name = "door", kind = "static")]
 extern "C" {
     pub fn door_open(assumptions: u32, claims: u32) -> Kept;

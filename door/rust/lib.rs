@@ -18,7 +18,6 @@
 //! # }
 //! ```
 use std::fmt;
-use std::mem::MaybeUninit;
 
 mod calls;
 mod refusal;
@@ -484,4 +483,4 @@ pub fn printed(bytes: &[u8]) -> String {
         .expect("the longest listing fits")
 }
 
-const _: () = assert!(std::mem::size_of::<MaybeUninit<Store>>() == 7968);
+const _: () = assert!(std::mem::size_of::<Store>() == STORE && STORE == 7968);

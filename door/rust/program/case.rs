@@ -76,9 +76,4 @@ impl Stages {
     pub fn since(&self, n: u32) -> Option<usize> {
         self.numbers.iter().position(|stage| stage.contains(&n))
     }
-
-    /// Whether n follows at the last stage.
-    pub fn reaches(&self, n: u32) -> bool {
-        self.numbers.last().is_some_and(|stage| stage.contains(&n))
-    }
 }

@@ -35,49 +35,80 @@ pub fn draw(given: &Given) -> u8 {
 
 fn drawn(store: &Store, n: Option<u32>, names: &Names) -> Result<String, Refusal> {
     let case = Case::of(store);
-    let rules = match n {
-        Some(n) => resting(store, &case, n)?,
-        None => case.rules.clone(),
-    };
-    let mut shown: Vec<u32> = rules.iter().flat_map(|r| r.supports.iter().copied().chain([r.consequent])).chain(n).collect();
-    if n.is_none() {
-        shown.extend(0..=case.top());
-    }
-    shown.sort_unstable();
-    shown.dedup();
     let mut text = String::from("digraph reasons {\n    rankdir=BT;\n    node [fontname=\"sans-serif\"];\n");
-    if let Some(n) = n {
-        text += &format!("    label={};\n    fontname=\"sans-serif\";\n", quoted(&caption(store, n, names)?));
-    }
-    for m in shown {
-        let members = if n.is_none() { format!("\n{}", sets(store, m, names)?) } else { String::new() };
-        text += &format!("    n{m} [shape={}, label={}];\n", shape(&case, m), quoted(&format!("{}{members}", titled(m, names))));
-    }
-    for (place, rule) in rules.iter().enumerate() {
-        text += &edges(place, rule);
+    match n {
+        Some(n) => {
+            text += &format!("    label={};\n    fontname=\"sans-serif\";\n", quoted(&caption(store, n, names)?));
+            text += &groups(store, &case, n, names)?;
+        }
+        None => text += &part("", &case.rules, &(0..=case.top()).collect::<Vec<_>>(), |m| Ok(noted(&case, m, &titled(store, m, names)?)))?,
     }
     Ok(text + "}\n")
 }
 
-/// The justifications that the label of n rests on: all whose supports follow from a member of it, from n backward.
-fn resting(store: &Store, case: &Case, n: u32) -> Result<Vec<Rule>, Refusal> {
-    let mut used = vec![false; case.rules.len()];
-    for set in store.label(n)? {
-        let stages = Stages::of(store, set);
-        let mut seen = vec![n];
-        let mut next = 0;
-        while next < seen.len() {
-            for (place, rule) in case.rules.iter().enumerate() {
-                if rule.consequent == seen[next] && rule.supports.iter().all(|&s| stages.reaches(s)) {
-                    used[place] = true;
-                    let fresh: Vec<u32> = rule.supports.iter().copied().filter(|s| !seen.contains(s)).collect();
-                    seen.extend(fresh);
-                }
-            }
-            next += 1;
-        }
+/// What each group of n's line carries it by: of several groups each in a frame, so that no two ways are drawn into one.
+fn groups(store: &Store, case: &Case, n: u32, names: &Names) -> Result<String, Refusal> {
+    let label = store.label(n)?;
+    let node = |m| Ok(noted(case, m, &names.title(m)));
+    if let [] | [_] = label[..] {
+        let rules = label.first().map_or(Vec::new(), |&set| resting(store, case, n, set));
+        return part("", &rules, &shown(&rules, n), node);
     }
-    Ok(case.rules.iter().zip(used).filter(|(_, used)| *used).map(|(rule, _)| rule.clone()).collect())
+    let mut text = String::new();
+    for (place, &set) in label.iter().enumerate() {
+        let rules = resting(store, case, n, set);
+        text += &format!("    subgraph cluster{place} {{\n    label={};\n", quoted(&names.set(set)));
+        text += &part(&format!("g{place}"), &rules, &shown(&rules, n), node)?;
+        text += "    }\n";
+    }
+    Ok(text)
+}
+
+/// Numbers and justifications; `before` tells the nodes of one frame from those of another.
+fn part(before: &str, rules: &[Rule], shown: &[u32], node: impl Fn(u32) -> Result<String, Refusal>) -> Result<String, Refusal> {
+    let mut text = String::new();
+    for &m in shown {
+        text += &format!("    {before}n{m} {};\n", node(m)?);
+    }
+    for (place, rule) in rules.iter().enumerate() {
+        text += &edges(before, place, rule);
+    }
+    Ok(text)
+}
+
+/// The numbers of the justifications, and n.
+fn shown(rules: &[Rule], n: u32) -> Vec<u32> {
+    let mut all: Vec<u32> = rules.iter().flat_map(|r| r.supports.iter().copied().chain([r.consequent])).chain([n]).collect();
+    all.sort_unstable();
+    all.dedup();
+    all
+}
+
+/// The justifications by which n rests on a group, from n backward: those that give their consequent at a later stage than each of their
+/// supports first follows at. So none is its own reason by way of others.
+fn resting(store: &Store, case: &Case, n: u32, group: Set) -> Vec<Rule> {
+    let stages = Stages::of(store, group);
+    let gives = |rule: &Rule| {
+        let since = stages.since(rule.consequent).unwrap_or(0);
+        since > 0 && rule.supports.iter().all(|&s| stages.since(s).is_some_and(|first| first < since))
+    };
+    let given: Vec<&Rule> = case.rules.iter().filter(|rule| gives(rule)).collect();
+    let mut seen = vec![n];
+    let mut next = 0;
+    while next < seen.len() {
+        let of = seen[next];
+        for rule in given.iter().filter(|rule| rule.consequent == of) {
+            let fresh: Vec<u32> = rule.supports.iter().copied().filter(|s| !seen.contains(s)).collect();
+            seen.extend(fresh);
+        }
+        next += 1;
+    }
+    given.into_iter().filter(|rule| seen.contains(&rule.consequent)).cloned().collect()
+}
+
+/// The shape and the words of a node.
+fn noted(case: &Case, n: u32, words: &str) -> String {
+    format!("[shape={}, label={}]", shape(case, n), quoted(words))
 }
 
 fn shape(case: &Case, n: u32) -> &'static str {
@@ -88,20 +119,14 @@ fn shape(case: &Case, n: u32) -> &'static str {
     }
 }
 
-fn titled(n: u32, names: &Names) -> String {
-    match (n, names.name(n)) {
-        (0, name) if name == "0" => "falsity".to_string(),
-        (_, name) => name,
-    }
-}
-
-/// The members of a label; of one that has none, the word of its line.
-fn sets(store: &Store, n: u32, names: &Names) -> Result<String, Refusal> {
+/// The name of n, and beneath it the members of its label; of one that has none, the word of its line.
+fn titled(store: &Store, n: u32, names: &Names) -> Result<String, Refusal> {
     let all: Vec<String> = store.label(n)?.into_iter().map(|set: Set| names.set(set)).collect();
-    if all.is_empty() && n != 0 {
-        return Ok(store.line(n)?.split_whitespace().nth(1).unwrap_or("").to_string());
-    }
-    Ok(all.join(" "))
+    let beneath = match all.is_empty() && n != 0 {
+        true => store.line(n)?.split_whitespace().nth(1).unwrap_or("").to_string(),
+        false => all.join(" "),
+    };
+    Ok(format!("{}\n{beneath}", names.title(n)))
 }
 
 /// The line of n without its newline.
@@ -110,18 +135,20 @@ fn caption(store: &Store, n: u32, names: &Names) -> Result<String, Refusal> {
 }
 
 /// One support: an arrow. None or several: they meet in a point.
-fn edges(place: usize, rule: &Rule) -> String {
+fn edges(before: &str, place: usize, rule: &Rule) -> String {
     let to = rule.consequent;
     if let [from] = rule.supports[..] {
-        return format!("    n{from} -> n{to};\n");
+        return format!("    {before}n{from} -> {before}n{to};\n");
     }
-    let mut text = format!("    j{place} [shape=point];\n");
+    let mut text = format!("    {before}j{place} [shape=point];\n");
     for from in &rule.supports {
-        text += &format!("    n{from} -> j{place} [dir=none];\n");
+        text += &format!("    {before}n{from} -> {before}j{place} [dir=none];\n");
     }
-    text + &format!("    j{place} -> n{to};\n")
+    text + &format!("    {before}j{place} -> {before}n{to};\n")
 }
 
+/// In quotes; & begins the name of a letter there.
 fn quoted(text: &str) -> String {
-    format!("\"{}\"", text.replace('\\', "\\\\").replace('"', "\\\"").replace('\n', "\\n"))
+    let text = text.replace('&', "&amp;").replace('\\', "\\\\").replace('"', "\\\"").replace('\n', "\\n");
+    format!("\"{text}\"")
 }

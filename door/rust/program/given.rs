@@ -5,6 +5,7 @@ use std::ffi::OsString;
 pub struct Given {
     pub help: bool,
     pub title: bool,
+    pub none: bool,
     pub names: Option<OsString>,
     pub words: Vec<OsString>,
 }
@@ -18,6 +19,8 @@ impl Given {
             match word.to_str() {
                 Some("--help" | "-h") => given.help = true,
                 Some("--title") if options.contains(&"--title") => given.title = true,
+                Some("--none") if options.contains(&"--none") => given.none = true,
+                Some("--names") if options.contains(&"--names") && given.names.is_some() => return Err("--names twice".to_string()),
                 Some("--names") if options.contains(&"--names") => given.names = Some(rest.next().ok_or("--names wants a file")?.clone()),
                 Some("--") => {
                     given.words.extend(rest.cloned());

@@ -5,6 +5,7 @@ mod draw;
 mod given;
 mod names;
 mod say;
+mod start;
 mod why;
 
 use given::Given;
@@ -43,17 +44,19 @@ const COMMANDS: [Command; 5] = [
     },
     Command {
         name: "why",
-        options: &["--names"],
-        usage: "reasons why [--names NAMES] FILE N [K..]",
+        options: &["--names", "--none"],
+        usage: "reasons why [--names NAMES] FILE N [K.. | --none]",
         help: "What the set of the assumptions K.. is to the number N, the group that makes it so, and stage by stage how it follows from that group.\n\
-               Without K..: the line of N, and the same of each group in it.\n",
+               --none: the same of the empty set. Without either: the line of N, and the same of each group in it; of a number without one,\n\
+               whether all assumptions together contradict themselves, and what follows from them.\n",
         run: why::why,
     },
     Command {
         name: "draw",
         options: &["--names"],
         usage: "reasons draw [--names NAMES] FILE [N]",
-        help: "Graphviz text of the justifications that the label of N rests on; without N, of all that are held.\n\
+        help: "Graphviz text of the justifications that the label of N rests on, each group's in a frame of its own where there are several;\n\
+               without N, of all that are held.\n\
                Boxes are assumptions, ellipses claims, the octagon is falsity. Try: reasons draw FILE | dot -Tsvg\n",
         run: draw::draw,
     },
@@ -66,14 +69,12 @@ const COMMANDS: [Command; 5] = [
     },
 ];
 
-const COMMON: &str = "FILE is a case file, - standard input. NAMES is a text file with lines `NUMBER NAME`.\n\
-                      Exit status: 0 done, 1 refused, 2 bad usage or a file that cannot be read.\n";
+const COMMON: &str = "FILE is a case file, - standard input. NAMES is a text file of at most 64 KiB with lines `NUMBER NAME`.\n\
+                      Exit status: 0 done, 1 refused, 2 bad usage, or what cannot be read or written.\n";
 
 fn main() -> ExitCode {
     let words: Vec<_> = std::env::args_os().skip(1).collect();
-    let status = run(&words);
-    say::flush();
-    ExitCode::from(status)
+    ExitCode::from(say::ended(run(&words)))
 }
 
 fn run(words: &[std::ffi::OsString]) -> u8 {
@@ -114,6 +115,7 @@ fn bytes_of(file: &std::ffi::OsStr) -> std::io::Result<Vec<u8>> {
     let mut bytes = Vec::new();
     let most = LONGEST_FILE as u64 + 1;
     if file == "-" {
+        start::open(0)?;
         std::io::stdin().take(most).read_to_end(&mut bytes)?;
     } else {
         std::fs::File::open(file)?.take(most).read_to_end(&mut bytes)?;
@@ -134,14 +136,15 @@ fn loaded(bytes: &[u8]) -> Result<Store, Fault> {
 
 /// The store of a file; what is refused or cannot be read is said, with the name of the file where `under` asks for it.
 pub fn store_of(file: &std::ffi::OsStr, under: bool) -> Result<Store, u8> {
-    let name = file.to_string_lossy();
     let bytes = bytes_of(file).map_err(|error| {
-        say::error(&format!("{name}: {error}\n"));
+        say::of_file(file, &error.to_string());
         BAD
     })?;
     loaded(&bytes).map_err(|fault| {
-        let before = if under { format!("{name}: ") } else { String::new() };
-        say::error(&format!("{before}{fault}\n"));
+        match under {
+            true => say::of_file(file, &fault.to_string()),
+            false => say::error(&format!("{fault}\n")),
+        }
         REFUSED
     })
 }
@@ -158,11 +161,8 @@ fn list(given: &Given) -> u8 {
     for file in &given.words {
         match store_of(file, under) {
             Ok(store) => {
-                if under {
-                    say::text(&format!("{}:\n", file.to_string_lossy()));
-                }
                 let listing = store.listing().expect("a loaded store has the right shape");
-                say::text(&names.in_listing(&listing));
+                say::titled(under.then_some(file), &names.in_listing(&listing));
             }
             Err(other) => status = status.max(other),
         }
@@ -181,12 +181,12 @@ fn check(given: &Given) -> u8 {
             Ok(Ok(_)) => {}
             Ok(Err(fault)) => {
                 if under {
-                    say::error(&format!("{}: {fault}\n", file.to_string_lossy()));
+                    say::of_file(file, &fault.to_string());
                 }
                 status = status.max(REFUSED);
             }
             Err(error) => {
-                say::error(&format!("{}: {error}\n", file.to_string_lossy()));
+                say::of_file(file, &error.to_string());
                 status = status.max(BAD);
             }
         }

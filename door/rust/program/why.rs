@@ -17,6 +17,9 @@ pub fn why(given: &Given) -> u8 {
     if numbers[1..].contains(&0) {
         return usage("why", "0 is no assumption");
     }
+    if given.none && !rest.is_empty() {
+        return usage("why", "assumptions, or --none");
+    }
     let Ok(names) = Names::of(given.names.as_deref()) else {
         return BAD;
     };
@@ -24,7 +27,7 @@ pub fn why(given: &Given) -> u8 {
         Ok(store) => store,
         Err(status) => return status,
     };
-    let told = if rest.is_empty() {
+    let told = if rest.is_empty() && !given.none {
         each_group(&store, numbers[0], &names)
     } else {
         asked(&store, numbers[0], &numbers[1..], &names)
@@ -52,17 +55,22 @@ fn asked(store: &Store, n: u32, assumptions: &[u32], names: &Names) -> Result<St
     Ok(format!("{} {word}\n{}", names.name(n), how(store, from, goal, names)))
 }
 
-/// The line of n, and how it follows from each group in it; where there is none, what follows from all assumptions together.
+/// The line of n, and how it follows from each group in it; where there is none, in words whether all assumptions together contradict
+/// themselves, and what follows from them.
 fn each_group(store: &Store, n: u32, names: &Names) -> Result<String, Refusal> {
     let mut text = names.in_text(&store.line(n)?);
     let groups = store.label(n)?;
     for &group in &groups {
         text += &format!("{}\n{}", names.set(group), how(store, group, n, names));
     }
-    if groups.is_empty() && n != 0 {
+    if groups.is_empty() {
         let every: Vec<u32> = (1..=Case::of(store).assumptions).collect();
         let all = Set::of(&every)?;
-        text += &format!("{}\n{}", names.set(all), how(store, all, n, names));
+        let do_they = match store.question(n, all)? {
+            Answer::Inconsistent(_) => "contradict themselves",
+            _ => "do not contradict themselves",
+        };
+        text += &format!("no group; all assumptions together {do_they}\n{}", how(store, all, n, names));
     }
     Ok(text)
 }
@@ -82,11 +90,11 @@ fn how(store: &Store, from: Set, goal: u32, names: &Names) -> String {
     text
 }
 
-/// A stage's line, with names for its numbers; the stage stays as it is.
+/// A stage's line, with names for its numbers and then commas between them, since a name may have blanks; the stage stays as it is.
 fn staged(line: &str, names: &Names) -> String {
     match line.split_once(' ') {
-        Some((stage, rest)) => format!("{stage} {}\n", names.in_text(rest)),
-        None => format!("{line}\n"),
+        Some((stage, rest)) if names.any() => format!("{stage} {}\n", names.in_text(&rest.replace(' ', ", "))),
+        _ => format!("{line}\n"),
     }
 }
 
