@@ -8,6 +8,7 @@ use replies::Reply;
 use script::Read;
 use store::Outcome;
 use store::Store;
+use theory::MARKS;
 ghost use Prim.Native.Nat.{_≤_};
 
 // Room for the fields of one line: of 65,536 bytes every second is a space at least.
@@ -167,9 +168,9 @@ fn ask(n: u32, set: &[u32], number: u32, store: Store) {
 }
 
 // The first n bytes as numbers, a space between two.
-pub fn values(bytes: [u8; 129], n: usize) {
+pub fn values(bytes: [u8; MARKS], n: usize) {
     for i in 0..n {
-        if i < 129 {
+        if i < MARKS {
             if 0 < i {
                 say(b" ");
             }
@@ -189,7 +190,7 @@ fn context(set: &[u32], number: u32, store: Store) {
         refused(Reply::Number);
         return;
     }
-    let mut bytes = [0u8; 129];
+    let mut bytes = [0u8; MARKS];
     let out = asking::context(store, script::set_of(set), &mut bytes);
     let reply = out.reply;
     if replies::number(reply) != 0 {

@@ -3,11 +3,13 @@ use handed::Handed;
 use printing::decimal;
 use printing::say;
 use store::Store;
+use theory::HELD;
+use theory::SUPPORTS;
 
 // The items noted, the first `count` of them.
 pub struct Hand {
     pub count: usize,
-    pub items: [Handed; 256],
+    pub items: [Handed; HELD],
 }
 
 // A list of no items.
@@ -15,15 +17,15 @@ pub fn empty() -> Hand {
     let none = Handed {
         consequent: 0,
         count: 0,
-        supports: [0u32; 4],
+        supports: [0u32; SUPPORTS],
     };
     Hand {
         count: 0,
-        items: [none; 256],
+        items: [none; HELD],
     }
 }
 
-// rule C S..: one item more; a list of 256 has no room.
+// rule C S..: one item more; a full list has no room.
 pub fn rule(rest: &[u8], number: u32, mut hand: Hand) -> Hand {
     let mut values = [0u32; super::calls::MOST];
     let n = super::calls::justification(rest, number, &mut values);
@@ -31,7 +33,7 @@ pub fn rule(rest: &[u8], number: u32, mut hand: Hand) -> Hand {
         return hand;
     }
     let at = hand.count;
-    if 256 <= at {
+    if HELD <= at {
         super::calls::bad(number);
         return hand;
     }
@@ -63,9 +65,9 @@ pub fn forget(rest: &[u8], number: u32, hand: Hand) -> Hand {
 }
 
 // The first n bytes as numbers, a space before each.
-fn numbers(bytes: [u8; 256], n: usize) {
+fn numbers(bytes: [u8; HELD], n: usize) {
     for i in 0..n {
-        if i < 256 {
+        if i < HELD {
             say(b" ");
             decimal(bytes[i] as u32);
         }
@@ -78,11 +80,11 @@ pub fn season(rest: &[u8], number: u32, store: Store, hand: Hand) -> Store {
         return store;
     }
     let n = hand.count;
-    if 256 < n {
+    if HELD < n {
         return store;
     }
     let items = hand.items;
-    let mut bytes = [0u8; 256];
+    let mut bytes = [0u8; HELD];
     let out = season::add_some(store, items, n, &mut bytes[..n]);
     let reply = out.reply;
     if replies::number(reply) != 0 {

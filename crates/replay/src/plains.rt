@@ -8,6 +8,10 @@ use printing::say;
 use replies::Reply;
 use script::Read;
 use store::Store;
+use theory::ASSUMPTIONS;
+use theory::CLAIMS;
+use theory::HELD;
+use theory::MARKS;
 ghost use Prim.Native.Nat.{_≤_};
 ghost use lib.ListN.{length};
 ghost use Rattle.stagetext.specs.Stagetext.{longest};
@@ -45,7 +49,7 @@ fn word(answer: Plain) {
 }
 
 // The bytes of a context of so many numbers, or the refusal.
-fn bytes(reply: Reply, values: [u8; 129], n: usize) {
+fn bytes(reply: Reply, values: [u8; MARKS], n: usize) {
     if replies::number(reply) != 0 {
         super::calls::refused(reply);
         return;
@@ -62,7 +66,7 @@ fn ask(n: u32, set: &[u32], store: Store) {
 
 // plaincontext K..
 fn context(set: &[u32], store: Store) {
-    let mut values = [0u8; 129];
+    let mut values = [0u8; MARKS];
     let out = plain::context(store, script::set_of(set), &mut values);
     let reply = out.reply;
     let held = store.held;
@@ -137,7 +141,7 @@ pub fn read(name: &[u8], rest: &[u8], number: u32, store: Store) {
 // bareask A M N K..
 fn bare_ask(query: Query, hand: Hand) {
     let n = hand.count;
-    if 256 < n {
+    if HELD < n {
         return;
     }
     let items = hand.items;
@@ -151,19 +155,19 @@ fn bare_ask(query: Query, hand: Hand) {
 // barecontext A M K..
 fn bare_context(query: Query, hand: Hand) {
     let n = hand.count;
-    if 256 < n {
+    if HELD < n {
         return;
     }
     let items = hand.items;
-    let mut values = [0u8; 129];
+    let mut values = [0u8; MARKS];
     let told = bare::ask_some(query, items, n, &mut values);
     if let Told::Filled(reply) = told {
         let a = query.assumptions;
         let m = query.claims;
-        if 32 < a {
+        if ASSUMPTIONS < a {
             return super::calls::refused(reply);
         }
-        if 96 < m {
+        if CLAIMS < m {
             return super::calls::refused(reply);
         }
         bytes(reply, values, a as usize + m as usize + 1);
@@ -175,7 +179,7 @@ fn bare_lines(query: Query, hand: Hand, text: &mut [u8])
     requires { ⌜ longest ≤ length (now text) ⌝ }
 {
     let n = hand.count;
-    if 256 < n {
+    if HELD < n {
         return;
     }
     let items = hand.items;
