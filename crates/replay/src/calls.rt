@@ -8,6 +8,7 @@ use replies::Reply;
 use script::Read;
 use store::Outcome;
 use store::Store;
+use theory::MARKS;
 ghost use Prim.Native.Nat.{_≤_};
 
 // What a line that is no call prints.
@@ -193,12 +194,12 @@ fn values(bytes: &[u8]) {
     say(b"\n");
 }
 
-// The bytes of a context of n numbers, or the refusal; no store has more than 129.
-pub fn filled(reply: Reply, bytes: [u8; 129], n: usize) {
+// The bytes of a context of n numbers, or the refusal; no store has more than there are marks.
+pub fn filled(reply: Reply, bytes: [u8; MARKS], n: usize) {
     if replies::number(reply) != 0 {
         return refused(reply);
     }
-    if 129 < n {
+    if MARKS < n {
         return refused(Reply::Shape);
     }
     values(&bytes[..n]);
@@ -209,7 +210,7 @@ fn context(set: &[u32], number: u32, store: Store) {
     if !sound(set, number) {
         return;
     }
-    let mut bytes = [0u8; 129];
+    let mut bytes = [0u8; MARKS];
     let out = asking::context(store, script::set_of(set), &mut bytes);
     let reply = out.reply;
     let held = store.held;

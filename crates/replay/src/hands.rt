@@ -2,12 +2,14 @@
 use handed::Handed;
 use printing::say;
 use store::Store;
+use theory::HELD;
+ghost use Rattle.theory.specs.Limits.{limits};
 ghost use Prim.Native.Nat.{_≤_};
 
 // The items noted, the first `count` of them.
 pub struct Hand {
     pub count: usize,
-    pub items: [Handed; 256],
+    pub items: [Handed; HELD],
 }
 
 // A list of no items.
@@ -19,7 +21,7 @@ pub fn empty() -> Hand {
     };
     Hand {
         count: 0,
-        items: [none; 256],
+        items: [none; HELD],
     }
 }
 
@@ -51,14 +53,14 @@ fn support(fields: &[u32], at: usize) -> u32 {
     0
 }
 
-// rule C S..: one item more; a list of 256 has no room.
+// rule C S..: one item more; a full list has no room.
 fn rule(fields: &[u32], number: u32, mut hand: Hand) -> Hand {
     let at = hand.count;
     if fields.len() < 1 {
         super::calls::bad(number);
         return hand;
     }
-    if 256 <= at {
+    if HELD <= at {
         super::calls::bad(number);
         return hand;
     }
@@ -86,7 +88,7 @@ fn numbers(bytes: &[u8]) {
 
 // The list added, and the reply number of each item, on a byte for each.
 fn added(store: Store, hand: Hand, bytes: &mut [u8]) -> Store
-    requires { ⌜ hand .count ≤ 256 ⌝ }
+    requires { ⌜ hand .count ≤ limits .held ⌝ }
 {
     let n = hand.count;
     let items = hand.items;
@@ -109,10 +111,10 @@ pub fn season(fields: &[u32], number: u32, store: Store, hand: Hand) -> Store {
         super::calls::bad(number);
         return store;
     }
-    if 256 < n {
+    if HELD < n {
         super::calls::bad(number);
         return store;
     }
-    let mut bytes = [0u8; 256];
+    let mut bytes = [0u8; HELD];
     added(store, hand, &mut bytes[..n])
 }

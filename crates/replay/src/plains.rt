@@ -6,6 +6,9 @@ use bare::What;
 use plain::Plain;
 use printing::say;
 use store::Store;
+use theory::HELD;
+use theory::MARKS;
+ghost use Rattle.theory.specs.Limits.{limits};
 ghost use Prim.Native.Nat.{_≤_};
 ghost use lib.ListN.{length};
 ghost use Rattle.stagetext.specs.Stagetext.{longest};
@@ -51,7 +54,7 @@ fn ask(n: u32, set: &[u32], store: Store) {
 
 // plaincontext K..
 fn context(set: &[u32], store: Store) {
-    let mut values = [0u8; 129];
+    let mut values = [0u8; MARKS];
     let out = plain::context(store, script::set_of(set), &mut values);
     let reply = out.reply;
     let held = store.held;
@@ -103,7 +106,7 @@ pub fn read(name: &[u8], fields: &[u32], number: u32, store: Store) {
 
 // bareask A M N K..
 fn bare_ask(query: Query, hand: Hand)
-    requires { ⌜ hand .count ≤ 256 ⌝ }
+    requires { ⌜ hand .count ≤ limits .held ⌝ }
 {
     let n = hand.count;
     let items = hand.items;
@@ -116,11 +119,11 @@ fn bare_ask(query: Query, hand: Hand)
 
 // barecontext A M K..
 fn bare_context(query: Query, hand: Hand)
-    requires { ⌜ hand .count ≤ 256 ⌝ }
+    requires { ⌜ hand .count ≤ limits .held ⌝ }
 {
     let n = hand.count;
     let items = hand.items;
-    let mut values = [0u8; 129];
+    let mut values = [0u8; MARKS];
     let told = bare::ask_some(query, items, n, &mut values);
     if let Told::Filled(reply) = told {
         super::calls::filled(
@@ -133,7 +136,7 @@ fn bare_context(query: Query, hand: Hand)
 
 // The lines of a bare list, on bytes that are enough for any.
 fn bare_lines(query: Query, hand: Hand, text: &mut [u8])
-    requires { ⌜ (longest ≤ length (now text)) × (hand .count ≤ 256) ⌝ }
+    requires { ⌜ (longest ≤ length (now text)) × (hand .count ≤ limits .held) ⌝ }
 {
     let n = hand.count;
     let items = hand.items;
@@ -145,7 +148,7 @@ fn bare_lines(query: Query, hand: Hand, text: &mut [u8])
 
 // barestages A M K..
 fn bare_stages(query: Query, hand: Hand)
-    requires { ⌜ hand .count ≤ 256 ⌝ }
+    requires { ⌜ hand .count ≤ limits .held ⌝ }
 {
     let mut text = [0u8; stagetext::LONGEST];
     bare_lines(query, hand, &mut text);
@@ -166,7 +169,7 @@ fn bounded(set: &[u32], number: u32) -> bool {
 
 // barecontext A M K.., barestages A M K..
 fn bare_set(name: &[u8], fields: &[u32], number: u32, hand: Hand)
-    requires { ⌜ hand .count ≤ 256 ⌝ }
+    requires { ⌜ hand .count ≤ limits .held ⌝ }
 {
     if fields.len() < 2 {
         return super::calls::bad(number);
@@ -203,7 +206,7 @@ fn bare_set(name: &[u8], fields: &[u32], number: u32, hand: Hand)
 
 // bareask A M N K..
 fn bare_number(fields: &[u32], number: u32, hand: Hand)
-    requires { ⌜ hand .count ≤ 256 ⌝ }
+    requires { ⌜ hand .count ≤ limits .held ⌝ }
 {
     if fields.len() < 3 {
         return super::calls::bad(number);
@@ -228,7 +231,7 @@ fn bare_number(fields: &[u32], number: u32, hand: Hand)
 
 // The calls on the list in hand.
 pub fn bare(name: &[u8], fields: &[u32], number: u32, hand: Hand) {
-    if 256 < hand.count {
+    if HELD < hand.count {
         return super::calls::bad(number);
     }
     if script::same(name, b"bareask") {

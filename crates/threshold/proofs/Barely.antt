@@ -5,7 +5,7 @@ use mathlib.Core.Path.{_≡_, _∙_, ap, refl, subst, sym}
 use Prim.Native.Nat.{_+_, ℕ, suc, zero}
 use lib.Dec.{eqb, ltb}
 use lib.ListN.{drop, length}
-use Rattle.bare.specs.Bare.{Answered, answered, askOf, barely, faultOfItem, faultsOf, overCounts, refusedAs, tellOf}
+use Rattle.bare.specs.Bare.{Answered, answered, askOf, barely, faultOfItem, faultsOf, refusedAs, tellOf}
 use Rattle.bare.specs.declared.Query.{Query}
 use Rattle.bare.specs.declared.Told.{Told as Barely}
 use Rattle.bare.specs.declared.Told.the-variants.{Filled, Lines, Word}
@@ -24,6 +24,7 @@ use Rattle.replies.specs.declared.Reply.the-variants.{Counts, Done, Falsity, It
 use Rattle.rules.specs.Items.{faultOf}
 use Rattle.stagetext.specs.Stagetext.{stageText}
 use Rattle.store.specs.Calls.{isDone}
+use Rattle.theory.specs.Limits.{overCounts}
 use Rattle.theory.specs.Lists.{choose, someOf}
 use Rattle.theory.specs.Places.{table}
 use Rattle.theory.specs.Sets.{inRange}
@@ -95,7 +96,7 @@ ask-back q l out =
     let told = tellOf N (barely N l) (q .set) (whatBy w (q .number)) out in
     let ranged = choose (not (inRange (q .assumptions) (q .set))) (refusal Number) told in
     let faultless = choose (not (isDone (faultsOf N l))) (refusal (faultsOf N l)) ranged in
-    chosen (Back w) (overCounts (queryBy q)) (refusal Counts) faultless (refusal-back w (q .number) Counts out refl refl)
+    chosen (Back w) (overCounts (queryBy q .assumptions) (queryBy q .claims)) (refusal Counts) faultless (refusal-back w (q .number) Counts out refl refl)
     (unless w (q .number) (faultsOf N l) out ranged (faults-back N l)
     (chosen (Back w) (not (inRange (q .assumptions) (q .set))) (refusal Number) told (refusal-back w (q .number) Number out refl refl)
     (tell-back w (q .number) N (q .set) (barely N l) out)))
