@@ -11,6 +11,9 @@ use store::Store;
 use theory::MARKS;
 ghost use Prim.Native.Nat.{_≤_};
 
+// Room for the fields of one line: of 65,536 bytes every second is a space at least.
+pub const MOST: usize = 32769;
+
 // What a line that is no call prints.
 pub fn bad(number: u32) {
     say(b"bad line ");
@@ -18,8 +21,10 @@ pub fn bad(number: u32) {
     say(b"\n");
 }
 
-// The number that a refusal names, and the line's end.
-fn naming(reply: Reply) {
+// A refusal, and the number that it names.
+pub fn refused(reply: Reply) {
+    say(b"refused ");
+    decimal(replies::number(reply) as u32);
     if let Reply::Label(n) = reply {
         say(b" ");
         decimal(n as u32);
@@ -27,20 +32,19 @@ fn naming(reply: Reply) {
     say(b"\n");
 }
 
-// A refusal, and the number that it names.
-pub fn refused(reply: Reply) {
-    say(b"refused ");
-    decimal(replies::number(reply) as u32);
-    naming(reply);
-}
-
 // open A M
-fn open(fields: &[u32], number: u32, store: Store) -> Store {
-    if fields.len() != 2 {
+pub fn open(rest: &[u8], number: u32, store: Store) -> Store {
+    let mut values = [0u32; MOST];
+    let read = script::numbers(rest, 0, &mut values);
+    let Read::Count(n) = read else {
+        bad(number);
+        return store;
+    };
+    if n != 2 {
         bad(number);
         return store;
     }
-    let out = Store::open(fields[0], fields[1]);
+    let out = Store::open(values[0], values[1]);
     let reply = out.reply;
     if replies::number(reply) != 0 {
         refused(reply);
@@ -50,30 +54,9 @@ fn open(fields: &[u32], number: u32, store: Store) -> Store {
     out.store
 }
 
-// A refused file: the reply, the record, and the number that it names.
-fn unloaded(reply: Reply, record: u32) {
-    say(b"refused ");
-    decimal(replies::number(reply) as u32);
-    say(b" ");
-    decimal(record);
-    naming(reply);
-}
-
-// The store of a file's bytes, or the store as it was.
-fn loaded(bytes: &[u8], store: Store) -> Store {
-    let out = casefile::load(bytes);
-    let reply = out.reply;
-    if replies::number(reply) != 0 {
-        unloaded(reply, out.record);
-        return store;
-    }
-    say(b"done\n");
-    out.store
-}
-
 // load XX ..
 pub fn load(rest: &[u8], number: u32, store: Store) -> Store {
-    let mut bytes = [0u8; super::MOST];
+    let mut bytes = [0u8; MOST];
     let read = script::bytes(rest, 0, &mut bytes);
     let Read::Count(n) = read else {
         bad(number);
@@ -83,7 +66,41 @@ pub fn load(rest: &[u8], number: u32, store: Store) -> Store {
         printing::refused(Reply::Long, 0);
         return store;
     }
-    loaded(&bytes[..n], store)
+    let out = casefile::load(&bytes[..n]);
+    let reply = out.reply;
+    if replies::number(reply) != 0 {
+        say(b"refused ");
+        decimal(replies::number(reply) as u32);
+        say(b" ");
+        decimal(out.record);
+        if let Reply::Label(named) = reply {
+            say(b" ");
+            decimal(named as u32);
+        }
+        say(b"\n");
+        return store;
+    }
+    say(b"done\n");
+    out.store
+}
+
+// The fields of a justification, the consequent first: how many there are, or 0 where the line is bad.
+pub fn justification(rest: &[u8], number: u32, values: &mut [u32]) -> usize
+    ensures { λ r. ⌜ r ≤ 32769 ⌝ }
+{
+    let read = script::numbers(rest, 0, values);
+    let Read::Count(n) = read else {
+        bad(number);
+        return 0;
+    };
+    if n < 1 {
+        bad(number);
+        return 0;
+    }
+    if MOST < n {
+        return 0;
+    }
+    n
 }
 
 // What a call that changes the store says, and the store after it.
@@ -103,49 +120,23 @@ fn after(out: Outcome) -> Store {
 }
 
 // add C S..
-fn add(fields: &[u32], number: u32, store: Store) -> Store {
-    if fields.len() < 1 {
-        bad(number);
+pub fn add(rest: &[u8], number: u32, store: Store) -> Store {
+    let mut values = [0u32; MOST];
+    let n = justification(rest, number, &mut values);
+    if n < 1 {
         return store;
     }
-    after(store.add(fields[0], &fields[1..]))
+    after(store.add(values[0], &values[1..n]))
 }
 
 // withdraw C S..
-fn withdraw(fields: &[u32], number: u32, store: Store) -> Store {
-    if fields.len() < 1 {
-        bad(number);
+pub fn withdraw(rest: &[u8], number: u32, store: Store) -> Store {
+    let mut values = [0u32; MOST];
+    let n = justification(rest, number, &mut values);
+    if n < 1 {
         return store;
     }
-    after(store.withdraw(fields[0], &fields[1..]))
-}
-
-// The calls on the store: the store after one that changes it, or as it was.
-pub fn made(word: &[u8], fields: &[u32], number: u32, store: Store) -> Store {
-    if script::same(word, b"open") {
-        return open(fields, number, store);
-    }
-    if script::same(word, b"add") {
-        return add(fields, number, store);
-    }
-    if script::same(word, b"withdraw") {
-        return withdraw(fields, number, store);
-    }
-    read(word, fields, number, store);
-    store
-}
-
-// Whether a set may be asked of the store: a 0 is a bad line, a number above 32 is refused.
-pub fn sound(set: &[u32], number: u32) -> bool {
-    if script::has_zero(set) {
-        bad(number);
-        return false;
-    }
-    if script::has_above(set) {
-        refused(Reply::Number);
-        return false;
-    }
-    true
+    after(store.withdraw(values[0], &values[1..n]))
 }
 
 // The word of an answer and the set that is its reason.
@@ -156,9 +147,17 @@ fn because(word: &[u8], set: u32) {
     say(b"\n");
 }
 
-// What the set is to n.
-fn asked(n: u32, set: u32, store: Store) {
-    let out = asking::question(store, n, set);
+// ask N K..
+fn ask(n: u32, set: &[u32], number: u32, store: Store) {
+    if script::has_zero(set) {
+        bad(number);
+        return;
+    }
+    if script::has_above(set) {
+        refused(Reply::Number);
+        return;
+    }
+    let out = asking::question(store, n, script::set_of(set));
     let answer = out.answer;
     match answer {
         Answer::Inconsistent(set) => because(b"inconsistent", set),
@@ -168,57 +167,38 @@ fn asked(n: u32, set: u32, store: Store) {
     }
 }
 
-// ask N K..
-fn ask(fields: &[u32], number: u32, store: Store) {
-    if fields.len() < 1 {
-        return bad(number);
-    }
-    if sound(&fields[1..], number) {
-        asked(fields[0], script::set_of(&fields[1..]), store);
-    }
-}
-
-// A byte as a number.
-pub fn shown(b: u8) {
-    decimal(b as u32);
-}
-
-// Bytes as numbers, a space between two.
-fn values(bytes: &[u8]) {
-    for i in 0..bytes.len() {
-        if 0 < i {
-            say(b" ");
+// The first n bytes as numbers, a space between two.
+pub fn values(bytes: [u8; MARKS], n: usize) {
+    for i in 0..n {
+        if i < MARKS {
+            if 0 < i {
+                say(b" ");
+            }
+            decimal(bytes[i] as u32);
         }
-        shown(bytes[i]);
     }
     say(b"\n");
 }
 
-// The bytes of a context of n numbers, or the refusal; no store has more than there are marks.
-pub fn filled(reply: Reply, bytes: [u8; MARKS], n: usize) {
-    if replies::number(reply) != 0 {
-        return refused(reply);
-    }
-    if MARKS < n {
-        return refused(Reply::Shape);
-    }
-    values(&bytes[..n]);
-}
-
 // context K..
 fn context(set: &[u32], number: u32, store: Store) {
-    if !sound(set, number) {
+    if script::has_zero(set) {
+        bad(number);
+        return;
+    }
+    if script::has_above(set) {
+        refused(Reply::Number);
         return;
     }
     let mut bytes = [0u8; MARKS];
     let out = asking::context(store, script::set_of(set), &mut bytes);
     let reply = out.reply;
+    if replies::number(reply) != 0 {
+        refused(reply);
+        return;
+    }
     let held = store.held;
-    filled(
-        reply,
-        bytes,
-        held.assumptions as usize + held.claims as usize + 1,
-    );
+    values(bytes, held.assumptions as usize + held.claims as usize + 1);
 }
 
 // member N P
@@ -234,14 +214,13 @@ fn member(n: u32, place: u32, store: Store) {
     }
 }
 
-// The text that a call wrote, or its refusal; none is longer than what was lent.
+// The text that a call wrote, or its refusal.
 pub fn told(answer: Written, text: &[u8]) {
     match answer {
         Written::Length(length) => {
-            if text.len() < length {
-                return refused(Reply::Short);
+            if length <= text.len() {
+                say(&text[..length]);
             }
-            say(&text[..length]);
         }
         Written::Refused(reply) => refused(reply),
     }
@@ -296,66 +275,62 @@ fn write(store: Store) {
     let answer = out.answer;
     match answer {
         Written::Length(length) => {
-            if bytes.len() < length {
-                return refused(Reply::Short);
+            if length <= bytes.len() {
+                hex(&bytes[..length]);
             }
-            hex(&bytes[..length]);
         }
         Written::Refused(reply) => refused(reply),
     }
 }
 
-// list, write; anything else is no call.
-fn whole(word: &[u8], number: u32, store: Store) {
-    if script::same(word, b"list") {
-        return list(store);
-    }
-    if script::same(word, b"write") {
-        return write(store);
-    }
-    bad(number);
-}
-
-// line N
-fn line_of(fields: &[u32], number: u32, store: Store) {
-    if fields.len() != 1 {
-        return bad(number);
-    }
-    line(fields[0], store);
-}
-
-// member N P
-fn member_of(fields: &[u32], number: u32, store: Store) {
-    if fields.len() != 2 {
-        return bad(number);
-    }
-    member(fields[0], fields[1], store);
-}
-
 // The calls that read.
-fn read(word: &[u8], fields: &[u32], number: u32, store: Store) {
-    if super::plains::of_store(word) {
-        return super::plains::read(word, fields, number, store);
+pub fn read(word: &[u8], rest: &[u8], number: u32, store: Store) {
+    let mut fields = [0u32; MOST];
+    let read = script::numbers(rest, 0, &mut fields);
+    let Read::Count(n) = read else {
+        bad(number);
+        return;
+    };
+    if MOST < n {
+        return;
     }
     if script::same(word, b"context") {
-        return context(fields, number, store);
+        return context(&fields[..n], number, store);
     }
-    if script::same(word, b"ask") {
-        return ask(fields, number, store);
-    }
-    named(word, fields, number, store);
-}
-
-// line, member; those without fields.
-fn named(word: &[u8], fields: &[u32], number: u32, store: Store) {
-    if script::same(word, b"line") {
-        return line_of(fields, number, store);
-    }
-    if script::same(word, b"member") {
-        return member_of(fields, number, store);
-    }
-    if 0 < fields.len() {
+    if script::same(word, b"list") {
+        if n == 0 {
+            return list(store);
+        }
         return bad(number);
     }
-    whole(word, number, store);
+    if script::same(word, b"write") {
+        if n == 0 {
+            return write(store);
+        }
+        return bad(number);
+    }
+    if n < 1 {
+        return bad(number);
+    }
+    if script::same(word, b"ask") {
+        return ask(fields[0], &fields[1..n], number, store);
+    }
+    named(word, n, fields[0], fields[1], number, store);
+}
+
+// line N, member N P; anything else is no call.
+fn named(word: &[u8], n: usize, first: u32, second: u32, number: u32, store: Store) {
+    if script::same(word, b"line") {
+        if n == 1 {
+            return line(first, store);
+        }
+        return bad(number);
+    }
+    if script::same(word, b"member") {
+        if n == 2 {
+            return member(first, second, store);
+        }
+        return bad(number);
+    }
+    bad(number);
 }

@@ -1,10 +1,10 @@
 // The list in hand: items noted one by one, forgotten, or added at once.
 use handed::Handed;
+use printing::decimal;
 use printing::say;
 use store::Store;
 use theory::HELD;
-ghost use Rattle.theory.specs.Limits.{limits};
-ghost use Prim.Native.Nat.{_≤_};
+use theory::SUPPORTS;
 
 // The items noted, the first `count` of them.
 pub struct Hand {
@@ -17,7 +17,7 @@ pub fn empty() -> Hand {
     let none = Handed {
         consequent: 0,
         count: 0,
-        supports: [0u32; 4],
+        supports: [0u32; SUPPORTS],
     };
     Hand {
         count: 0,
@@ -25,96 +25,74 @@ pub fn empty() -> Hand {
     }
 }
 
-// Whether the word changes the list in hand.
-pub fn known(word: &[u8]) -> bool {
-    if script::same(word, b"rule") {
-        return true;
-    }
-    script::same(word, b"forget")
-}
-
-// rule C S.., forget: the list after it.
-pub fn noted(word: &[u8], fields: &[u32], number: u32, hand: Hand) -> Hand {
-    if script::same(word, b"rule") {
-        return rule(fields, number, hand);
-    }
-    if 0 < fields.len() {
-        super::calls::bad(number);
-        return hand;
-    }
-    empty()
-}
-
-// The support at a place of a rule's fields, 0 where there is none.
-fn support(fields: &[u32], at: usize) -> u32 {
-    if at < fields.len() {
-        return fields[at];
-    }
-    0
-}
-
 // rule C S..: one item more; a full list has no room.
-fn rule(fields: &[u32], number: u32, mut hand: Hand) -> Hand {
-    let at = hand.count;
-    if fields.len() < 1 {
-        super::calls::bad(number);
+pub fn rule(rest: &[u8], number: u32, mut hand: Hand) -> Hand {
+    let mut values = [0u32; super::calls::MOST];
+    let n = super::calls::justification(rest, number, &mut values);
+    if n < 1 {
         return hand;
     }
+    let at = hand.count;
     if HELD <= at {
         super::calls::bad(number);
         return hand;
     }
     hand.items[at] = Handed {
-        consequent: fields[0],
-        count: fields.len() - 1,
-        supports: [
-            support(fields, 1),
-            support(fields, 2),
-            support(fields, 3),
-            support(fields, 4),
-        ],
+        consequent: values[0],
+        count: n - 1,
+        supports: [values[1], values[2], values[3], values[4]],
     };
     hand.count = at + 1;
     hand
 }
 
-// Bytes as numbers, a space before each.
-fn numbers(bytes: &[u8]) {
-    for i in 0..bytes.len() {
-        say(b" ");
-        super::calls::shown(bytes[i]);
+// Whether a line has no fields more; else it is bad.
+fn alone(rest: &[u8], number: u32) -> bool {
+    let span = script::field(rest, 0);
+    if span.from < span.to {
+        super::calls::bad(number);
+        return false;
+    }
+    true
+}
+
+// forget
+pub fn forget(rest: &[u8], number: u32, hand: Hand) -> Hand {
+    if !alone(rest, number) {
+        return hand;
+    }
+    empty()
+}
+
+// The first n bytes as numbers, a space before each.
+fn numbers(bytes: [u8; HELD], n: usize) {
+    for i in 0..n {
+        if i < HELD {
+            say(b" ");
+            decimal(bytes[i] as u32);
+        }
     }
 }
 
-// The list added, and the reply number of each item, on a byte for each.
-fn added(store: Store, hand: Hand, bytes: &mut [u8]) -> Store
-    requires { ⌜ hand .count ≤ limits .held ⌝ }
-{
+// season
+pub fn season(rest: &[u8], number: u32, store: Store, hand: Hand) -> Store {
+    if !alone(rest, number) {
+        return store;
+    }
     let n = hand.count;
+    if HELD < n {
+        return store;
+    }
     let items = hand.items;
-    let out = season::add_some(store, items, n, bytes);
+    let mut bytes = [0u8; HELD];
+    let out = season::add_some(store, items, n, &mut bytes[..n]);
     let reply = out.reply;
     if replies::number(reply) != 0 {
         super::calls::refused(reply);
         return store;
     }
     say(b"done");
-    numbers(bytes);
+    numbers(bytes, n);
     say(b"\n");
     out.store
-}
-
-// season
-pub fn season(fields: &[u32], number: u32, store: Store, hand: Hand) -> Store {
-    let n = hand.count;
-    if 0 < fields.len() {
-        super::calls::bad(number);
-        return store;
-    }
-    if HELD < n {
-        super::calls::bad(number);
-        return store;
-    }
-    let mut bytes = [0u8; HELD];
-    added(store, hand, &mut bytes[..n])
 }

@@ -5,7 +5,6 @@ mod plains;
 
 use hands::Hand;
 use libc::STDIN_FILENO;
-use script::Read;
 use store::Store;
 ghost use Prim.Native.Nat.{_≤_};
 ghost use lib.ListN.{length};
@@ -16,9 +15,6 @@ struct Desk {
     hand: Hand,
 }
 
-// Room for the fields of one line: of 65,536 bytes every second is a space at least.
-pub const MOST: usize = 32769;
-
 // The line at its number: the store and the list after its call, or as they were.
 fn command(line: &[u8], number: u32, desk: Desk) -> Desk {
     let first = script::field(line, 0);
@@ -28,7 +24,6 @@ fn command(line: &[u8], number: u32, desk: Desk) -> Desk {
         return desk;
     }
     if line.len() < to {
-        calls::bad(number);
         return desk;
     }
     if line[from] == b'#' {
@@ -36,56 +31,56 @@ fn command(line: &[u8], number: u32, desk: Desk) -> Desk {
     }
     let word = &line[from..to];
     let rest = &line[to..];
-    if script::same(word, b"load") {
-        let store = desk.store;
-        let hand = desk.hand;
-        return Desk {
-            store: calls::load(rest, number, store),
-            hand,
-        };
-    }
-    called(word, rest, number, desk)
-}
-
-// A call whose fields are numbers.
-fn called(word: &[u8], rest: &[u8], number: u32, desk: Desk) -> Desk {
-    let mut values = [0u32; MOST];
-    let read = script::numbers(rest, 0, &mut values);
-    let Read::Count(n) = read else {
-        calls::bad(number);
-        return desk;
-    };
-    if MOST < n {
-        calls::bad(number);
-        return desk;
-    }
-    with(word, &values[..n], number, desk)
-}
-
-// A call with its fields: on the list in hand, or on the store alone.
-fn with(word: &[u8], fields: &[u32], number: u32, desk: Desk) -> Desk {
     let store = desk.store;
     let hand = desk.hand;
+    if script::same(word, b"rule") {
+        return Desk {
+            store,
+            hand: hands::rule(rest, number, hand),
+        };
+    }
+    if script::same(word, b"forget") {
+        return Desk {
+            store,
+            hand: hands::forget(rest, number, hand),
+        };
+    }
     if script::same(word, b"season") {
         return Desk {
-            store: hands::season(fields, number, store, hand),
+            store: hands::season(rest, number, store, hand),
             hand,
         };
     }
     if plains::of_hand(word) {
-        plains::bare(word, fields, number, hand);
+        plains::bare(word, rest, number, hand);
         return desk;
     }
-    if hands::known(word) {
-        return Desk {
-            store,
-            hand: hands::noted(word, fields, number, hand),
-        };
-    }
     Desk {
-        store: calls::made(word, fields, number, store),
+        store: called(word, rest, number, store),
         hand,
     }
+}
+
+// A call on the store alone: the store after it.
+fn called(word: &[u8], rest: &[u8], number: u32, store: Store) -> Store {
+    if script::same(word, b"open") {
+        return calls::open(rest, number, store);
+    }
+    if script::same(word, b"load") {
+        return calls::load(rest, number, store);
+    }
+    if script::same(word, b"add") {
+        return calls::add(rest, number, store);
+    }
+    if script::same(word, b"withdraw") {
+        return calls::withdraw(rest, number, store);
+    }
+    if plains::of_store(word) {
+        plains::read(word, rest, number, store);
+        return store;
+    }
+    calls::read(word, rest, number, store);
+    store
 }
 
 // The lines one after the other, from the store that holds nothing.

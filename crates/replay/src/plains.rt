@@ -5,10 +5,13 @@ use bare::Told;
 use bare::What;
 use plain::Plain;
 use printing::say;
+use replies::Reply;
+use script::Read;
 use store::Store;
+use theory::ASSUMPTIONS;
+use theory::CLAIMS;
 use theory::HELD;
 use theory::MARKS;
-ghost use Rattle.theory.specs.Limits.{limits};
 ghost use Prim.Native.Nat.{_≤_};
 ghost use lib.ListN.{length};
 ghost use Rattle.stagetext.specs.Stagetext.{longest};
@@ -45,6 +48,15 @@ fn word(answer: Plain) {
     }
 }
 
+// The bytes of a context of so many numbers, or the refusal.
+fn bytes(reply: Reply, values: [u8; MARKS], n: usize) {
+    if replies::number(reply) != 0 {
+        super::calls::refused(reply);
+        return;
+    }
+    super::calls::values(values, n);
+}
+
 // plain N K..
 fn ask(n: u32, set: &[u32], store: Store) {
     let out = plain::question(store, n, script::set_of(set));
@@ -58,7 +70,7 @@ fn context(set: &[u32], store: Store) {
     let out = plain::context(store, script::set_of(set), &mut values);
     let reply = out.reply;
     let held = store.held;
-    super::calls::filled(
+    bytes(
         reply,
         values,
         held.assumptions as usize + held.claims as usize + 1,
@@ -80,9 +92,22 @@ fn stages(set: &[u32], store: Store) {
     lines(set, store, &mut text);
 }
 
+// Whether the set may be asked of the store: a 0 is a bad line, a number above 32 is refused.
+fn sound(set: &[u32], number: u32) -> bool {
+    if script::has_zero(set) {
+        super::calls::bad(number);
+        return false;
+    }
+    if script::has_above(set) {
+        super::calls::refused(Reply::Number);
+        return false;
+    }
+    true
+}
+
 // plaincontext K.., stages K..
 fn of_set(name: &[u8], set: &[u32], number: u32, store: Store) {
-    if !super::calls::sound(set, number) {
+    if !sound(set, number) {
         return;
     }
     if script::same(name, b"stages") {
@@ -92,23 +117,33 @@ fn of_set(name: &[u8], set: &[u32], number: u32, store: Store) {
 }
 
 // The calls on the store.
-pub fn read(name: &[u8], fields: &[u32], number: u32, store: Store) {
-    if !script::same(name, b"plain") {
-        return of_set(name, fields, number, store);
+pub fn read(name: &[u8], rest: &[u8], number: u32, store: Store) {
+    let mut fields = [0u32; super::calls::MOST];
+    let read = script::numbers(rest, 0, &mut fields);
+    let Read::Count(n) = read else {
+        super::calls::bad(number);
+        return;
+    };
+    if super::calls::MOST < n {
+        return;
     }
-    if fields.len() < 1 {
+    if !script::same(name, b"plain") {
+        return of_set(name, &fields[..n], number, store);
+    }
+    if n < 1 {
         return super::calls::bad(number);
     }
-    if super::calls::sound(&fields[1..], number) {
-        ask(fields[0], &fields[1..], store);
+    if sound(&fields[1..n], number) {
+        ask(fields[0], &fields[1..n], store);
     }
 }
 
 // bareask A M N K..
-fn bare_ask(query: Query, hand: Hand)
-    requires { ⌜ hand .count ≤ limits .held ⌝ }
-{
+fn bare_ask(query: Query, hand: Hand) {
     let n = hand.count;
+    if HELD < n {
+        return;
+    }
     let items = hand.items;
     let mut none = [0u8; 1];
     let told = bare::ask_some(query, items, n, &mut none);
@@ -118,27 +153,35 @@ fn bare_ask(query: Query, hand: Hand)
 }
 
 // barecontext A M K..
-fn bare_context(query: Query, hand: Hand)
-    requires { ⌜ hand .count ≤ limits .held ⌝ }
-{
+fn bare_context(query: Query, hand: Hand) {
     let n = hand.count;
+    if HELD < n {
+        return;
+    }
     let items = hand.items;
     let mut values = [0u8; MARKS];
     let told = bare::ask_some(query, items, n, &mut values);
     if let Told::Filled(reply) = told {
-        super::calls::filled(
-            reply,
-            values,
-            query.assumptions as usize + query.claims as usize + 1,
-        );
+        let a = query.assumptions;
+        let m = query.claims;
+        if ASSUMPTIONS < a {
+            return super::calls::refused(reply);
+        }
+        if CLAIMS < m {
+            return super::calls::refused(reply);
+        }
+        bytes(reply, values, a as usize + m as usize + 1);
     }
 }
 
 // The lines of a bare list, on bytes that are enough for any.
 fn bare_lines(query: Query, hand: Hand, text: &mut [u8])
-    requires { ⌜ (longest ≤ length (now text)) × (hand .count ≤ limits .held) ⌝ }
+    requires { ⌜ longest ≤ length (now text) ⌝ }
 {
     let n = hand.count;
+    if HELD < n {
+        return;
+    }
     let items = hand.items;
     let told = bare::ask_some(query, items, n, text);
     if let Told::Lines(answer) = told {
@@ -147,9 +190,7 @@ fn bare_lines(query: Query, hand: Hand, text: &mut [u8])
 }
 
 // barestages A M K..
-fn bare_stages(query: Query, hand: Hand)
-    requires { ⌜ hand .count ≤ limits .held ⌝ }
-{
+fn bare_stages(query: Query, hand: Hand) {
     let mut text = [0u8; stagetext::LONGEST];
     bare_lines(query, hand, &mut text);
 }
@@ -168,74 +209,65 @@ fn bounded(set: &[u32], number: u32) -> bool {
 }
 
 // barecontext A M K.., barestages A M K..
-fn bare_set(name: &[u8], fields: &[u32], number: u32, hand: Hand)
-    requires { ⌜ hand .count ≤ limits .held ⌝ }
-{
-    if fields.len() < 2 {
-        return super::calls::bad(number);
-    }
-    if !bounded(&fields[2..], number) {
+fn bare_set(name: &[u8], assumptions: u32, claims: u32, set: &[u32], number: u32, hand: Hand) {
+    if !bounded(set, number) {
         return;
     }
-    let assumptions = fields[0];
-    let claims = fields[1];
-    let set = script::set_of(&fields[2..]);
+    let e = script::set_of(set);
     if script::same(name, b"barestages") {
         let what = What::Stages;
-        return bare_stages(
-            Query {
-                assumptions,
-                claims,
-                what,
-                set,
-            },
-            hand,
-        );
-    }
-    let what = What::Context;
-    bare_context(
-        Query {
+        let query = Query {
             assumptions,
             claims,
             what,
-            set,
-        },
-        hand,
-    );
+            set: e,
+        };
+        return bare_stages(query, hand);
+    }
+    let what = What::Context;
+    let query = Query {
+        assumptions,
+        claims,
+        what,
+        set: e,
+    };
+    bare_context(query, hand);
 }
 
 // bareask A M N K..
-fn bare_number(fields: &[u32], number: u32, hand: Hand)
-    requires { ⌜ hand .count ≤ limits .held ⌝ }
-{
-    if fields.len() < 3 {
-        return super::calls::bad(number);
-    }
-    if !bounded(&fields[3..], number) {
+fn bare_number(assumptions: u32, claims: u32, n: u32, set: &[u32], number: u32, hand: Hand) {
+    if !bounded(set, number) {
         return;
     }
-    let assumptions = fields[0];
-    let claims = fields[1];
-    let what = What::Number(fields[2]);
-    let set = script::set_of(&fields[3..]);
-    bare_ask(
-        Query {
-            assumptions,
-            claims,
-            what,
-            set,
-        },
-        hand,
-    );
+    let what = What::Number(n);
+    let query = Query {
+        assumptions,
+        claims,
+        what,
+        set: script::set_of(set),
+    };
+    bare_ask(query, hand);
 }
 
 // The calls on the list in hand.
-pub fn bare(name: &[u8], fields: &[u32], number: u32, hand: Hand) {
-    if HELD < hand.count {
+pub fn bare(name: &[u8], rest: &[u8], number: u32, hand: Hand) {
+    let mut fields = [0u32; super::calls::MOST];
+    let read = script::numbers(rest, 0, &mut fields);
+    let Read::Count(n) = read else {
+        super::calls::bad(number);
+        return;
+    };
+    if super::calls::MOST < n {
+        return;
+    }
+    if n < 2 {
         return super::calls::bad(number);
     }
-    if script::same(name, b"bareask") {
-        return bare_number(fields, number, hand);
+    if !script::same(name, b"bareask") {
+        return bare_set(name, fields[0], fields[1], &fields[2..n], number, hand);
     }
-    bare_set(name, fields, number, hand);
+    if n < 3 {
+        return super::calls::bad(number);
+    }
+    bare_number(fields[0], fields[1], fields[2], &fields[3..n], number, hand);
 }

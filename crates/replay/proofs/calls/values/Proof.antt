@@ -1,20 +1,16 @@
--- `replay::calls::values` is safe and ends. Assumes nothing.
-use mathlib.Core.Path.{_≡_, refl}
-use Prim.Native.Nat.{_-_, _≤_}
-use native.Mathlib.Omega.{arith}
-use lib.ListN.{length}
 use borrow.Author.Needs.{needs}
+use Prim.Native.Nat.{_-_, _≤_}
 use Rattle.replay.proofs.calls.values.Statement.{statement}
 use Rattle.replay.proofs.calls.values.Tie as tie
 
 abbrev Inv-loop : tie.InvT-loop
-Inv-loop bytes i₀ t3 t4 i-end i = (i-end ≡ length bytes) × (i ≤ i-end)
+Inv-loop n bytes i₀ t5 t6 i = i ≤ n
 
 abbrev μ-loop : tie.MeasureT-loop
-μ-loop bytes i₀ t3 t4 i-end i = i-end - i
+μ-loop n bytes i₀ t5 t6 i = n - i
 
 loop-holds : tie.Need-loop-holds Inv-loop μ-loop
-loop-holds c = (refl, omega arith)
+loop-holds c = search needs
 
 slice-aggregate-say : tie.Need-slice-aggregate-say Inv-loop μ-loop
 slice-aggregate-say c = search needs
@@ -22,17 +18,20 @@ slice-aggregate-say c = search needs
 say-requires : tie.Need-say-requires Inv-loop μ-loop
 say-requires c κs = search needs
 
-shared-slice-read-shown : tie.Need-shared-slice-read-shown Inv-loop μ-loop
-shared-slice-read-shown c = omega arith
+array-read-decimal : tie.Need-array-read-decimal Inv-loop μ-loop
+array-read-decimal c = search needs
 
-shown-requires : tie.Need-shown-requires Inv-loop μ-loop
-shown-requires c κs = search needs
+cast-decimal : tie.Need-cast-decimal Inv-loop μ-loop
+cast-decimal c = search needs
+
+decimal-requires : tie.Need-decimal-requires Inv-loop μ-loop
+decimal-requires c κs = search needs
 
 add-i : tie.Need-add-i Inv-loop μ-loop
 add-i c = search needs
 
 loop-less : tie.Need-loop-less Inv-loop μ-loop
-loop-less c = omega arith
+loop-less c = search needs
 
 loop-again : tie.Need-loop-again Inv-loop μ-loop
 loop-again c = search needs
@@ -55,8 +54,9 @@ values-spec =
     loop-holds
     slice-aggregate-say
     say-requires
-    shared-slice-read-shown
-    shown-requires
+    array-read-decimal
+    cast-decimal
+    decimal-requires
     add-i
     loop-less
     loop-again
