@@ -1,3 +1,4 @@
+-- `asking::at` meets its contract: a nogood for the number 0, else a set of the label, else the refusal. Assumes nothing.
 use mathlib.Core.Path.{_∙_, _≡_, ap, sym}
 use Prim.Native.Nat.{_-_, ℕ}
 use native.Mathlib.Omega.{arith}

@@ -1,3 +1,4 @@
+-- `door::keep` meets its contract: each field is the one that goes out. Assumes nothing.
 use Rattle.replies.specs.Replies.{numberOf}
 use Prim.Native.Nat.{ℕ}
 use mathlib.Core.Path.{_∙_, ap}

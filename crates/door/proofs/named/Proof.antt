@@ -1,3 +1,4 @@
+-- `door::named` meets its contract: a reply that is not 8 names 0. Assumes nothing.
 use Rattle.door.proofs.Naming.{unnamed}
 use Rattle.door.specs.Door.{namedOr0}
 use mathlib.Core.Path.{ap, sym}

@@ -1,3 +1,4 @@
+-- `door::plainly` meets its contract: in each arm the word's numbers. Assumes nothing.
 use mathlib.Core.Path.{_∙_, ap, sym}
 use Prim.Native.Nat.{ℕ}
 use Rattle.door.specs.Door.{plainlyBy, told}

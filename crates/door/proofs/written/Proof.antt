@@ -1,3 +1,4 @@
+-- `door::written` meets its contract: the length, else the reply's number. Assumes nothing.
 use Rattle.door.specs.Door.{told, wroteBy}
 use Prim.Native.Nat.{ℕ}
 use mathlib.Core.Path.{_∙_, ap, sym}

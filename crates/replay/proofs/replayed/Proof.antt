@@ -1,3 +1,4 @@
+-- `replay::replayed` is safe and ends: each turn goes on by a line. Assumes nothing.
 use Prim.Native.Nat.{_+_, _-_, _≤_}
 use native.Mathlib.Omega.{arith}
 use lib.ListN.{length}

@@ -21,6 +21,26 @@ Inv-loop held tallies rules lists₀ later₀ counts₀ moved₀ lists later cou
 abbrev μ-loop : tie.MeasureT-loop
 μ-loop held tallies rules lists₀ later₀ counts₀ moved₀ lists later counts moved = most held - lists .depth
 
+-- Where the rules are laid out, from where the loop begins.
+abbrev begun : tie.After-counts Inv-loop μ-loop → tie.After-laid Inv-loop μ-loop
+begun c = c .before .before .before
+
+-- The loop's head, from where the lists of a stage are at hand.
+abbrev head : tie.After-moved Inv-loop μ-loop → tie.At-loop Inv-loop μ-loop
+head c = c .before .before .before
+
+-- Where the lists of a stage are at hand, from where the later one is lent.
+abbrev lent : tie.After-later2 Inv-loop μ-loop → tie.After-moved Inv-loop μ-loop
+lent c = c .before .before .before .before
+
+-- Where the later list is lent, from where all that `next` takes is.
+abbrev all-lent : tie.After-marks Inv-loop μ-loop → tie.After-later2 Inv-loop μ-loop
+all-lent c = c .before .before
+
+-- What `next` gave, from where all that it took is back.
+abbrev back : tie.After-marks2 Inv-loop μ-loop → tie.After-next Inv-loop μ-loop
+back c = c .before .before .before
+
 tally-requires : tie.Need-tally-requires Inv-loop μ-loop
 tally-requires c κs = c .pre
 
@@ -31,22 +51,22 @@ start-requires : tie.Need-start-requires Inv-loop μ-loop
 start-requires c κs = c .before .before .pre .assumptions
 
 loop-holds : tie.Need-loop-holds Inv-loop μ-loop
-loop-holds c = (judge-reached _ (c .before .before .before .before .before .pre) _ (c .before .before .start .ensures), judge-from _ (c .before .before .before .before .before .pre) _ (c .before .before .start .ensures), fresh-start _ _ _ refl (marked-all 0 (omega arith)), refl, refl)
+loop-holds c = (judge-reached _ (begun c .before .before .pre) _ (c .before .before .start .ensures), judge-from _ (begun c .before .before .pre) _ (c .before .before .start .ensures), fresh-start _ _ _ refl (marked-all 0 (omega arith)), refl, refl)
 
 slice-aggregate-next : tie.Need-slice-aggregate-next Inv-loop μ-loop
 slice-aggregate-next c = search needs
 
 slice-aggregate-next-2 : tie.Need-slice-aggregate-next-2 Inv-loop μ-loop
-slice-aggregate-next-2 c = let l = c .before .before .before .before .before .before .before .loop in sym (ap length (l .inv .3) ∙ layout _ _ (l .inv .0 .room) _ (l .inv .0 .is) .members-length)
+slice-aggregate-next-2 c = let l = head (lent c) .loop in sym (ap length (l .inv .3) ∙ layout _ _ (l .inv .0 .room) _ (l .inv .0 .is) .members-length)
 
 slice-aggregate-next-3 : tie.Need-slice-aggregate-next-3 Inv-loop μ-loop
-slice-aggregate-next-3 c = let l = c .before .before .before .before .before .before .before .before .loop in sym (ap length (l .inv .4) ∙ layout _ _ (l .inv .0 .room) _ (l .inv .0 .is) .sizes-length)
+slice-aggregate-next-3 c = let l = head (lent (c .before)) .loop in sym (ap length (l .inv .4) ∙ layout _ _ (l .inv .0 .room) _ (l .inv .0 .is) .sizes-length)
 
 slice-aggregate-next-4 : tie.Need-slice-aggregate-next-4 Inv-loop μ-loop
 slice-aggregate-next-4 c = search needs
 
 next-requires : tie.Need-next-requires Inv-loop μ-loop
-next-requires c κs = let l = c .before .before .before .before .before .before .before .before .before .loop in (l .inv .0, c .before .before .before .before .before .before .before .before .before .before .before .before .before .before .tally .ensures, l .inv .2, c .before .before .before .before .before .before .before .before .before .before .before .before .before .laid .ensures, l .inv .3, l .inv .4, refl)
+next-requires c κs = let l = head (lent (all-lent c)) .loop in (l .inv .0, begun (head (lent (all-lent c)) .before) .before .tally .ensures, l .inv .2, begun (head (lent (all-lent c)) .before) .laid .ensures, l .inv .3, l .inv .4, refl)
 
 number-requires : tie.Need-number-requires Inv-loop μ-loop
 number-requires c κs = search needs
@@ -55,23 +75,23 @@ refused-requires : tie.Need-refused-requires Inv-loop μ-loop
 refused-requires c κs = search needs
 
 returns : tie.Need-returns Inv-loop μ-loop
-returns c = let l = c .before .before .before .before .before .before .before .before .before .before .before .before .before .before .before .before .loop in c .refused .ensures ∙ walk-refused _ (l .lists) (l .inv .0) _ (l .inv .1) _ _ _ _ (c .before .before .before .before .before .before .next .ensures) _ (c .before .before .number .ensures) (c .before .if1 .taken)
+returns c = let l = head (lent (all-lent (back (c .before .before .before) .before))) .loop in c .refused .ensures ∙ walk-refused _ (l .lists) (l .inv .0) _ (l .inv .1) _ _ _ _ (back (c .before .before .before) .next .ensures) _ (c .before .before .number .ensures) (c .before .if1 .taken)
 
 returns-2 : tie.Need-returns-2 Inv-loop μ-loop
-returns-2 c = let l = c .before .before .before .before .before .before .before .before .before .before .before .before .before .before .before .before .loop in walk-settled _ (l .lists) (l .inv .0) _ (l .inv .1) _ _ _ _ (c .before .before .before .before .before .before .next .ensures) _ (c .before .before .number .ensures) (c .before .if1 .left) (c .if2 .taken)
+returns-2 c = let l = head (lent (all-lent (back (c .before .before .before) .before))) .loop in walk-settled _ (l .lists) (l .inv .0) _ (l .inv .1) _ _ _ _ (back (c .before .before .before) .next .ensures) _ (c .before .before .number .ensures) (c .before .if1 .left) (c .if2 .taken)
 
 add-t30 : tie.Need-add-t30 Inv-loop μ-loop
-add-t30 c = omega (arith, c .before .before .before .before .before .before .before .before .before .before .before .before .before .before .before .before .before .loop .inv .0 .low)
+add-t30 c = omega (arith, head (lent (all-lent (back (c .before .before .before .before) .before))) .loop .inv .0 .low)
 
 loop-less : tie.Need-loop-less Inv-loop μ-loop
-loop-less c = let l = c .before .before .before .before .before .before .before .before .before .before .before .before .before .before .before .before .before .loop in walk-less _ (l .lists) (l .inv .0) _ (l .inv .1) _ _ _ _ (c .before .before .before .before .before .before .before .next .ensures) _ (c .before .before .before .number .ensures) (c .before .before .if1 .left) (c .before .if2 .left)
+loop-less c = let l = head (lent (all-lent (back (c .before .before .before .before) .before))) .loop in walk-less _ (l .lists) (l .inv .0) _ (l .inv .1) _ _ _ _ (back (c .before .before .before .before) .next .ensures) _ (c .before .before .before .number .ensures) (c .before .before .if1 .left) (c .before .if2 .left)
 
 loop-again : tie.Need-loop-again Inv-loop μ-loop
 loop-again c =
-    let l = c .before .before .before .before .before .before .before .before .before .before .before .before .before .before .before .before .before .loop in (
-      walk-next _ (l .lists) (l .inv .0) _ (l .inv .1) _ _ _ _ (c .before .before .before .before .before .before .before .next .ensures) _ (c .before .before .before .number .ensures) (c .before .before .if1 .left) (c .before .if2 .left),
-      walk-on _ (l .lists) (l .inv .0) _ (l .inv .1) _ _ _ _ (c .before .before .before .before .before .before .before .next .ensures) _ (c .before .before .before .number .ensures) (c .before .before .if1 .left) (c .before .if2 .left),
-      walk-fresh _ (l .lists) (l .inv .0) _ (l .inv .1) _ _ _ _ (c .before .before .before .before .before .before .before .next .ensures) _ (c .before .before .before .number .ensures) (c .before .before .if1 .left),
+    let l = head (lent (all-lent (back (c .before .before .before .before) .before))) .loop in (
+      walk-next _ (l .lists) (l .inv .0) _ (l .inv .1) _ _ _ _ (back (c .before .before .before .before) .next .ensures) _ (c .before .before .before .number .ensures) (c .before .before .if1 .left) (c .before .if2 .left),
+      walk-on _ (l .lists) (l .inv .0) _ (l .inv .1) _ _ _ _ (back (c .before .before .before .before) .next .ensures) _ (c .before .before .before .number .ensures) (c .before .before .if1 .left) (c .before .if2 .left),
+      walk-fresh _ (l .lists) (l .inv .0) _ (l .inv .1) _ _ _ _ (back (c .before .before .before .before) .next .ensures) _ (c .before .before .before .number .ensures) (c .before .before .if1 .left),
       refl,
       refl,
     )

@@ -1,3 +1,4 @@
+-- `start` meets its contract: nothing held, and the lists of nothing. Assumes nothing.
 use borrow.Author.Needs.{needs}
 use Rattle.store.proofs.Judging.{start-store}
 use Rattle.store.proofs.start.Statement.{statement}

@@ -1,3 +1,4 @@
+-- `door::making::door_load` meets its contract: what `casefile::load` answers, as `keep` gives it. Assumes nothing.
 use Rattle.door.specs.Door.{loadedBy}
 use mathlib.Core.Path.{_∙_, ap}
 use borrow.Author.Needs.{needs}

@@ -1,3 +1,4 @@
+-- `door::making::door_withdraw` meets its contract: what `Store::withdraw` answers, as `made` gives it. Assumes nothing.
 use Rattle.door.specs.Door.{madeBy}
 use mathlib.Core.Path.{_∙_, ap}
 use borrow.Author.Needs.{needs}

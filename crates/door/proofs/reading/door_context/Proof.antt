@@ -1,3 +1,4 @@
+-- `door::reading::door_context` meets its contract: the reply of `asking::context` as a number, and its bytes. Assumes nothing.
 use Rattle.asking.specs.Asking.{Left}
 use Rattle.replies.specs.Replies.{numberOf}
 use mathlib.Core.Path.{_∙_, ap}

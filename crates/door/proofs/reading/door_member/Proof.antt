@@ -1,3 +1,4 @@
+-- `door::reading::door_member` meets its contract: the set, else the reply's number. Assumes nothing.
 use Rattle.asking.specs.declared.Shown.{Shown}
 use Rattle.door.specs.Door.{foundBy, told}
 use Prim.Native.Nat.{ℕ}

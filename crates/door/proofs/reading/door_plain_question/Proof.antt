@@ -1,3 +1,4 @@
+-- `door::reading::door_plain_question` meets its contract: the word of `plain::question`, as `plainly` gives it. Assumes nothing.
 use Rattle.plain.specs.declared.Told.{Told as Answered}
 use mathlib.Core.Path.{_∙_, ap}
 use Rattle.door.specs.Door.{plainlyBy}

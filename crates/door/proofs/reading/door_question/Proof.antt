@@ -1,3 +1,4 @@
+-- `door::reading::door_question` meets its contract: in each arm the answer's numbers. Assumes nothing.
 use Rattle.asking.specs.declared.Asked.{Asked}
 use Rattle.door.specs.Door.{reasoned, reasonedBy}
 use Prim.Native.Nat.{ℕ}

@@ -1,3 +1,4 @@
+-- `door::texts::door_line` meets its contract: what `lines::line` writes, and its answer as `written` gives it. Assumes nothing.
 use Rattle.lent.specs.declared.Listed.{Listed}
 use Rattle.door.specs.Door.{wroteBy}
 use mathlib.Core.Path.{_∙_, ap}

@@ -1,3 +1,4 @@
+-- `door::texts::door_printed` meets its contract: what `listing::printed` writes, and its answer as `written` gives it. Assumes nothing.
 use Rattle.lent.specs.Lent.{Wrote}
 use Rattle.door.specs.Door.{wroteBy}
 use mathlib.Core.Path.{_∙_, ap}

@@ -1,3 +1,4 @@
+-- `door::texts::door_refusal` meets its contract: 30 bytes hold every line of a refusal, and `lent::fit` writes it. Assumes nothing.
 use mathlib.Core.Path.{_∙_, _≡_, ap, sym}
 use lib.Seq.{length-take-le}
 use Prim.Native.Nat.{ℕ}

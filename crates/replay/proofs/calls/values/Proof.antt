@@ -1,3 +1,4 @@
+-- `replay::calls::values` is safe and ends. Assumes nothing.
 use borrow.Author.Needs.{needs}
 use Prim.Native.Nat.{_-_, _≤_}
 use Rattle.replay.proofs.calls.values.Statement.{statement}

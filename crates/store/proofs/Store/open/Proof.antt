@@ -1,3 +1,4 @@
+-- `open` meets its contract: the counts, then the store that holds nothing. Assumes nothing.
 use mathlib.Core.Path.{_∙_, ap}
 use native.Mathlib.Omega.{arith}
 use borrow.Author.Needs.{needs}
