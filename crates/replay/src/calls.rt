@@ -98,6 +98,7 @@ pub fn justification(rest: &[u8], number: u32, values: &mut [u32]) -> usize
         return 0;
     }
     if MOST < n {
+        bad(number);
         return 0;
     }
     n
@@ -167,15 +168,16 @@ fn ask(n: u32, set: &[u32], number: u32, store: Store) {
     }
 }
 
-// The first n bytes as numbers, a space between two.
+// The first n bytes as numbers, a space between two; a store of more numbers has no shape.
 pub fn values(bytes: [u8; MARKS], n: usize) {
+    if MARKS < n {
+        return refused(Reply::Shape);
+    }
     for i in 0..n {
-        if i < MARKS {
-            if 0 < i {
-                say(b" ");
-            }
-            decimal(bytes[i] as u32);
+        if 0 < i {
+            say(b" ");
         }
+        decimal(bytes[i] as u32);
     }
     say(b"\n");
 }
@@ -214,13 +216,14 @@ fn member(n: u32, place: u32, store: Store) {
     }
 }
 
-// The text that a call wrote, or its refusal.
+// The text that a call wrote, or its refusal; none is longer than what was lent.
 pub fn told(answer: Written, text: &[u8]) {
     match answer {
         Written::Length(length) => {
-            if length <= text.len() {
-                say(&text[..length]);
+            if text.len() < length {
+                return refused(Reply::Short);
             }
+            say(&text[..length]);
         }
         Written::Refused(reply) => refused(reply),
     }
@@ -275,9 +278,10 @@ fn write(store: Store) {
     let answer = out.answer;
     match answer {
         Written::Length(length) => {
-            if length <= bytes.len() {
-                hex(&bytes[..length]);
+            if bytes.len() < length {
+                return refused(Reply::Short);
             }
+            hex(&bytes[..length]);
         }
         Written::Refused(reply) => refused(reply),
     }
@@ -292,7 +296,7 @@ pub fn read(word: &[u8], rest: &[u8], number: u32, store: Store) {
         return;
     };
     if MOST < n {
-        return;
+        return bad(number);
     }
     if script::same(word, b"context") {
         return context(&fields[..n], number, store);

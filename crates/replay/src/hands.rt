@@ -5,6 +5,8 @@ use printing::say;
 use store::Store;
 use theory::HELD;
 use theory::SUPPORTS;
+ghost use Prim.Native.Nat.{_≤_};
+ghost use Rattle.theory.specs.Limits.{limits};
 
 // The items noted, the first `count` of them.
 pub struct Hand {
@@ -65,12 +67,12 @@ pub fn forget(rest: &[u8], number: u32, hand: Hand) -> Hand {
 }
 
 // The first n bytes as numbers, a space before each.
-fn numbers(bytes: [u8; HELD], n: usize) {
+fn numbers(bytes: [u8; HELD], n: usize)
+    requires { ⌜ n ≤ limits .held ⌝ }
+{
     for i in 0..n {
-        if i < HELD {
-            say(b" ");
-            decimal(bytes[i] as u32);
-        }
+        say(b" ");
+        decimal(bytes[i] as u32);
     }
 }
 
@@ -81,6 +83,7 @@ pub fn season(rest: &[u8], number: u32, store: Store, hand: Hand) -> Store {
     }
     let n = hand.count;
     if HELD < n {
+        super::calls::bad(number);
         return store;
     }
     let items = hand.items;

@@ -24,6 +24,7 @@ fn command(line: &[u8], number: u32, desk: Desk) -> Desk {
         return desk;
     }
     if line.len() < to {
+        calls::bad(number);
         return desk;
     }
     if line[from] == b'#' {

@@ -10,7 +10,6 @@ use script::Read;
 use store::Store;
 use theory::ASSUMPTIONS;
 use theory::CLAIMS;
-use theory::HELD;
 use theory::MARKS;
 ghost use Prim.Native.Nat.{_≤_};
 ghost use lib.ListN.{length};
@@ -125,7 +124,7 @@ pub fn read(name: &[u8], rest: &[u8], number: u32, store: Store) {
         return;
     };
     if super::calls::MOST < n {
-        return;
+        return super::calls::bad(number);
     }
     if !script::same(name, b"plain") {
         return of_set(name, &fields[..n], number, store);
@@ -141,37 +140,33 @@ pub fn read(name: &[u8], rest: &[u8], number: u32, store: Store) {
 // bareask A M N K..
 fn bare_ask(query: Query, hand: Hand) {
     let n = hand.count;
-    if HELD < n {
-        return;
-    }
     let items = hand.items;
     let mut none = [0u8; 1];
     let told = bare::ask_some(query, items, n, &mut none);
-    if let Told::Word(answer) = told {
-        word(answer);
-    }
+    let Told::Word(answer) = told else {
+        return super::calls::refused(Reply::Shape);
+    };
+    word(answer);
 }
 
 // barecontext A M K..
 fn bare_context(query: Query, hand: Hand) {
     let n = hand.count;
-    if HELD < n {
-        return;
-    }
     let items = hand.items;
     let mut values = [0u8; MARKS];
     let told = bare::ask_some(query, items, n, &mut values);
-    if let Told::Filled(reply) = told {
-        let a = query.assumptions;
-        let m = query.claims;
-        if ASSUMPTIONS < a {
-            return super::calls::refused(reply);
-        }
-        if CLAIMS < m {
-            return super::calls::refused(reply);
-        }
-        bytes(reply, values, a as usize + m as usize + 1);
+    let Told::Filled(reply) = told else {
+        return super::calls::refused(Reply::Shape);
+    };
+    let a = query.assumptions;
+    let m = query.claims;
+    if ASSUMPTIONS < a {
+        return super::calls::refused(reply);
     }
+    if CLAIMS < m {
+        return super::calls::refused(reply);
+    }
+    bytes(reply, values, a as usize + m as usize + 1);
 }
 
 // The lines of a bare list, on bytes that are enough for any.
@@ -179,14 +174,12 @@ fn bare_lines(query: Query, hand: Hand, text: &mut [u8])
     requires { ⌜ longest ≤ length (now text) ⌝ }
 {
     let n = hand.count;
-    if HELD < n {
-        return;
-    }
     let items = hand.items;
     let told = bare::ask_some(query, items, n, text);
-    if let Told::Lines(answer) = told {
-        super::calls::told(answer, text);
-    }
+    let Told::Lines(answer) = told else {
+        return super::calls::refused(Reply::Shape);
+    };
+    super::calls::told(answer, text);
 }
 
 // barestages A M K..
@@ -258,7 +251,7 @@ pub fn bare(name: &[u8], rest: &[u8], number: u32, hand: Hand) {
         return;
     };
     if super::calls::MOST < n {
-        return;
+        return super::calls::bad(number);
     }
     if n < 2 {
         return super::calls::bad(number);

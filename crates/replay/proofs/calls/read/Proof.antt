@@ -24,6 +24,9 @@ bad-requires c κs = search needs
 returns : tie.Need-returns
 returns c = search needs
 
+bad-requires-2 : tie.Need-bad-requires-2
+bad-requires-2 c κs = search needs
+
 returns-2 : tie.Need-returns-2
 returns-2 c = search needs
 
@@ -57,8 +60,8 @@ list-requires c κs = search needs
 returns-4 : tie.Need-returns-4
 returns-4 c = search needs
 
-bad-requires-2 : tie.Need-bad-requires-2
-bad-requires-2 c κs = search needs
+bad-requires-3 : tie.Need-bad-requires-3
+bad-requires-3 c κs = search needs
 
 returns-5 : tie.Need-returns-5
 returns-5 c = search needs
@@ -75,14 +78,14 @@ write-requires c κs = search needs
 returns-6 : tie.Need-returns-6
 returns-6 c = search needs
 
-bad-requires-3 : tie.Need-bad-requires-3
-bad-requires-3 c κs = search needs
+bad-requires-4 : tie.Need-bad-requires-4
+bad-requires-4 c κs = search needs
 
 returns-7 : tie.Need-returns-7
 returns-7 c = search needs
 
-bad-requires-4 : tie.Need-bad-requires-4
-bad-requires-4 c κs = search needs
+bad-requires-5 : tie.Need-bad-requires-5
+bad-requires-5 c κs = search needs
 
 returns-8 : tie.Need-returns-8
 returns-8 c = search needs
@@ -130,6 +133,7 @@ read-spec =
     enum-told
     bad-requires
     returns
+    bad-requires-2
     returns-2
     slice-aggregate-same
     same-requires
@@ -141,15 +145,15 @@ read-spec =
     same-requires-2
     list-requires
     returns-4
-    bad-requires-2
+    bad-requires-3
     returns-5
     slice-aggregate-same-3
     same-requires-3
     write-requires
     returns-6
-    bad-requires-3
-    returns-7
     bad-requires-4
+    returns-7
+    bad-requires-5
     returns-8
     slice-aggregate-same-4
     same-requires-4

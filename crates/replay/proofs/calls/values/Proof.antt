@@ -1,17 +1,24 @@
 -- `replay::calls::values` is safe and ends. Assumes nothing.
-use borrow.Author.Needs.{needs}
 use Prim.Native.Nat.{_-_, _≤_}
+use native.Mathlib.Omega.{arith}
+use borrow.Author.Needs.{needs}
 use Rattle.replay.proofs.calls.values.Statement.{statement}
 use Rattle.replay.proofs.calls.values.Tie as tie
 
 abbrev Inv-loop : tie.InvT-loop
-Inv-loop n bytes i₀ t5 t6 i = i ≤ n
+Inv-loop n bytes i₀ t5 t6 i = (n ≤ 129) × (i ≤ n)
 
 abbrev μ-loop : tie.MeasureT-loop
 μ-loop n bytes i₀ t5 t6 i = n - i
 
+refused-requires : tie.Need-refused-requires Inv-loop μ-loop
+refused-requires c κs = search needs
+
+returns : tie.Need-returns Inv-loop μ-loop
+returns c = search needs
+
 loop-holds : tie.Need-loop-holds Inv-loop μ-loop
-loop-holds c = search needs
+loop-holds c = (omega arith, omega arith)
 
 slice-aggregate-say : tie.Need-slice-aggregate-say Inv-loop μ-loop
 slice-aggregate-say c = search needs
@@ -20,7 +27,7 @@ say-requires : tie.Need-say-requires Inv-loop μ-loop
 say-requires c κs = search needs
 
 array-read-decimal : tie.Need-array-read-decimal Inv-loop μ-loop
-array-read-decimal c = search needs
+array-read-decimal c = omega arith
 
 cast-decimal : tie.Need-cast-decimal Inv-loop μ-loop
 cast-decimal c = search needs
@@ -32,10 +39,10 @@ add-i : tie.Need-add-i Inv-loop μ-loop
 add-i c = search needs
 
 loop-less : tie.Need-loop-less Inv-loop μ-loop
-loop-less c = search needs
+loop-less c = omega arith
 
 loop-again : tie.Need-loop-again Inv-loop μ-loop
-loop-again c = search needs
+loop-again c = (omega arith, omega arith)
 
 slice-aggregate-say-2 : tie.Need-slice-aggregate-say-2 Inv-loop μ-loop
 slice-aggregate-say-2 c = search needs
@@ -43,8 +50,8 @@ slice-aggregate-say-2 c = search needs
 say-requires-2 : tie.Need-say-requires-2 Inv-loop μ-loop
 say-requires-2 c κs = search needs
 
-returns : tie.Need-returns Inv-loop μ-loop
-returns c = search needs
+returns-2 : tie.Need-returns-2 Inv-loop μ-loop
+returns-2 c = search needs
 
 pub values-spec : {M : Type 1} → statement M
 values-spec =
@@ -52,6 +59,8 @@ values-spec =
     (tie.spec
     Inv-loop
     μ-loop
+    refused-requires
+    returns
     loop-holds
     slice-aggregate-say
     say-requires
@@ -63,4 +72,4 @@ values-spec =
     loop-again
     slice-aggregate-say-2
     say-requires-2
-    returns)
+    returns-2)

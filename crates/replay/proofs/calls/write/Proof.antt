@@ -1,7 +1,7 @@
--- `write` is safe and ends. Assumes nothing.
-use lib.Seq.{length-take-le}
+-- `replay::calls::write` is safe and ends. Assumes nothing.
 use mathlib.Core.Path.{sym}
 use native.Mathlib.Omega.{arith}
+use lib.Seq.{length-take-le}
 use borrow.Author.Needs.{needs}
 use Rattle.replay.proofs.calls.write.Statement.{statement}
 use Rattle.replay.proofs.calls.write.Tie as tie
@@ -15,6 +15,12 @@ write-requires c κs = search needs
 enum-known-answer : tie.Need-enum-known-answer
 enum-known-answer c = search needs
 
+refused-requires : tie.Need-refused-requires
+refused-requires c κs = search needs
+
+returns : tie.Need-returns
+returns c = search needs
+
 array-share-prefix-bytes : tie.Need-array-share-prefix-bytes
 array-share-prefix-bytes c = search needs
 
@@ -27,11 +33,8 @@ hex-requires c κs = search needs
 enum-known-answer-2 : tie.Need-enum-known-answer-2
 enum-known-answer-2 c = search needs
 
-refused-requires : tie.Need-refused-requires
-refused-requires c κs = search needs
-
-returns : tie.Need-returns
-returns c = search needs
+refused-requires-2 : tie.Need-refused-requires-2
+refused-requires-2 c κs = search needs
 
 returns-2 : tie.Need-returns-2
 returns-2 c = search needs
@@ -46,11 +49,12 @@ write-spec =
     slice-aggregate-write
     write-requires
     enum-known-answer
+    refused-requires
+    returns
     array-share-prefix-bytes
     slice-aggregate-hex
     hex-requires
     enum-known-answer-2
-    refused-requires
-    returns
+    refused-requires-2
     returns-2
     returns-3)

@@ -1,17 +1,18 @@
 -- `numbers` is safe and ends. Assumes nothing.
-use borrow.Author.Needs.{needs}
 use Prim.Native.Nat.{_-_, _≤_}
+use native.Mathlib.Omega.{arith}
+use borrow.Author.Needs.{needs}
 use Rattle.replay.proofs.hands.numbers.Statement.{statement}
 use Rattle.replay.proofs.hands.numbers.Tie as tie
 
 abbrev Inv-loop : tie.InvT-loop
-Inv-loop n bytes i₀ t5 i = i ≤ n
+Inv-loop n bytes i₀ t5 i = (n ≤ 256) × (i ≤ n)
 
 abbrev μ-loop : tie.MeasureT-loop
 μ-loop n bytes i₀ t5 i = n - i
 
 loop-holds : tie.Need-loop-holds Inv-loop μ-loop
-loop-holds c = search needs
+loop-holds c = (omega arith, omega arith)
 
 slice-aggregate-say : tie.Need-slice-aggregate-say Inv-loop μ-loop
 slice-aggregate-say c = search needs
@@ -20,7 +21,7 @@ say-requires : tie.Need-say-requires Inv-loop μ-loop
 say-requires c κs = search needs
 
 array-read-decimal : tie.Need-array-read-decimal Inv-loop μ-loop
-array-read-decimal c = search needs
+array-read-decimal c = omega arith
 
 cast-decimal : tie.Need-cast-decimal Inv-loop μ-loop
 cast-decimal c = search needs
@@ -32,10 +33,10 @@ add-i : tie.Need-add-i Inv-loop μ-loop
 add-i c = search needs
 
 loop-less : tie.Need-loop-less Inv-loop μ-loop
-loop-less c = search needs
+loop-less c = omega arith
 
 loop-again : tie.Need-loop-again Inv-loop μ-loop
-loop-again c = search needs
+loop-again c = (omega arith, omega arith)
 
 returns : tie.Need-returns Inv-loop μ-loop
 returns c = search needs

@@ -12,6 +12,9 @@ alone-requires c κs = search needs
 returns : tie.Need-returns
 returns c = search needs
 
+bad-requires : tie.Need-bad-requires
+bad-requires c κs = search needs
+
 returns-2 : tie.Need-returns-2
 returns-2 c = search needs
 
@@ -57,6 +60,7 @@ season-spec =
     (tie.spec
     alone-requires
     returns
+    bad-requires
     returns-2
     array-borrow-prefix-bytes
     slice-aggregate-add-some

@@ -24,6 +24,9 @@ bad-requires c κs = search needs
 returns : tie.Need-returns
 returns c = search needs
 
+bad-requires-2 : tie.Need-bad-requires-2
+bad-requires-2 c κs = search needs
+
 returns-2 : tie.Need-returns-2
 returns-2 c = search needs
 
@@ -45,8 +48,8 @@ of-set-requires c κs = search needs
 returns-3 : tie.Need-returns-3
 returns-3 c = search needs
 
-bad-requires-2 : tie.Need-bad-requires-2
-bad-requires-2 c κs = search needs
+bad-requires-3 : tie.Need-bad-requires-3
+bad-requires-3 c κs = search needs
 
 returns-4 : tie.Need-returns-4
 returns-4 c = search needs
@@ -79,4 +82,4 @@ returns-6 : tie.Need-returns-6
 returns-6 c = search needs
 
 pub read-spec : {M : Type 1} → statement M
-read-spec = tie.close (tie.spec slice-aggregate-numbers numbers-requires enum-known-read enum-told bad-requires returns returns-2 slice-aggregate-same same-requires array-share-prefix-fields slice-aggregate-of-set of-set-requires returns-3 bad-requires-2 returns-4 part-sound-start part-sound-end sound-requires array-read-ask part-ask-start part-ask-end ask-requires returns-5 returns-6)
+read-spec = tie.close (tie.spec slice-aggregate-numbers numbers-requires enum-known-read enum-told bad-requires returns bad-requires-2 returns-2 slice-aggregate-same same-requires array-share-prefix-fields slice-aggregate-of-set of-set-requires returns-3 bad-requires-3 returns-4 part-sound-start part-sound-end sound-requires array-read-ask part-ask-start part-ask-end ask-requires returns-5 returns-6)
