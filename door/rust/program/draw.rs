@@ -2,7 +2,7 @@
 use crate::case::{Case, Rule, Stages};
 use crate::given::{number, Given};
 use crate::names::Names;
-use crate::{say, store_of, usage, BAD, DONE, REFUSED};
+use crate::{say, store_of, usage, BAD};
 use reasons::{Refusal, Set, Store};
 
 pub fn draw(given: &Given) -> u8 {
@@ -21,16 +21,7 @@ pub fn draw(given: &Given) -> u8 {
         Ok(store) => store,
         Err(status) => return status,
     };
-    match drawn(&store, n, &names) {
-        Ok(text) => {
-            say::text(&text);
-            DONE
-        }
-        Err(refusal) => {
-            say::error(&format!("{refusal}\n"));
-            REFUSED
-        }
-    }
+    say::told(drawn(&store, n, &names))
 }
 
 fn drawn(store: &Store, n: Option<u32>, names: &Names) -> Result<String, Refusal> {

@@ -1,6 +1,7 @@
 //! Standard output and standard error. What is said at once is handed over in one write, so that it is never split by us.
 //! After a reader has gone away nothing more is said to it, and the command goes on to its end.
-use crate::{start, BAD};
+use crate::{start, BAD, DONE, REFUSED};
+use reasons::Refusal;
 use std::ffi::OsStr;
 use std::fs::File;
 use std::io::{stdout, ErrorKind, Result, Write};
@@ -53,6 +54,20 @@ pub fn titled(title: Option<&OsStr>, text: &str) {
     }
     all.extend_from_slice(text.as_bytes());
     bytes(&all);
+}
+
+/// The text of an answer, or the line of its refusal on standard error; the status that goes with it.
+pub fn told(answer: std::result::Result<String, Refusal>) -> u8 {
+    match answer {
+        Ok(all) => {
+            text(&all);
+            DONE
+        }
+        Err(refusal) => {
+            error(&format!("{refusal}\n"));
+            REFUSED
+        }
+    }
 }
 
 pub fn error(text: &str) {

@@ -2,7 +2,7 @@
 use crate::case::{Case, Rule, Stages};
 use crate::given::{number, Given};
 use crate::names::Names;
-use crate::{say, store_of, usage, BAD, DONE, REFUSED};
+use crate::{say, store_of, usage, BAD};
 use reasons::{Answer, Refusal, Set, Store};
 
 pub fn why(given: &Given) -> u8 {
@@ -27,21 +27,11 @@ pub fn why(given: &Given) -> u8 {
         Ok(store) => store,
         Err(status) => return status,
     };
-    let told = if rest.is_empty() && !given.none {
+    say::told(if rest.is_empty() && !given.none {
         each_group(&store, numbers[0], &names)
     } else {
         asked(&store, numbers[0], &numbers[1..], &names)
-    };
-    match told {
-        Ok(text) => {
-            say::text(&text);
-            DONE
-        }
-        Err(refusal) => {
-            say::error(&format!("{refusal}\n"));
-            REFUSED
-        }
-    }
+    })
 }
 
 /// The question of n and the set of these assumptions; one above 32, which no set has, is refused with 4 as one above A is.
