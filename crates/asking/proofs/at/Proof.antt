@@ -17,26 +17,11 @@ returns c =
     let nogoods-length : length (a .t1 .nogoods) ≡ 32 = search needs in
     member-nogood-none (a .t1) (a .place) (omega (arith, c .before .before .pre .0 .nogoods, nogoods-length)) (c .if2 .taken) ∙ ap (λ (n : ℕ). memberAt (a .t1) n (a .place)) (sym (c .before .if1 .taken))
 
-mul-t8 : tie.Need-mul-t8
-mul-t8 c = search needs
-
-element-copy-out-t13 : tie.Need-element-copy-out-t13
-element-copy-out-t13 c = search needs
-
 returns-2 : tie.Need-returns-2
 returns-2 c =
     let a = c .before .before .before .args in
     let nogoods-length : length (a .t1 .nogoods) ≡ 32 = search needs in
     member-nogood (a .t1) (a .place) (omega (arith, c .before .before .before .pre .0 .nogoods, nogoods-length)) (omega arith) ∙ ap (λ (n : ℕ). memberAt (a .t1) n (a .place)) (sym (c .before .before .if1 .taken))
-
-sub-i : tie.Need-sub-i
-sub-i c = search needs
-
-element-copy-out-size : tie.Need-element-copy-out-size
-element-copy-out-size c = search needs
-
-cast-size : tie.Need-cast-size
-cast-size c = search needs
 
 returns-3 : tie.Need-returns-3
 returns-3 c =
@@ -44,9 +29,6 @@ returns-3 c =
     let members-length : length (a .t1 .members) ≡ 1536 = search needs in
     member-none (a .t1) (a .place) (a .n - 1) (omega (arith, c .before .before .before .pre .0 .labels (a .n - 1) (omega arith), members-length)) (omega arith)
     ∙ ap (λ (n : ℕ). memberAt (a .t1) n (a .place)) (number-of (a .n) (c .before .before .if1 .left))
-
-mul-t18 : tie.Need-mul-t18
-mul-t18 c = search needs
 
 add-t19 : tie.Need-add-t19
 add-t19 c = let a = c .before .before .before .args in omega (arith, c .before .before .before .pre .0 .labels (a .n - 1) (omega arith))
@@ -67,17 +49,5 @@ returns-4 c =
 pub at-spec : {M : Type 1} → statement M
 at-spec =
     tie.close
-    (tie.spec
-    returns
-    mul-t8
-    element-copy-out-t13
-    returns-2
-    sub-i
-    element-copy-out-size
-    cast-size
-    returns-3
-    mul-t18
-    add-t19
-    mul-t20
-    element-copy-out-t23
-    returns-4)
+    (tie.spec returns (λ c. search needs) (λ c. search needs) returns-2 (λ c. search needs) (λ c. search needs) (λ c. search needs)
+    returns-3 (λ c. search needs) add-t19 mul-t20 element-copy-out-t23 returns-4)

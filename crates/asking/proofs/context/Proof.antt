@@ -16,24 +16,12 @@ use Rattle.asking.proofs.context.Tie as tie
 known : (c : tie.Else1) → Readable (c .before .before .before .before .args .store) 0 (c .before .before .before .before .args .e)
 known c = readable (c .before .before .before .before .args .store) 0 (c .before .before .before .before .args .e) _ (c .before .before .refusal .ensures) (sym (c .before .number .ensures) ∙ c .if1 .left)
 
-refusal-requires : tie.Need-refusal-requires
-refusal-requires c κs = search needs
-
-number-requires : tie.Need-number-requires
-number-requires c κs = search needs
-
 returns : tie.Need-returns
 unfolding contextBytes
 returns c = let a = c .before .before .before .before .args in context-refused (a .store) (a .e) (a .out .now) _ _ (c .before .before .refusal .ensures) (λ z. c .if1 .taken (c .before .number .ensures ∙ z))
 
 add-end : tie.Need-add-end
 add-end c = let f = known (c .before .before) .fit in omega (arith, f .few, f .claims)
-
-cast-end : tie.Need-cast-end
-cast-end c = search needs
-
-add-end-2 : tie.Need-add-end-2
-add-end-2 c = search needs
 
 returns-2 : tie.Need-returns-2
 unfolding contextBytes
@@ -48,9 +36,6 @@ slice-aggregate-fill c = let h = c .before .before .before .before .before .befo
 fill-requires : tie.Need-fill-requires
 fill-requires c κs = let k = known (c .before .before .before .before .before .before) in (shape-room (c .before .before .before .before .before .before .before .before .before .before .args .store) (k .right) (search needs), c .before .before .from-all .ensures, omega (arith, k .fit .few, k .fit .claims), c .before .before .before .if2 .left)
 
-same-length : tie.Need-same-length
-same-length c = search needs
-
 returns-3 : tie.Need-returns-3
 unfolding contextBytes contextOf
 returns-3 c = let a = c .before .before .before .before .before .before .before .before .before .before .before .before .before .args in context-done (a .store) (a .e) (a .out .now) _ (known (c .before .before .before .before .before .before .before .before .before)) (c .before .before .before .before .before .before .if2 .left) _ (c .before .before .fill .ensures)
@@ -58,16 +43,5 @@ returns-3 c = let a = c .before .before .before .before .before .before .before 
 pub context-spec : {M : Type 1} → statement M
 context-spec =
     tie.close
-    (tie.spec
-    refusal-requires
-    number-requires
-    returns
-    add-end
-    cast-end
-    add-end-2
-    returns-2
-    from-all-requires
-    slice-aggregate-fill
-    fill-requires
-    same-length
-    returns-3)
+    (tie.spec (λ c κs. search needs) (λ c κs. search needs) returns add-end (λ c. search needs) (λ c. search needs) returns-2
+    from-all-requires slice-aggregate-fill fill-requires (λ c. search needs) returns-3)

@@ -34,12 +34,6 @@ byte-requires c κs = (c .before .before .before .before .before .before .pre .0
 slice-write-out : tie.Need-slice-write-out Inv-loop μ-loop
 slice-write-out c = omega (arith, c .before .before .loop-test .taken, c .before .before .before .loop .inv .1, c .before .before .before .before .before .before .before .pre .3)
 
-add-i : tie.Need-add-i Inv-loop μ-loop
-add-i c = search needs
-
-loop-less : tie.Need-loop-less Inv-loop μ-loop
-loop-less c = search needs
-
 loop-again : tie.Need-loop-again Inv-loop μ-loop
 loop-again c =
     let l = c .before .before .before .loop in
@@ -60,15 +54,5 @@ returns c =
 pub fill-spec : {M : Type 1} → statement M
 fill-spec =
     tie.close
-    (tie.spec
-    Inv-loop
-    μ-loop
-    loop-holds
-    shared-slice-read-byte
-    byte-requires
-    slice-write-out
-    add-i
-    loop-less
-    loop-again
-    same-length
-    returns)
+    (tie.spec Inv-loop μ-loop loop-holds shared-slice-read-byte byte-requires slice-write-out (λ c. search needs) (λ c. search needs)
+    loop-again same-length returns)

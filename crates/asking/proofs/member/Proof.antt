@@ -11,12 +11,6 @@ use Rattle.asking.proofs.member.Tie as tie
 known : (c : tie.Else1) → Readable (c .before .before .before .args .store) (c .before .before .before .args .n) 0
 known c = readable (c .before .before .before .args .store) (c .before .before .before .args .n) 0 _ (c .before .before .refusal .ensures) (sym (c .before .number .ensures) ∙ c .if1 .left)
 
-refusal-requires : tie.Need-refusal-requires
-refusal-requires c κs = search needs
-
-number-requires : tie.Need-number-requires
-number-requires c κs = search needs
-
 returns : tie.Need-returns
 returns c = let a = c .before .before .before .args in member-refused (a .store) (a .n) (a .place) _ (c .before .before .refusal .ensures) (λ z. c .if1 .taken (c .before .number .ensures ∙ z))
 
@@ -27,4 +21,4 @@ returns-2 : tie.Need-returns-2
 returns-2 c = let a = c .before .before .before .before .before .args in member-at (a .store) (a .n) (a .place) (known (c .before .before)) _ (c .at .ensures)
 
 pub member-spec : {M : Type 1} → statement M
-member-spec = tie.close (tie.spec refusal-requires number-requires returns at-requires returns-2)
+member-spec = tie.close (tie.spec (λ c κs. search needs) (λ c κs. search needs) returns at-requires returns-2)

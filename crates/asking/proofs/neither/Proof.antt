@@ -17,12 +17,6 @@ long s = search needs
 returns : tie.Need-returns
 returns c = let s = c .before in sym (ap (λ (n : ℕ). choose (unlabelled (s .args .t1) n && s .args .follows) 3 0) (c .if1 .taken))
 
-sub-if2 : tie.Need-sub-if2
-sub-if2 c = search needs
-
-element-copy-out-if2 : tie.Need-element-copy-out-if2
-element-copy-out-if2 c = search needs
-
 returns-2 : tie.Need-returns-2
 returns-2 c = let s = c .before .before .before in
     sym (ap (λ (b : Bool). choose (b && s .args .follows) 3 0) (unlabelled-no (s .args .t1) (s .args .n) (c .before .before .if1 .left) (omega (arith, long s, s .pre)) (c .if2 .taken)))
@@ -38,4 +32,4 @@ returns-4 : tie.Need-returns-4
 returns-4 c = empty (c .before) _ (c .if3 .left)
 
 pub neither-spec : {M : Type 1} → statement M
-neither-spec = tie.close (tie.spec returns sub-if2 element-copy-out-if2 returns-2 returns-3 returns-4)
+neither-spec = tie.close (tie.spec returns (λ c. search needs) (λ c. search needs) returns-2 returns-3 returns-4)

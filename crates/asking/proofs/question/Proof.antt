@@ -11,12 +11,6 @@ use Rattle.asking.proofs.question.Tie as tie
 known : (c : tie.Else1) → Readable (c .before .before .before .args .store) (c .before .before .before .args .n) (c .before .before .before .args .e)
 known c = readable (c .before .before .before .args .store) (c .before .before .before .args .n) (c .before .before .before .args .e) _ (c .before .before .refusal .ensures) (sym (c .before .number .ensures) ∙ c .if1 .left)
 
-refusal-requires : tie.Need-refusal-requires
-refusal-requires c κs = search needs
-
-number-requires : tie.Need-number-requires
-number-requires c κs = search needs
-
 returns : tie.Need-returns
 returns c = let a = c .before .before .before .args in question-refused (a .store) (a .n) (a .e) _ (c .before .before .refusal .ensures) (λ z. c .if1 .taken (c .before .number .ensures ∙ z))
 
@@ -27,6 +21,4 @@ returns-2 : tie.Need-returns-2
 returns-2 c = let a = c .before .before .before .before .before .args in question-stands (a .store) (a .n) (a .e) (known (c .before .before)) _ (c .stands .ensures)
 
 pub question-spec : {M : Type 1} → statement M
-question-spec =
-    tie.close
-    (tie.spec refusal-requires number-requires returns stands-requires returns-2)
+question-spec = tie.close (tie.spec (λ c κs. search needs) (λ c κs. search needs) returns stands-requires returns-2)

@@ -9,15 +9,6 @@ use Rattle.asking.specs.Asking.{standing}
 use Rattle.asking.proofs.stands.Statement.{statement}
 use Rattle.asking.proofs.stands.Tie as tie
 
-reach-requires : tie.Need-reach-requires
-reach-requires c κs = search needs
-
-mul-t13 : tie.Need-mul-t13
-mul-t13 c = search needs
-
-element-copy-out-t16 : tie.Need-element-copy-out-t16
-element-copy-out-t16 c = search needs
-
 returns : tie.Need-returns
 returns c =
     let a = c .before .before .before .before .before .before .args in
@@ -31,23 +22,8 @@ returns-2 c =
     stands-falsity (a .t1) (a .e) (c .before .before .reach .result) (c .before .before .reach .ensures) (omega (arith, e, c .before .before .before .before .before .before .pre .0 .nogoods)) (c .before .if1 .left)
     ∙ ap (λ (n : ℕ). standing (a .t1) n (a .e)) (sym (c .if2 .taken))
 
-sub-i : tie.Need-sub-i
-sub-i c = search needs
-
-element-copy-out-size : tie.Need-element-copy-out-size
-element-copy-out-size c = search needs
-
-cast-size : tie.Need-cast-size
-cast-size c = search needs
-
-mul-reach : tie.Need-mul-reach
-mul-reach c = search needs
-
 reach-requires-2 : tie.Need-reach-requires-2
 reach-requires-2 c κs = let a = c .before .before .before .before .before .before .before .before .before .before .args in omega (arith, c .before .before .before .before .before .before .before .before .before .before .pre .0 .labels (a .n - 1) (omega arith))
-
-mul-t23 : tie.Need-mul-t23
-mul-t23 c = search needs
 
 add-t24 : tie.Need-add-t24
 add-t24 c = let a = c .before .before .before .before .before .before .before .before .before .before .before .before .args in omega (arith, c .before .before .before .before .before .before .before .before .before .before .before .before .pre .0 .labels (a .n - 1) (omega arith))
@@ -79,20 +55,5 @@ returns-4 c =
 pub stands-spec : {M : Type 1} → statement M
 stands-spec =
     tie.close
-    (tie.spec
-    reach-requires
-    mul-t13
-    element-copy-out-t16
-    returns
-    returns-2
-    sub-i
-    element-copy-out-size
-    cast-size
-    mul-reach
-    reach-requires-2
-    mul-t23
-    add-t24
-    mul-t25
-    element-copy-out-t28
-    returns-3
-    returns-4)
+    (tie.spec (λ c κs. search needs) (λ c. search needs) (λ c. search needs) returns returns-2 (λ c. search needs) (λ c. search needs)
+    (λ c. search needs) (λ c. search needs) reach-requires-2 (λ c. search needs) add-t24 mul-t25 element-copy-out-t28 returns-3 returns-4)

@@ -13,25 +13,11 @@ use Rattle.bare.proofs.ask_some.Tie as tie
 many : (s : tie.Start) → length (s .args .list) ≡ 256
 many s = search (needs, length-mapped)
 
-ask-first-requires : tie.Need-ask-first-requires
-ask-first-requires c κs = search needs
-
-same-length : tie.Need-same-length
-same-length c = search needs
-
 returns : tie.Need-returns
 returns c = let a = c .before .before .before .before .before .before .args in c .before .before .ask-first .ensures ∙ ap (λ (l : List Handed). askOf (a .query) l (a .out .now)) (taken-all (a .list) 256 (a .n) (many (c .before .before .before .before .before .before)) (c .before .before .before .before .if1 .taken))
-
-ask-first-requires-2 : tie.Need-ask-first-requires-2
-ask-first-requires-2 c κs = search needs
-
-same-length-2 : tie.Need-same-length-2
-same-length-2 c = search needs
 
 returns-2 : tie.Need-returns-2
 returns-2 c = c .before .before .ask-first2 .ensures
 
 pub ask-some-spec : {M : Type 1} → statement M
-ask-some-spec =
-    tie.close
-    (tie.spec ask-first-requires same-length returns ask-first-requires-2 same-length-2 returns-2)
+ask-some-spec = tie.close (tie.spec (λ c κs. search needs) (λ c. search needs) returns (λ c κs. search needs) (λ c. search needs) returns-2)

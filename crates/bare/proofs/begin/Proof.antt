@@ -10,9 +10,6 @@ use Rattle.bare.proofs.begin.Tie as tie
 few : (c : tie.Else1) → (c .before .before .args .ask .assumptions ≤ 32) × (c .before .before .args .ask .claims ≤ 96)
 few c = within (c .before .before .args .ask) (sym (c .before .over .ensures) ∙ c .if1 .left)
 
-over-requires : tie.Need-over-requires
-over-requires c κs = search needs
-
 returns : tie.Need-returns
 returns c = begun-over (c .before .before .args .ask) (c .before .before .args .items) (sym (c .before .over .ensures) ∙ c .if1 .taken)
 
@@ -28,13 +25,8 @@ add-top c = omega (arith, few (c .before .before))
 start-requires : tie.Need-start-requires
 start-requires c κs = few (c .before .before) .0
 
-sown-requires : tie.Need-sown-requires
-sown-requires c κs = search needs
-
 returns-2 : tie.Need-returns-2
 returns-2 c = begun-first (c .before .before .before .before .before .before .args .ask) (c .before .before .before .before .before .before .args .items) _ _ (sym (c .before .before .before .before .before .over .ensures) ∙ c .before .before .before .before .if1 .left) (c .before .start .ensures) (c .sown .ensures)
 
 pub begin-spec : {M : Type 1} → statement M
-begin-spec =
-    tie.close
-    (tie.spec over-requires returns cast-a cast-top add-top start-requires sown-requires returns-2)
+begin-spec = tie.close (tie.spec (λ c κs. search needs) returns cast-a cast-top add-top start-requires (λ c κs. search needs) returns-2)

@@ -17,11 +17,8 @@ array-share-prefix-supports c = let e : length (c .before .before .before .args 
 slice-aggregate-fault : tie.Need-slice-aggregate-fault
 slice-aggregate-fault c = let e : length (c .before .before .before .before .args .item .supports) ≡ 4 = search needs in sym (length-take-le _ _ (omega (arith, e, c .before .before .if1 .left)))
 
-fault-requires : tie.Need-fault-requires
-fault-requires c κs = search needs
-
 returns-2 : tie.Need-returns-2
 returns-2 c = c .fault .ensures ∙ fault-few (c .before .before .before .before .before .args .top) (c .before .before .before .before .before .args .item) (c .before .before .before .if1 .left)
 
 pub fault-spec : {M : Type 1} → statement M
-fault-spec = tie.close (tie.spec returns array-share-prefix-supports slice-aggregate-fault fault-requires returns-2)
+fault-spec = tie.close (tie.spec returns array-share-prefix-supports slice-aggregate-fault (λ c κs. search needs) returns-2)

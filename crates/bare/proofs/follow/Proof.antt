@@ -7,9 +7,6 @@ use borrow.Author.Needs.{needs}
 use Rattle.bare.proofs.follow.Statement.{statement}
 use Rattle.bare.proofs.follow.Tie as tie
 
-cast-n : tie.Need-cast-n
-cast-n c = search needs
-
 array-read-old : tie.Need-array-read-old
 array-read-old c = let a = c .before .before .args in let e : length (a .chase .marks) ≡ 129 = search needs in omega (arith, e, low (a .chase .top) (a .item) (c .before .before .pre .1), c .before .before .pre .0 .top)
 
@@ -18,9 +15,6 @@ mark-requires c κs = (c .before .before .pre .0 .top, c .before .before .pre .0
 
 array-write-marks : tie.Need-array-write-marks
 array-write-marks c = let a = c .before .before .before .args in let e : length (a .chase .marks) ≡ 129 = search needs in omega (arith, e, low (a .chase .top) (a .item) (c .before .before .before .pre .1), c .before .before .before .pre .0 .top)
-
-fresh-requires : tie.Need-fresh-requires
-fresh-requires c κs = search needs
 
 onward-requires : tie.Need-onward-requires
 onward-requires c κs = c .before .before .before .before .pre .0
@@ -32,4 +26,6 @@ returns c =
     follow-is (a .chase) (a .item) _ _ _ (omega (arith, e, low (a .chase .top) (a .item) (c .before .before .before .before .before .pre .1), c .before .before .before .before .before .pre .0 .top)) (c .before .before .mark .ensures) (c .before .fresh .ensures) (c .onward .ensures)
 
 pub follow-spec : {M : Type 1} → statement M
-follow-spec = tie.close (tie.spec cast-n array-read-old mark-requires array-write-marks fresh-requires onward-requires returns)
+follow-spec =
+    tie.close
+    (tie.spec (λ c. search needs) array-read-old mark-requires array-write-marks (λ c κs. search needs) onward-requires returns)

@@ -3,8 +3,5 @@ use mathlib.Core.Path.{refl}
 use Rattle.bare.proofs.halt.Statement.{statement}
 use Rattle.bare.proofs.halt.Tie as tie
 
-returns : tie.Need-returns
-returns c = refl
-
 pub halt-spec : {M : Type 1} → statement M
-halt-spec = tie.close (tie.spec returns)
+halt-spec = tie.close (tie.spec (λ c. refl))

@@ -19,9 +19,6 @@ slice-aggregate-canonical c = let a = c .before .before .args in let e : length 
 canonical-requires : tie.Need-canonical-requires
 canonical-requires c κs = (c .before .before .pre .0, sound (c .before .before .args .top) (c .before .before .args .item) (c .before .before .pre .2))
 
-slice-aggregate-mark : tie.Need-slice-aggregate-mark
-slice-aggregate-mark c = search needs
-
 add-mark : tie.Need-add-mark
 add-mark c = omega (arith, c .before .before .before .before .pre .1)
 
@@ -32,4 +29,6 @@ returns : tie.Need-returns
 returns c = let a = c .before .before .before .before .before .args in c .mark .ensures ∙ ap (markBy (a .k) (a .k + 1) (a .t3)) (means (a .top) (a .item) (c .before .before .before .before .before .pre .2) _ (c .before .before .canonical .ensures))
 
 pub mark-spec : {M : Type 1} → statement M
-mark-spec = tie.close (tie.spec array-share-prefix-supports slice-aggregate-canonical canonical-requires slice-aggregate-mark add-mark mark-requires returns)
+mark-spec =
+    tie.close
+    (tie.spec array-share-prefix-supports slice-aggregate-canonical canonical-requires (λ c. search needs) add-mark mark-requires returns)

@@ -9,9 +9,6 @@ use Rattle.bare.proofs.onward.Tie as tie
 add-at : tie.Need-add-at
 add-at c = let p = c .before .pre .more in search needs
 
-again-requires : tie.Need-again-requires
-again-requires c κs = search needs
-
 add-t7 : tie.Need-add-t7
 add-t7 c = omega (arith, c .before .before .before .before .pre .low)
 
@@ -22,4 +19,4 @@ returns-2 : tie.Need-returns-2
 returns-2 c = onward-next (c .before .before .before .args .chase) (c .before .before .before .args .marks) (c .before .before .before .args .new) (sym (c .before .again .ensures) ∙ c .if1 .left)
 
 pub onward-spec : {M : Type 1} → statement M
-onward-spec = tie.close (tie.spec add-at again-requires add-t7 returns returns-2)
+onward-spec = tie.close (tie.spec add-at (λ c κs. search needs) add-t7 returns returns-2)

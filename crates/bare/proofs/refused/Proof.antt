@@ -4,15 +4,6 @@ use borrow.Author.Needs.{needs}
 use Rattle.bare.proofs.refused.Statement.{statement}
 use Rattle.bare.proofs.refused.Tie as tie
 
-enum-told : tie.Need-enum-told
-enum-told c = search needs
-
-enum-told-2 : tie.Need-enum-told-2
-enum-told-2 c = search needs
-
-enum-told-3 : tie.Need-enum-told-3
-enum-told-3 c = search needs
-
 returns : tie.Need-returns
 returns c = refused-word (c .before .before .args .what) (c .before .before .args .reply) _ (c .enum-told .given .1)
 
@@ -23,4 +14,4 @@ returns-3 : tie.Need-returns-3
 returns-3 c = refused-lines (c .before .before .args .what) (c .before .before .args .reply) (c .enum-told3 .given .1)
 
 pub refused-spec : {M : Type 1} → statement M
-refused-spec = tie.close (tie.spec enum-told enum-told-2 enum-told-3 returns returns-2 returns-3)
+refused-spec = tie.close (tie.spec (λ c. search needs) (λ c. search needs) (λ c. search needs) returns returns-2 returns-3)

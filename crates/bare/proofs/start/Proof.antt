@@ -6,9 +6,6 @@ use borrow.Author.Needs.{needs}
 use Rattle.bare.proofs.start.Statement.{statement}
 use Rattle.bare.proofs.start.Tie as tie
 
-low-requires : tie.Need-low-requires
-low-requires c κs = search needs
-
 returns : tie.Need-returns
 returns c = sym (ap (λ (b : Bool). choose b (c .before .before .args .e) 0) (sym (c .before .low .ensures) ∙ c .if1 .taken))
 
@@ -16,4 +13,4 @@ returns-2 : tie.Need-returns-2
 returns-2 c = sym (ap (λ (b : Bool). choose b (c .before .before .args .e) 0) (sym (c .before .low .ensures) ∙ c .if1 .left))
 
 pub start-spec : {M : Type 1} → statement M
-start-spec = tie.close (tie.spec low-requires returns returns-2)
+start-spec = tie.close (tie.spec (λ c κs. search needs) returns returns-2)

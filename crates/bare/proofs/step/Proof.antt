@@ -6,15 +6,6 @@ use borrow.Author.Needs.{needs}
 use Rattle.bare.proofs.step.Statement.{statement}
 use Rattle.bare.proofs.step.Tie as tie
 
-fault-requires : tie.Need-fault-requires
-fault-requires c κs = search needs
-
-number-requires : tie.Need-number-requires
-number-requires c κs = search needs
-
-halt-requires : tie.Need-halt-requires
-halt-requires c κs = search needs
-
 returns : tie.Need-returns
 returns c = c .halt .ensures ∙ step-halt (c .before .before .before .before .args .chase) (c .before .before .before .before .args .item) _ (c .before .before .before .fault .ensures) (λ z. c .before .if1 .taken (c .before .before .number .ensures ∙ z))
 
@@ -25,4 +16,4 @@ returns-2 : tie.Need-returns-2
 returns-2 c = c .follow .ensures ∙ step-follow (c .before .before .before .before .args .chase) (c .before .before .before .before .args .item) _ (c .before .before .before .fault .ensures) (sym (c .before .before .number .ensures) ∙ c .before .if1 .left)
 
 pub step-spec : {M : Type 1} → statement M
-step-spec = tie.close (tie.spec fault-requires number-requires halt-requires returns follow-requires returns-2)
+step-spec = tie.close (tie.spec (λ c κs. search needs) (λ c κs. search needs) (λ c κs. search needs) returns follow-requires returns-2)

@@ -5,20 +5,8 @@ use Rattle.casefile.proofs.Loading.{load-judged, load-refused, open-not
 use Rattle.casefile.proofs.load.Statement.{statement}
 use Rattle.casefile.proofs.load.Tie as tie
 
-parse-requires : tie.Need-parse-requires
-parse-requires c κs = search needs
-
-number-requires : tie.Need-number-requires
-number-requires c κs = search needs
-
-open-requires : tie.Need-open-requires
-open-requires c κs = search needs
-
 returns : tie.Need-returns
 returns c = load-refused _ _ (c .before .before .before .before .parse .ensures) (λ e. c .before .before .if1 .taken (c .before .before .before .number .ensures ∙ e)) _ (open-nothing _ (c .before .«open» .ensures))
-
-judged-requires : tie.Need-judged-requires
-judged-requires c κs = search needs
 
 returns-2 : tie.Need-returns-2
 returns-2 c = load-judged _ _ (c .before .before .before .before .before .parse .ensures) (sym (c .before .before .before .before .number .ensures) ∙ c .before .before .before .if1 .left) _ (c .before .judged .ensures)
@@ -26,4 +14,4 @@ returns-2 c = load-judged _ _ (c .before .before .before .before .before .parse 
 pub load-spec : {M : Type 1} → statement M
 load-spec =
     tie.close
-    (tie.spec parse-requires number-requires open-requires returns judged-requires returns-2)
+    (tie.spec (λ c κs. search needs) (λ c κs. search needs) (λ c κs. search needs) returns (λ c κs. search needs) returns-2)

@@ -5,18 +5,6 @@ use Rattle.casefile.proofs.Midway.{parse-refused, parse-records, parse-
 use Rattle.casefile.proofs.parse.Statement.{statement}
 use Rattle.casefile.proofs.parse.Tie as tie
 
-header-requires : tie.Need-header-requires
-header-requires c κs = search needs
-
-enum-known-reply : tie.Need-enum-known-reply
-enum-known-reply c = search needs
-
-refused-requires : tie.Need-refused-requires
-refused-requires c κs = search needs
-
-enum-known-assumptions : tie.Need-enum-known-assumptions
-enum-known-assumptions c = search needs
-
 records-requires : tie.Need-records-requires
 records-requires c κs = parse-ready _ _ _ _ _ (sym (c .before .before .before .header .ensures) ∙ c .before .assumptions .given .1)
 
@@ -29,11 +17,4 @@ returns-2 c = c .records .ensures ∙ parse-records _ _ _ _ _ (sym (c .before .b
 pub parse-spec : {M : Type 1} → statement M
 parse-spec =
     tie.close
-    (tie.spec
-    header-requires
-    enum-known-reply
-    refused-requires
-    enum-known-assumptions
-    records-requires
-    returns
-    returns-2)
+    (tie.spec (λ c κs. search needs) (λ c. search needs) (λ c κs. search needs) (λ c. search needs) records-requires returns returns-2)

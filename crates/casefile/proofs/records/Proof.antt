@@ -16,23 +16,14 @@ abbrev μ-loop : tie.MeasureT-loop
 add-top : tie.Need-add-top Inv-loop μ-loop
 add-top c = omega (arith, c .before .pre .1)
 
-nothing-requires : tie.Need-nothing-requires Inv-loop μ-loop
-nothing-requires c κs = search needs
-
 loop-holds : tie.Need-loop-holds Inv-loop μ-loop
 loop-holds c = midway-none _ _ _ _ _ _ (c .nothing .ensures) (c .before .before .pre .0)
 
 record-requires : tie.Need-record-requires Inv-loop μ-loop
 record-requires c κs = c .before .before .before .before .pre .1
 
-number-requires : tie.Need-number-requires Inv-loop μ-loop
-number-requires c κs = search needs
-
 add-refused : tie.Need-add-refused Inv-loop μ-loop
 add-refused c = omega (arith, c .before .before .before .before .before .before .before .pre .2, c .before .before .before .loop-test .taken)
-
-refused-requires : tie.Need-refused-requires Inv-loop μ-loop
-refused-requires c κs = search needs
 
 returns : tie.Need-returns Inv-loop μ-loop
 returns c = c .refused .ensures ∙ midway-bad _ _ _ _ _ _ _ _ (c .before .before .before .before .before .loop .inv) (c .before .before .before .before .loop-test .taken) _ (c .before .before .before .«record» .ensures) (λ e. c .before .if1 .taken (c .before .before .number .ensures ∙ e))
@@ -43,14 +34,8 @@ with-requires c κs = midway-room _ _ _ _ _ _ _ _ (c .before .before .before .be
 add-r : tie.Need-add-r Inv-loop μ-loop
 add-r c = omega (arith, c .before .before .before .before .before .before .before .before .before .pre .2, c .before .before .before .before .before .loop-test .taken)
 
-loop-less : tie.Need-loop-less Inv-loop μ-loop
-loop-less c = omega arith
-
 loop-again : tie.Need-loop-again Inv-loop μ-loop
 loop-again c = midway-more _ _ _ _ _ _ _ _ (c .before .before .before .before .before .before .loop .inv) (c .before .before .before .before .before .loop-test .taken) _ (c .before .before .before .before .«record» .ensures) (sym (c .before .before .before .number .ensures) ∙ c .before .before .if1 .left) (c .before .before .before .before .before .before .before .before .before .pre .2) _ (c .with .ensures)
-
-refused-requires-2 : tie.Need-refused-requires-2 Inv-loop μ-loop
-refused-requires-2 c κs = search needs
 
 returns-2 : tie.Need-returns-2 Inv-loop μ-loop
 returns-2 c = c .refused2 .ensures ∙ midway-after _ _ _ _ _ _ _ _ (c .before .before .before .loop .inv) (c .before .before .loop-test .left) (c .before .if2 .taken)
@@ -61,21 +46,5 @@ returns-3 c = midway-all _ _ _ _ _ _ _ _ (c .before .before .loop .inv) (c .befo
 pub records-spec : {M : Type 1} → statement M
 records-spec =
     tie.close
-    (tie.spec
-    Inv-loop
-    μ-loop
-    add-top
-    nothing-requires
-    loop-holds
-    record-requires
-    number-requires
-    add-refused
-    refused-requires
-    returns
-    with-requires
-    add-r
-    loop-less
-    loop-again
-    refused-requires-2
-    returns-2
-    returns-3)
+    (tie.spec Inv-loop μ-loop add-top (λ c κs. search needs) loop-holds record-requires (λ c κs. search needs) add-refused
+    (λ c κs. search needs) returns with-requires add-r (λ c. omega arith) loop-again (λ c κs. search needs) returns-2 returns-3)

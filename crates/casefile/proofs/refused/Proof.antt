@@ -5,11 +5,8 @@ use Rattle.rules.specs.declared.Held.{Held}
 use Rattle.casefile.proofs.refused.Statement.{statement}
 use Rattle.casefile.proofs.refused.Tie as tie
 
-nothing-requires : tie.Need-nothing-requires
-nothing-requires c κs = search needs
-
 returns : tie.Need-returns
 returns c = ap (λ (h : Held). record { reply = c .before .args .reply; «record» = c .before .args .at; held = h }) (c .nothing .ensures)
 
 pub refused-spec : {M : Type 1} → statement M
-refused-spec = tie.close (tie.spec nothing-requires returns)
+refused-spec = tie.close (tie.spec (λ c κs. search needs) returns)

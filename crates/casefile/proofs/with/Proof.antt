@@ -12,11 +12,8 @@ holds-requires c κs = (c .pre .0, fits-elim _ _ (c .pre .2) .few)
 returns : tie.Need-returns
 returns c = with-held _ _ (c .before .before .pre .0) (sym (c .before .holds .ensures) ∙ c .if1 .taken)
 
-insert-requires : tie.Need-insert-requires
-insert-requires c κs = search needs
-
 returns-2 : tie.Need-returns-2
 returns-2 c = c .insert .ensures ∙ with-new (c .before .before .before .args .held) _ (sym (c .before .before .holds .ensures) ∙ c .before .if1 .left)
 
 pub with-spec : {M : Type 1} → statement M
-with-spec = tie.close (tie.spec holds-requires returns insert-requires returns-2)
+with-spec = tie.close (tie.spec holds-requires returns (λ c κs. search needs) returns-2)

@@ -13,15 +13,6 @@ told c = record { fault = c .before .fault .ensures; number = c .number .ensures
 placed : (c : tie.After-canonical) → let a = c .before .before .before .before .before .before .args in Item (a .held) (a .consequent) (a .supports .now) (c .canonical .result)
 placed c = let a = c .before .before .before .before .before .before .args in item (a .held) (a .consequent) (a .supports .now) (told (c .before .before)) (c .before .if1 .left) (c .canonical .result) (c .canonical .ensures)
 
-add-top : tie.Need-add-top
-add-top c = search needs
-
-fault-requires : tie.Need-fault-requires
-fault-requires c κs = search needs
-
-number-requires : tie.Need-number-requires
-number-requires c κs = search needs
-
 returns : tie.Need-returns
 returns c = let a = c .before .before .before .before .before .args in more-fault (a .held) (a .consequent) (a .supports .now) (told (c .before)) (c .if1 .taken)
 
@@ -46,14 +37,5 @@ returns-4 c = let a = c .before .before .before .before .before .before .before 
 pub more-spec : {M : Type 1} → statement M
 more-spec =
     tie.close
-    (tie.spec
-    add-top
-    fault-requires
-    number-requires
-    returns
-    canonical-requires
-    holds-requires
-    returns-2
-    returns-3
-    insert-requires
-    returns-4)
+    (tie.spec (λ c. search needs) (λ c κs. search needs) (λ c κs. search needs) returns canonical-requires holds-requires returns-2
+    returns-3 insert-requires returns-4)

@@ -11,20 +11,11 @@ use Rattle.door.proofs.named.Reads as named-reads
 use Rattle.replies.proofs.number.Reads as number-reads
 
 -- src/lib.rt:50:16
-number-requires : tie.Need-number-requires
-number-requires c κs = tt
-
 -- src/lib.rt:50:16
-cast-t5 : tie.Need-cast-t5
-cast-t5 c = search needs
-
 -- src/lib.rt:51:16
-named-requires : tie.Need-named-requires
-named-requires c κs = tt
-
 -- src/lib.rt:46:1
 returns : tie.Need-returns
 returns c = let a = c .before .before .args in ap (λ (n : ℕ). record { reply = n; named = c .named .result; «record» = a .at; store = a .store }) (c .before .number .ensures) ∙ ap (λ (n : ℕ). record { reply = numberOf (a .reply); named = n; «record» = a .at; store = a .store }) (c .named .ensures)
 
 pub keep-spec : {M : Type 1} → statement M
-keep-spec = tie.close (tie.spec number-requires cast-t5 named-requires returns)
+keep-spec = tie.close (tie.spec (λ c κs. tt) (λ c. search needs) (λ c κs. tt) returns)

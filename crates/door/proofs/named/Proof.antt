@@ -9,13 +9,7 @@ use Rattle.door.proofs.named.Reads as reads
 use Rattle.door.proofs.named.Lts as lts
 
 -- src/lib.rt:39:25
-enum-known-reply : tie.Need-enum-known-reply
-enum-known-reply c = search needs
-
 -- src/lib.rt:40:16
-cast-result : tie.Need-cast-result
-cast-result c = search needs
-
 -- src/lib.rt:40:9
 returns : tie.Need-returns
 returns c = ap namedOr0 (sym (c .before .reply .given .1))
@@ -25,4 +19,4 @@ returns-2 : tie.Need-returns-2
 returns-2 c = unnamed (c .before .args .reply) (c .match .keys2)
 
 pub named-spec : {M : Type 1} → statement M
-named-spec = tie.close (tie.spec enum-known-reply cast-result returns returns-2)
+named-spec = tie.close (tie.spec (λ c. search needs) (λ c. search needs) returns returns-2)

@@ -10,29 +10,11 @@ use Rattle.door.proofs.plainly.Lts as lts
 use Rattle.replies.proofs.number.Reads as number-reads
 
 -- src/lib.rt:98:32
-enum-told : tie.Need-enum-told
-enum-told c = search needs
-
 -- src/lib.rt:99:29
-enum-told-2 : tie.Need-enum-told-2
-enum-told-2 c = search needs
-
 -- src/lib.rt:100:31
-enum-told-3 : tie.Need-enum-told-3
-enum-told-3 c = search needs
-
 -- src/lib.rt:101:24
-enum-known-word : tie.Need-enum-known-word
-enum-known-word c = search needs
-
 -- src/lib.rt:102:20
-number-requires : tie.Need-number-requires
-number-requires c κs = tt
-
 -- src/lib.rt:102:20
-cast-t5 : tie.Need-cast-t5
-cast-t5 c = search needs
-
 -- src/lib.rt:94:1
 returns : tie.Need-returns
 returns c = ap plainlyBy (sym (c .enum-told .given .1))
@@ -52,14 +34,5 @@ returns-4 c = ap (λ (n : ℕ). told n 0) (c .number .ensures) ∙ ap plainlyBy 
 pub plainly-spec : {M : Type 1} → statement M
 plainly-spec =
     tie.close
-    (tie.spec
-    enum-told
-    enum-told-2
-    enum-told-3
-    enum-known-word
-    number-requires
-    cast-t5
-    returns
-    returns-2
-    returns-3
-    returns-4)
+    (tie.spec (λ c. search needs) (λ c. search needs) (λ c. search needs) (λ c. search needs) (λ c κs. tt) (λ c. search needs) returns
+    returns-2 returns-3 returns-4)

@@ -10,21 +10,9 @@ use Rattle.door.proofs.written.Lts as lts
 use Rattle.replies.proofs.number.Reads as number-reads
 
 -- src/texts.rt:15:25
-enum-known-answer : tie.Need-enum-known-answer
-enum-known-answer c = search needs
-
 -- src/texts.rt:16:26
-enum-known-answer-2 : tie.Need-enum-known-answer-2
-enum-known-answer-2 c = search needs
-
 -- src/texts.rt:17:20
-number-requires : tie.Need-number-requires
-number-requires c κs = tt
-
 -- src/texts.rt:17:20
-cast-t6 : tie.Need-cast-t6
-cast-t6 c = search needs
-
 -- src/texts.rt:11:1
 returns : tie.Need-returns
 returns c = ap wroteBy (sym (c .before .answer .given .1))
@@ -34,6 +22,4 @@ returns-2 : tie.Need-returns-2
 returns-2 c = ap (λ (n : ℕ). told n 0) (c .number .ensures) ∙ ap wroteBy (sym (c .before .before .answer2 .given .1))
 
 pub written-spec : {M : Type 1} → statement M
-written-spec =
-    tie.close
-    (tie.spec enum-known-answer enum-known-answer-2 number-requires cast-t6 returns returns-2)
+written-spec = tie.close (tie.spec (λ c. search needs) (λ c. search needs) (λ c κs. tt) (λ c. search needs) returns returns-2)

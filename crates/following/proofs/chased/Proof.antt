@@ -38,9 +38,6 @@ mul-entry c = omega (arith, c .if1 .left, right-elim _ (c .before .before .befor
 element-copy-out-entry : tie.Need-element-copy-out-entry Inv-loop μ-loop
 element-copy-out-entry c = omega (arith, c .if1 .left, right-elim _ (c .before .before .before .before .before .pre .0 .right) .few, right-elim _ (c .before .before .before .before .before .pre .0 .right) .long)
 
-cast-n : tie.Need-cast-n Inv-loop μ-loop
-cast-n c = search needs
-
 slice-aggregate-mark : tie.Need-slice-aggregate-mark Inv-loop μ-loop
 slice-aggregate-mark c = sym (c .before .before .before .before .before .before .loop .inv .1)
 
@@ -79,22 +76,5 @@ returns-3 c = c .before .loop .inv .2
 pub chased-spec : {M : Type 1} → statement M
 chased-spec =
     tie.close
-    (tie.spec
-    Inv-loop
-    μ-loop
-    loop-holds
-    shared-slice-read-j
-    cast-j
-    returns
-    mul-entry
-    element-copy-out-entry
-    cast-n
-    slice-aggregate-mark
-    mark-requires
-    array-read-if2
-    returns-2
-    array-write-marks
-    add-k
-    loop-less
-    loop-again
-    returns-3)
+    (tie.spec Inv-loop μ-loop loop-holds shared-slice-read-j cast-j returns mul-entry element-copy-out-entry (λ c. search needs)
+    slice-aggregate-mark mark-requires array-read-if2 returns-2 array-write-marks add-k loop-less loop-again returns-3)

@@ -5,15 +5,9 @@ use Rattle.theory.specs.Sets.{together}
 use Rattle.following.proofs.from_all.Statement.{statement}
 use Rattle.following.proofs.from_all.Tie as tie
 
-all-requires : tie.Need-all-requires
-all-requires c κs = search needs
-
-closed-requires : tie.Need-closed-requires
-closed-requires c κs = search needs
-
 returns : tie.Need-returns
 unfolding fromAll
 returns c = c .closed .ensures (together (c .before .before .args .held .assumptions)) (c .before .all .ensures)
 
 pub from-all-spec : {M : Type 1} → statement M
-from-all-spec = tie.close (tie.spec all-requires closed-requires returns)
+from-all-spec = tie.close (tie.spec (λ c κs. search needs) (λ c κs. search needs) returns)

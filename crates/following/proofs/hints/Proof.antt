@@ -25,9 +25,6 @@ mul-entry c = omega (arith, right-elim _ (c .before .before .pre .right) .few)
 element-copy-out-entry : tie.Need-element-copy-out-entry Inv-loop μ-loop
 element-copy-out-entry c = omega (arith, right-elim _ (c .before .before .pre .right) .few, right-elim _ (c .before .before .pre .right) .long)
 
-element-copy-out-n : tie.Need-element-copy-out-n Inv-loop μ-loop
-element-copy-out-n c = search needs
-
 cast-n : tie.Need-cast-n Inv-loop μ-loop
 cast-n c = omega (arith, entry-first _ (c .before .before .before .before .pre) (c .before .before .before .loop .j) (c .before .before .loop-test .taken))
 
@@ -46,23 +43,8 @@ loop-less c = omega (arith, c .before .before .loop-test .taken)
 loop-again : tie.Need-loop-again Inv-loop μ-loop
 loop-again c = (omega (arith, c .before .before .loop-test .taken), length-set (c .before .before .before .loop .places) _ _ ∙ c .before .before .before .loop .inv .1)
 
-returns : tie.Need-returns Inv-loop μ-loop
-returns c = search needs
-
 pub hints-spec : {M : Type 1} → statement M
 hints-spec =
     tie.close
-    (tie.spec
-    Inv-loop
-    μ-loop
-    loop-holds
-    mul-entry
-    element-copy-out-entry
-    element-copy-out-n
-    cast-n
-    cast-places
-    array-write-places
-    add-j
-    loop-less
-    loop-again
-    returns)
+    (tie.spec Inv-loop μ-loop loop-holds mul-entry element-copy-out-entry (λ c. search needs) cast-n cast-places array-write-places add-j
+    loop-less loop-again (λ c. search needs))

@@ -17,14 +17,8 @@ Inv-loop held places marks₀ n₀ marks n = Hurried (saidBy held) marks₀ mark
 abbrev μ-loop : tie.MeasureT-loop
 μ-loop held places marks₀ n₀ marks n = (limits .numbers + 1) - n
 
-hints-requires : tie.Need-hints-requires Inv-loop μ-loop
-hints-requires c κs = search needs
-
 loop-holds : tie.Need-loop-holds Inv-loop μ-loop
 loop-holds c = hurried-none _ _
-
-slice-aggregate-chased : tie.Need-slice-aggregate-chased Inv-loop μ-loop
-slice-aggregate-chased c = search needs
 
 chased-requires : tie.Need-chased-requires Inv-loop μ-loop
 chased-requires c κs = (c .before .before .before .before .pre, search needs, omega (arith, c .before .loop-test .taken))
@@ -42,4 +36,6 @@ returns : tie.Need-returns Inv-loop μ-loop
 returns c = c .before .loop .inv
 
 pub hurried-spec : {M : Type 1} → statement M
-hurried-spec = tie.close (tie.spec Inv-loop μ-loop hints-requires loop-holds slice-aggregate-chased chased-requires add-n loop-less loop-again returns)
+hurried-spec =
+    tie.close
+    (tie.spec Inv-loop μ-loop (λ c κs. search needs) loop-holds (λ c. search needs) chased-requires add-n loop-less loop-again returns)

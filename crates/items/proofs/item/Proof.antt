@@ -10,15 +10,6 @@ use Rattle.rules.specs.declared.Entry.{Entry}
 use Rattle.items.proofs.item.Statement.{statement}
 use Rattle.items.proofs.item.Tie as tie
 
-supports-requires : tie.Need-supports-requires
-supports-requires c κs = search needs
-
-number-requires : tie.Need-number-requires
-number-requires c κs = search needs
-
-unread-requires : tie.Need-unread-requires
-unread-requires c κs = search needs
-
 returns : tie.Need-returns
 returns c = c .unread .ensures ∙ item-unread _ _ _ _ _ _ (supports-fault _ _ (c .before .before .before .before .before .pre .1) _ _ (c .before .before .before .supports .ensures) (λ e. c .before .if1 .taken (c .before .before .number .ensures ∙ e)))
 
@@ -27,15 +18,6 @@ array-share-prefix-numbers c = omega (arith, c .before .before .before .before .
 
 slice-aggregate-list : tie.Need-slice-aggregate-list
 slice-aggregate-list c = sym (length-take-le _ _ (omega (arith, c .before .before .before .before .before .before .pre .1, supports-long _ _ (c .before .before .before .before .before .before .pre .1) _ _ (c .before .before .before .before .supports .ensures))))
-
-fault-requires : tie.Need-fault-requires
-fault-requires c κs = search needs
-
-number-requires-2 : tie.Need-number-requires-2
-number-requires-2 c κs = search needs
-
-unread-requires-2 : tie.Need-unread-requires-2
-unread-requires-2 c κs = search needs
 
 returns-2 : tie.Need-returns-2
 returns-2 c = c .unread2 .ensures ∙ item-faulty _ _ _ _ _ _ (c .before .before .before .before .before .before .before .before .supports .result .next) (supports-read _ _ (c .before .before .before .before .before .before .before .before .before .before .pre .1) _ _ (c .before .before .before .before .before .before .before .before .supports .ensures) (c .before .before .before .before .before .before .before .before .before .before .pre .2) (sym (c .before .before .before .before .before .before .before .number .ensures) ∙ c .before .before .before .before .before .before .if1 .left) .0) _ (c .before .before .before .fault .ensures) (λ e. c .before .if2 .taken (c .before .before .number2 .ensures ∙ e))
@@ -49,16 +31,5 @@ returns-3 c = let s = supports-read _ _ (c .before .before .before .before .befo
 pub item-spec : {M : Type 1} → statement M
 item-spec =
     tie.close
-    (tie.spec
-    supports-requires
-    number-requires
-    unread-requires
-    returns
-    array-share-prefix-numbers
-    slice-aggregate-list
-    fault-requires
-    number-requires-2
-    unread-requires-2
-    returns-2
-    canonical-requires
-    returns-3)
+    (tie.spec (λ c κs. search needs) (λ c κs. search needs) (λ c κs. search needs) returns array-share-prefix-numbers slice-aggregate-list
+    (λ c κs. search needs) (λ c κs. search needs) (λ c κs. search needs) returns-2 canonical-requires returns-3)

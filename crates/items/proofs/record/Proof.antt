@@ -6,35 +6,8 @@ use Rattle.numbers.proofs.Numbers.{pair-first, pair-second, value-from}
 use Rattle.items.proofs.record.Statement.{statement}
 use Rattle.items.proofs.record.Tie as tie
 
-two-requires : tie.Need-two-requires
-two-requires c κs = search needs
-
-enum-known-first : tie.Need-enum-known-first
-enum-known-first c = search needs
-
-unread-requires : tie.Need-unread-requires
-unread-requires c κs = search needs
-
-enum-known-first-2 : tie.Need-enum-known-first-2
-enum-known-first-2 c = search needs
-
-enum-known-second : tie.Need-enum-known-second
-enum-known-second c = search needs
-
-unread-requires-2 : tie.Need-unread-requires-2
-unread-requires-2 c κs = search needs
-
-enum-known-second-2 : tie.Need-enum-known-second-2
-enum-known-second-2 c = search needs
-
-unread-requires-3 : tie.Need-unread-requires-3
-unread-requires-3 c κs = search needs
-
 returns : tie.Need-returns
 returns c = c .unread3 .ensures ∙ record-many _ _ _ _ _ (pair-first _ _ _ (c .before .before .before .before .before .before .before .before .two .ensures) (c .before .before .before .before .before .before .first2 .given .1)) _ _ (pair-second _ _ _ (c .before .before .before .before .before .before .before .before .two .ensures) _ _ (c .before .before .before .before .before .before .first2 .given .1) (c .before .before .before .second2 .given .1)) (c .before .if1 .taken)
-
-cast-item : tie.Need-cast-item
-cast-item c = search needs
 
 item-requires : tie.Need-item-requires
 item-requires c κs = (c .before .before .before .before .before .before .before .before .before .pre, c .if1 .left, value-from _ _ _ _ (pair-second _ _ _ (c .before .before .before .before .before .before .before .two .ensures) _ _ (c .before .before .before .before .before .first2 .given .1) (c .before .before .second2 .given .1)) .1)
@@ -51,18 +24,6 @@ returns-4 c = c .item .ensures ∙ record-rest _ _ _ _ _ (pair-first _ _ _ (c .b
 pub record-spec : {M : Type 1} → statement M
 record-spec =
     tie.close
-    (tie.spec
-    two-requires
-    enum-known-first
-    unread-requires
-    enum-known-first-2
-    enum-known-second
-    unread-requires-2
-    enum-known-second-2
-    unread-requires-3
-    returns
-    cast-item
-    item-requires
-    returns-2
-    returns-3
+    (tie.spec (λ c κs. search needs) (λ c. search needs) (λ c κs. search needs) (λ c. search needs) (λ c. search needs)
+    (λ c κs. search needs) (λ c. search needs) (λ c κs. search needs) returns (λ c. search needs) item-requires returns-2 returns-3
     returns-4)

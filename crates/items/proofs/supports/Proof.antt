@@ -16,29 +16,11 @@ abbrev μ-loop : tie.MeasureT-loop
 loop-holds : tie.Need-loop-holds Inv-loop μ-loop
 loop-holds c = partly-none _ _ _ (c .before .pre .1)
 
-read-requires : tie.Need-read-requires Inv-loop μ-loop
-read-requires c κs = search needs
-
-enum-known-reply : tie.Need-enum-known-reply Inv-loop μ-loop
-enum-known-reply c = search needs
-
 returns : tie.Need-returns Inv-loop μ-loop
 returns c = partly-bad _ _ _ _ _ _ (c .before .before .before .before .before .loop .inv) (c .before .before .before .before .loop-test .taken) _ (sym (c .before .before .before .read .ensures) ∙ c .before .reply .given .1)
 
-enum-known-n : tie.Need-enum-known-n Inv-loop μ-loop
-enum-known-n c = search needs
-
-mul-numbers : tie.Need-mul-numbers Inv-loop μ-loop
-mul-numbers c = omega arith
-
 array-write-numbers : tie.Need-array-write-numbers Inv-loop μ-loop
 array-write-numbers c = omega (arith, c .before .before .before .before .before .before .before .pre .0)
-
-add-i : tie.Need-add-i Inv-loop μ-loop
-add-i c = omega arith
-
-loop-less : tie.Need-loop-less Inv-loop μ-loop
-loop-less c = omega arith
 
 loop-again : tie.Need-loop-again Inv-loop μ-loop
 loop-again c = partly-more _ _ _ _ _ _ (c .before .before .before .before .before .loop .inv) (c .before .before .before .before .loop-test .taken) (c .before .before .before .before .before .before .before .pre .0) _ _ (sym (c .before .before .before .read .ensures) ∙ c .before .n .given .1)
@@ -49,17 +31,5 @@ returns-2 c = partly-all _ _ _ _ _ _ (c .before .loop .inv) (c .loop-test .left)
 pub supports-spec : {M : Type 1} → statement M
 supports-spec =
     tie.close
-    (tie.spec
-    Inv-loop
-    μ-loop
-    loop-holds
-    read-requires
-    enum-known-reply
-    returns
-    enum-known-n
-    mul-numbers
-    array-write-numbers
-    add-i
-    loop-less
-    loop-again
-    returns-2)
+    (tie.spec Inv-loop μ-loop loop-holds (λ c κs. search needs) (λ c. search needs) returns (λ c. search needs) (λ c. omega arith)
+    array-write-numbers (λ c. omega arith) (λ c. omega arith) loop-again returns-2)

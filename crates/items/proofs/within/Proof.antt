@@ -13,14 +13,8 @@ returns-2 c = claims-over _ _ _ _ (c .before .if1 .left) (c .if2 .taken)
 returns-3 : tie.Need-returns-3
 returns-3 c = records-over _ _ _ _ (c .before .before .if1 .left) (c .before .if2 .left) (c .if3 .taken)
 
-cast-t9 : tie.Need-cast-t9
-cast-t9 c = search needs
-
-cast-t10 : tie.Need-cast-t10
-cast-t10 c = search needs
-
 returns-4 : tie.Need-returns-4
 returns-4 c = counts-within _ _ _ _ (c .before .before .if1 .left) (c .before .if2 .left) (c .if3 .left)
 
 pub within-spec : {M : Type 1} → statement M
-within-spec = tie.close (tie.spec returns returns-2 returns-3 cast-t9 cast-t10 returns-4)
+within-spec = tie.close (tie.spec returns returns-2 returns-3 (λ c. search needs) (λ c. search needs) returns-4)

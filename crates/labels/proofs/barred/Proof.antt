@@ -12,14 +12,8 @@ use borrow.Author.Needs.{needs}
 use Rattle.labels.proofs.barred.Statement.{statement}
 use Rattle.labels.proofs.barred.Tie as tie
 
-first-within-requires : tie.Need-first-within-requires
-first-within-requires c κs = search needs
-
 returns : tie.Need-returns
 returns c = bar-struck _ _ (c .before .before .before .before .before .args .e) _ (c .before .before .first-within .ensures) (c .before .if1 .taken)
-
-first-within-requires-2 : tie.Need-first-within-requires-2
-first-within-requires-2 c κs = search needs
 
 returns-2 : tie.Need-returns-2
 returns-2 c =
@@ -32,32 +26,8 @@ returns-3 c =
     let a = c .before .before .before .before .before .before .before .args in
     bar-none _ _ (a .e) _ (c .before .before .before .before .first-within .ensures) _ (c .before .first-within2 .ensures) (c .before .before .before .if1 .left) (omega (arith, length-take-le (a .count) (a .list .now) (c .before .before .before .before .before .before .before .pre), c .if2 .left))
 
-mul-t9 : tie.Need-mul-t9
-mul-t9 c = search needs
-
-shared-slice-read-t11 : tie.Need-shared-slice-read-t11
-shared-slice-read-t11 c = search needs
-
-slice-aggregate-first-within : tie.Need-slice-aggregate-first-within
-slice-aggregate-first-within c = sym (length-take-le _ _ (omega arith))
-
-mul-t14 : tie.Need-mul-t14
-mul-t14 c = search needs
-
-shared-slice-read-t16 : tie.Need-shared-slice-read-t16
-shared-slice-read-t16 c = search needs
-
 pub barred-spec : {M : Type 1} → statement M
 barred-spec =
     tie.close
-    (tie.spec
-    first-within-requires
-    mul-t9
-    shared-slice-read-t11
-    returns
-    slice-aggregate-first-within
-    first-within-requires-2
-    mul-t14
-    shared-slice-read-t16
-    returns-2
-    returns-3)
+    (tie.spec (λ c κs. search needs) (λ c. search needs) (λ c. search needs) returns (λ c. sym (length-take-le _ _ (omega arith)))
+    (λ c κs. search needs) (λ c. search needs) (λ c. search needs) returns-2 returns-3)

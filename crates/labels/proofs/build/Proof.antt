@@ -70,19 +70,5 @@ loop-again c =
 pub build-spec : {M : Type 1} → statement M
 build-spec =
     tie.close
-    (tie.spec
-    Inv-loop
-    μ-loop
-    loop-holds
-    pour-requires
-    pooled-requires
-    array-share-prefix-pool
-    slice-aggregate-drawn
-    drawn-requires
-    returns
-    array-share-prefix-pool-2
-    slice-aggregate-drawn-2
-    drawn-requires-2
-    returns-2
-    loop-less
-    loop-again)
+    (tie.spec Inv-loop μ-loop loop-holds pour-requires pooled-requires array-share-prefix-pool slice-aggregate-drawn drawn-requires returns
+    array-share-prefix-pool-2 slice-aggregate-drawn-2 drawn-requires-2 returns-2 loop-less loop-again)

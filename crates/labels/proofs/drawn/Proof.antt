@@ -25,15 +25,6 @@ add-t8 c = omega (arith, c .before .before .loop .inv .few, c .before .before .b
 returns-2 : tie.Need-returns-2 Inv-loop μ-loop
 returns-2 c = drawn-full _ _ (c .before .before .before .pre) (c .before .before .loop .sets) (c .before .before .loop .i) (c .before .before .loop .inv) (c .before .if1 .left) (c .if2 .taken)
 
-mul-sets : tie.Need-mul-sets Inv-loop μ-loop
-mul-sets c = search needs
-
-shared-slice-read-sets : tie.Need-shared-slice-read-sets Inv-loop μ-loop
-shared-slice-read-sets c = search needs
-
-mul-sets-2 : tie.Need-mul-sets-2 Inv-loop μ-loop
-mul-sets-2 c = search needs
-
 array-write-sets : tie.Need-array-write-sets Inv-loop μ-loop
 array-write-sets c = omega (arith, c .before .before .before .loop .inv .long, c .before .before .before .before .pre, c .before .if2 .left)
 
@@ -49,17 +40,5 @@ loop-again c = drawn-more _ _ (c .before .before .before .before .pre) (c .befor
 pub drawn-spec : {M : Type 1} → statement M
 drawn-spec =
     tie.close
-    (tie.spec
-    Inv-loop
-    μ-loop
-    loop-holds
-    returns
-    add-t8
-    returns-2
-    mul-sets
-    shared-slice-read-sets
-    mul-sets-2
-    array-write-sets
-    add-i
-    loop-less
-    loop-again)
+    (tie.spec Inv-loop μ-loop loop-holds returns add-t8 returns-2 (λ c. search needs) (λ c. search needs) (λ c. search needs)
+    array-write-sets add-i loop-less loop-again)

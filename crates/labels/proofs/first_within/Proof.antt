@@ -17,26 +17,8 @@ Inv-loop list e count others i₀ i = (count ≡ length list) × (i ≤ count) �
 abbrev μ-loop : tie.MeasureT-loop
 μ-loop list e count others i₀ i = count - i
 
-without-requires : tie.Need-without-requires Inv-loop μ-loop
-without-requires c κs = search needs
-
 loop-holds : tie.Need-loop-holds Inv-loop μ-loop
 loop-holds c = (refl, omega arith, omega arith)
-
-mul-meet : tie.Need-mul-meet Inv-loop μ-loop
-mul-meet c = search needs
-
-shared-slice-read-meet : tie.Need-shared-slice-read-meet Inv-loop μ-loop
-shared-slice-read-meet c = search needs
-
-meet-requires : tie.Need-meet-requires Inv-loop μ-loop
-meet-requires c κs = search needs
-
-add-i : tie.Need-add-i Inv-loop μ-loop
-add-i c = search needs
-
-loop-less : tie.Need-loop-less Inv-loop μ-loop
-loop-less c = search needs
 
 loop-again : tie.Need-loop-again Inv-loop μ-loop
 loop-again c = let l = c .before .before .before .before .loop in
@@ -61,16 +43,5 @@ returns-2 c = let l = c .before .before .before .before .loop in
 pub first-within-spec : {M : Type 1} → statement M
 first-within-spec =
     tie.close
-    (tie.spec
-    Inv-loop
-    μ-loop
-    without-requires
-    loop-holds
-    mul-meet
-    shared-slice-read-meet
-    meet-requires
-    add-i
-    loop-less
-    loop-again
-    returns
-    returns-2)
+    (tie.spec Inv-loop μ-loop (λ c κs. search needs) loop-holds (λ c. search needs) (λ c. search needs) (λ c κs. search needs)
+    (λ c. search needs) (λ c. search needs) loop-again returns returns-2)

@@ -21,14 +21,8 @@ stirred-requires c κs = let s = c .before .before .before .before in (s .pre .1
 returns-2 : tie.Need-returns-2
 returns-2 c = let s = c .before .before .before .before .before .before in (hushed-offered (lying (s .args .members .now) (s .args .sizes .now)) _ (meaning (s .args .entry)) _ _ (s .args .pool .now) (s .args .fill) (s .pre .3 .fits) (s .pre .4) (c .before .before .if1 .left) _ (c .before .stirred .ensures) (c .if2 .taken), refl)
 
-late-requires : tie.Need-late-requires
-late-requires c κs = search needs
-
 returns-3 : tie.Need-returns-3
 returns-3 c = let s = c .before .before .before .before .before .before .before .before in (all-late _ _ (s .args .pool .now) (s .args .fill) (s .pre .3 .fits) _ (c .before .late .ensures) (c .if3 .taken), refl)
-
-cast-most : tie.Need-cast-most
-cast-most c = search needs
 
 array-share-prefix-supports : tie.Need-array-share-prefix-supports
 array-share-prefix-supports c = let s = c .before .before .before .before .before .before .before .before .before .before in let e : length (s .args .entry .supports) ≡ 4 = search needs in omega (arith, s .pre .1)
@@ -45,14 +39,5 @@ returns-4 c = let s = c .before .before .before .before .before .before .before 
 pub joined-spec : {M : Type 1} → statement M
 joined-spec =
     tie.close
-    (tie.spec
-    returns
-    stirred-requires
-    returns-2
-    late-requires
-    returns-3
-    cast-most
-    array-share-prefix-supports
-    slice-aggregate-gather
-    gather-requires
-    returns-4)
+    (tie.spec returns stirred-requires returns-2 (λ c κs. search needs) returns-3 (λ c. search needs) array-share-prefix-supports
+    slice-aggregate-gather gather-requires returns-4)

@@ -65,19 +65,5 @@ loop-again c =
 returns : tie.Need-returns Inv-loop μ-loop
 returns c = let s = c .before .before .before .before in (left-end _ _ _ _ _ _ _ (c .before .loop .inv .1 .0) (joins-over (lying (s .args .members .now) (s .args .sizes .now)) _ (entriesOf (s .args .rules .now)) (c .before .loop .j) (s .args .hi) (c .loop-test .left)), c .before .loop .inv .1 .0 .same)
 
-entry-at-requires : tie.Need-entry-at-requires Inv-loop μ-loop
-entry-at-requires c κs = search needs
-
 pub pooled-spec : {M : Type 1} → statement M
-pooled-spec =
-    tie.close
-    (tie.spec
-    Inv-loop
-    μ-loop
-    loop-holds
-    entry-at-requires
-    joined-requires
-    add-j
-    loop-less
-    loop-again
-    returns)
+pooled-spec = tie.close (tie.spec Inv-loop μ-loop loop-holds (λ c κs. search needs) joined-requires add-j loop-less loop-again returns)

@@ -19,21 +19,6 @@ abbrev μ-loop : tie.MeasureT-loop
 loop-holds : tie.Need-loop-holds Inv-loop μ-loop
 loop-holds c = (omega arith, left-all _ _ _ _ _ (c .before .before .pre .1) refl)
 
-mul-e : tie.Need-mul-e Inv-loop μ-loop
-mul-e c = search needs
-
-shared-slice-read-e : tie.Need-shared-slice-read-e Inv-loop μ-loop
-shared-slice-read-e c = omega arith
-
-add-i : tie.Need-add-i Inv-loop μ-loop
-add-i c = omega arith
-
-late-requires : tie.Need-late-requires Inv-loop μ-loop
-late-requires c κs = search needs
-
-loop-less : tie.Need-loop-less Inv-loop μ-loop
-loop-less c = omega arith
-
 loop-again : tie.Need-loop-again Inv-loop μ-loop
 loop-again c =
     let l = c .before .before .before .before .loop in
@@ -53,28 +38,8 @@ loop-again-2 c =
 returns : tie.Need-returns Inv-loop μ-loop
 returns c = (left-end _ _ _ _ _ _ _ (c .before .loop .inv .1) (drop-of-length-le _ {i = c .before .loop .i} (omega arith)), c .before .loop .inv .1 .same)
 
-array-share-prefix-none : tie.Need-array-share-prefix-none Inv-loop μ-loop
-array-share-prefix-none c = search needs
-
-slice-aggregate-gather : tie.Need-slice-aggregate-gather Inv-loop μ-loop
-slice-aggregate-gather c = search needs
-
 pub pour-spec : {M : Type 1} → statement M
 pour-spec =
     tie.close
-    (tie.spec
-    Inv-loop
-    μ-loop
-    loop-holds
-    mul-e
-    shared-slice-read-e
-    add-i
-    late-requires
-    loop-less
-    loop-again
-    array-share-prefix-none
-    slice-aggregate-gather
-    gather-requires
-    loop-less-2
-    loop-again-2
-    returns)
+    (tie.spec Inv-loop μ-loop loop-holds (λ c. search needs) (λ c. omega arith) (λ c. omega arith) (λ c κs. search needs) (λ c. omega arith)
+    loop-again (λ c. search needs) (λ c. search needs) gather-requires loop-less-2 loop-again-2 returns)

@@ -22,17 +22,11 @@ shared-slice-read-if1 c = omega (arith, c .before .pre .2)
 returns : tie.Need-returns Inv-loop μ-loop
 returns c = stirs-first _ (c .before .before .args .entry .supports) (c .before .before .args .entry .count) (c .if1 .taken)
 
-cast-count : tie.Need-cast-count Inv-loop μ-loop
-cast-count c = search needs
-
 loop-holds : tie.Need-loop-holds Inv-loop μ-loop
 loop-holds c = (omega arith, stirs-rest _ (c .before .before .before .before .args .entry .supports) (c .before .before .before .before .args .entry .count) (c .before .before .if1 .left))
 
 array-read-s : tie.Need-array-read-s Inv-loop μ-loop
 array-read-s c = let e : length (c .before .before .before .before .before .before .args .entry .supports) ≡ 4 = search needs in omega (arith, c .before .before .before .before .before .before .pre .0, c .loop-test .taken)
-
-cast-s : tie.Need-cast-s Inv-loop μ-loop
-cast-s c = search needs
 
 shared-slice-read-if2 : tie.Need-shared-slice-read-if2 Inv-loop μ-loop
 shared-slice-read-if2 c = let e : length (c .before .before .before .before .before .before .before .args .entry .supports) ≡ 4 = search needs in omega (arith, support-low (c .before .before .before .before .before .before .before .args .entry .supports) (c .before .before .before .before .before .before .before .args .entry .count) (c .before .before .loop .i) (omega (arith, c .before .before .before .before .before .before .before .pre .0)) (c .before .before .before .before .before .before .before .pre .1) (c .before .loop-test .taken), c .before .before .before .before .before .before .before .pre .2)
@@ -55,18 +49,5 @@ returns-3 c = let e : length (c .before .before .before .before .before .before 
 pub stirred-spec : {M : Type 1} → statement M
 stirred-spec =
     tie.close
-    (tie.spec
-    Inv-loop
-    μ-loop
-    shared-slice-read-if1
-    returns
-    cast-count
-    loop-holds
-    array-read-s
-    cast-s
-    shared-slice-read-if2
-    returns-2
-    add-i
-    loop-less
-    loop-again
-    returns-3)
+    (tie.spec Inv-loop μ-loop shared-slice-read-if1 returns (λ c. search needs) loop-holds array-read-s (λ c. search needs)
+    shared-slice-read-if2 returns-2 add-i loop-less loop-again returns-3)

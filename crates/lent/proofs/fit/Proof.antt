@@ -8,14 +8,8 @@ use Rattle.lent.proofs.fit.Tie as tie
 returns : tie.Need-returns
 returns c = let s = c .before .before .before in fitted-short (s .args .text .now) (s .args .out .now) (c .if1 .taken)
 
-copy-requires : tie.Need-copy-requires
-copy-requires c κs = search needs
-
-same-length : tie.Need-same-length
-same-length c = search needs
-
 returns-2 : tie.Need-returns-2
 returns-2 c = let s = c .before .before .before .before .before .before .before in fitted-long (s .args .text .now) (s .args .out .now) (c .before .before .before .before .if1 .left) (front-kept (c .before .before .copy .ensures))
 
 pub fit-spec : {M : Type 1} → statement M
-fit-spec = tie.close (tie.spec returns copy-requires same-length returns-2)
+fit-spec = tie.close (tie.spec returns (λ c κs. search needs) (λ c. search needs) returns-2)

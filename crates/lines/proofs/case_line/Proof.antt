@@ -17,26 +17,11 @@ use Rattle.lines.proofs.case_line.Tie as tie
 right : (c : tie.Else1) → rightShape (c .before .before .before .args .store) ≡ true
 right c = sym (c .before .shape .ensures) ∙ not-false _ (c .if1 .left)
 
-shape-requires : tie.Need-shape-requires
-shape-requires c κs = search needs
-
 returns : tie.Need-returns
 returns c = case-shape (c .before .before .before .args .store) _ (sym (c .before .shape .ensures) ∙ not-true _ (c .if1 .taken))
 
-cast-head : tie.Need-cast-head
-cast-head c = search needs
-
-cast-head-2 : tie.Need-cast-head-2
-cast-head-2 c = search needs
-
 cast-head-3 : tie.Need-cast-head-3
 cast-head-3 c = let k = bounded (c .before .before .before .before .before .before .before .before .args .store) (right (c .before .before .before .before .before)) in omega arith
-
-cast-head-4 : tie.Need-cast-head-4
-cast-head-4 c = search needs
-
-slice-aggregate-head : tie.Need-slice-aggregate-head
-slice-aggregate-head c = search needs
 
 head-requires : tie.Need-head-requires
 unfolding caseText
@@ -48,12 +33,6 @@ array-share-prefix-text c = front-room (c .before .head .ensures)
 slice-aggregate-fit : tie.Need-slice-aggregate-fit
 slice-aggregate-fit c = sym (length-take-le _ _ (front-room (c .before .before .head .ensures)))
 
-fit-requires : tie.Need-fit-requires
-fit-requires c κs = search needs
-
-same-length : tie.Need-same-length
-same-length c = search needs
-
 returns-2 : tie.Need-returns-2
 unfolding caseText
 returns-2 c = case-rest (c .before .before .before .before .before .before .before .before .before .before .before .before .before .before .before .before .before .args .store) _ (right (c .before .before .before .before .before .before .before .before .before .before .before .before .before .before)) (front-taken (c .before .before .before .before .before .before .head .ensures)) (c .before .before .fit .ensures)
@@ -61,17 +40,5 @@ returns-2 c = case-rest (c .before .before .before .before .before .before .befo
 pub case-line-spec : {M : Type 1} → statement M
 case-line-spec =
     tie.close
-    (tie.spec
-    shape-requires
-    returns
-    cast-head
-    cast-head-2
-    cast-head-3
-    cast-head-4
-    slice-aggregate-head
-    head-requires
-    array-share-prefix-text
-    slice-aggregate-fit
-    fit-requires
-    same-length
-    returns-2)
+    (tie.spec (λ c κs. search needs) returns (λ c. search needs) (λ c. search needs) cast-head-3 (λ c. search needs) (λ c. search needs)
+    head-requires array-share-prefix-text slice-aggregate-fit (λ c κs. search needs) (λ c. search needs) returns-2)

@@ -18,15 +18,6 @@ long s = search needs
 returns : tie.Need-returns
 returns c = let s = c .before in sym (ap (contradictedIn (s .args .store)) (c .if1 .taken))
 
-sub-i : tie.Need-sub-i
-sub-i c = search needs
-
-cast-i : tie.Need-cast-i
-cast-i c = search needs
-
-element-copy-out-if2 : tie.Need-element-copy-out-if2
-element-copy-out-if2 c = search needs
-
 returns-2 : tie.Need-returns-2
 returns-2 c =
     let s = c .before .before .before .before in
@@ -34,9 +25,6 @@ returns-2 c =
 
 from-all-requires : tie.Need-from-all-requires
 from-all-requires c κs = let s = c .before .before .before .before in followable (s .args .store) (s .pre .0)
-
-array-read-result : tie.Need-array-read-result
-array-read-result c = search needs
 
 returns-3 : tie.Need-returns-3
 returns-3 c =
@@ -47,12 +35,4 @@ returns-3 c =
 pub contradicted-spec : {M : Type 1} → statement M
 contradicted-spec =
     tie.close
-    (tie.spec
-    returns
-    sub-i
-    cast-i
-    element-copy-out-if2
-    returns-2
-    from-all-requires
-    array-read-result
-    returns-3)
+    (tie.spec returns (λ c. search needs) (λ c. search needs) (λ c. search needs) returns-2 from-all-requires (λ c. search needs) returns-3)

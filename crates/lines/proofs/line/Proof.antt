@@ -24,20 +24,11 @@ low c = let k = known c in omega (arith, k .number, k .fit .few, k .fit .claims)
 nogoods : (s : tie.Start) → length (s .args .store .lists .nogoods) ≤ 32
 nogoods s = let e : length (s .args .store .lists .nogoods) ≡ 32 = search needs in omega arith
 
-refusal-requires : tie.Need-refusal-requires
-refusal-requires c κs = search needs
-
-number-requires : tie.Need-number-requires
-number-requires c κs = search needs
-
 returns : tie.Need-returns
 returns c = let a = c .before .before .before .before .args in line-refused (a .store) _ (a .n) _ (c .before .before .refusal .ensures) (λ z. c .if1 .taken (c .before .number .ensures ∙ z))
 
 contradicted-requires : tie.Need-contradicted-requires
 contradicted-requires c κs = (known c .right, low c)
-
-slice-aggregate-lined : tie.Need-slice-aggregate-lined
-slice-aggregate-lined c = search needs
 
 lined-requires : tie.Need-lined-requires
 lined-requires c κs =
@@ -51,27 +42,11 @@ array-share-prefix-text c = front-room (c .before .lined .ensures)
 slice-aggregate-fit : tie.Need-slice-aggregate-fit
 slice-aggregate-fit c = sym (length-take-le _ _ (front-room (c .before .before .lined .ensures)))
 
-fit-requires : tie.Need-fit-requires
-fit-requires c κs = search needs
-
-same-length : tie.Need-same-length
-same-length c = search needs
-
 returns-2 : tie.Need-returns-2
 returns-2 c = let a = c .before .before .before .before .before .before .before .before .before .before .before .before .before .args in line-rest (a .store) _ (a .n) (known (c .before .before .before .before .before .before .before .before .before)) (front-taken (c .before .before .before .before .before .before .lined .ensures) ∙ text-told (a .store) (a .n) _ (c .before .before .before .before .before .before .before .before .contradicted .ensures)) (c .before .before .fit .ensures)
 
 pub line-spec : {M : Type 1} → statement M
 line-spec =
     tie.close
-    (tie.spec
-    refusal-requires
-    number-requires
-    returns
-    contradicted-requires
-    slice-aggregate-lined
-    lined-requires
-    array-share-prefix-text
-    slice-aggregate-fit
-    fit-requires
-    same-length
-    returns-2)
+    (tie.spec (λ c κs. search needs) (λ c κs. search needs) returns contradicted-requires (λ c. search needs) lined-requires
+    array-share-prefix-text slice-aggregate-fit (λ c κs. search needs) (λ c. search needs) returns-2)

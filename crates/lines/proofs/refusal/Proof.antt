@@ -22,15 +22,6 @@ same c = ap (λ (r : ℕ). textOf r (c .before .before .args .«record»)) (c .n
 refusing : (c : tie.After-number) (k : ℕ) → k < 2 ^ 32 → length (textOf (c .number .result) k) ≤ 22
 refusing c k h = refusal-length (c .number .result) k (omega (arith, c .number .ensures, two-digits (c .before .before .args .reply))) h
 
-number-requires : tie.Need-number-requires
-number-requires c κs = search needs
-
-cast-number : tie.Need-cast-number
-cast-number c = search needs
-
-slice-aggregate-refused : tie.Need-slice-aggregate-refused
-slice-aggregate-refused c = search needs
-
 refused-requires : tie.Need-refused-requires
 refused-requires c κs = let s = c .before .before .before in blank-room 22 (textOf (c .before .number .result) (s .args .«record»)) (refusing (c .before) _ (s .fits .«record» .fits))
 
@@ -40,25 +31,11 @@ array-share-prefix-text c = front-room (c .before .refused .ensures)
 slice-aggregate-fit : tie.Need-slice-aggregate-fit
 slice-aggregate-fit c = sym (length-take-le _ _ (front-room (c .before .before .refused .ensures)))
 
-fit-requires : tie.Need-fit-requires
-fit-requires c κs = search needs
-
-same-length : tie.Need-same-length
-same-length c = search needs
-
 returns : tie.Need-returns
 returns c = let s = c .before .before .before .before .before .before .before .before .before .before in refusal-rest (s .args .reply) (s .args .«record») _ (front-taken (c .before .before .before .before .before .before .refused .ensures) ∙ same (c .before .before .before .before .before .before .before .before)) (c .before .before .fit .ensures)
 
 pub refusal-spec : {M : Type 1} → statement M
 refusal-spec =
     tie.close
-    (tie.spec
-    number-requires
-    cast-number
-    slice-aggregate-refused
-    refused-requires
-    array-share-prefix-text
-    slice-aggregate-fit
-    fit-requires
-    same-length
-    returns)
+    (tie.spec (λ c κs. search needs) (λ c. search needs) (λ c. search needs) refused-requires array-share-prefix-text slice-aggregate-fit
+    (λ c κs. search needs) (λ c. search needs) returns)

@@ -9,29 +9,14 @@ use Rattle.numbers.proofs.number_at.Tie as tie
 returns : tie.Need-returns
 returns c = no-first _ _ (c .if1 .taken)
 
-shared-slice-read-b : tie.Need-shared-slice-read-b
-shared-slice-read-b c = search needs
-
 cast-b : tie.Need-cast-b
 cast-b c = omega (arith, c .shared-slice-known .given (c .before .before .args .at))
-
-add-t10 : tie.Need-add-t10
-add-t10 c = search needs
 
 returns-2 : tie.Need-returns-2
 returns-2 c = one-byte _ _ (c .before .before .if1 .left) (c .if2 .taken)
 
-add-if3 : tie.Need-add-if3
-add-if3 c = search needs
-
 returns-3 : tie.Need-returns-3
 returns-3 c = no-second _ _ (c .before .before .before .if1 .left) (c .before .if2 .left) (c .if3 .taken)
-
-add-c : tie.Need-add-c
-add-c c = search needs
-
-shared-slice-read-c : tie.Need-shared-slice-read-c
-shared-slice-read-c c = search needs
 
 cast-c : tie.Need-cast-c
 cast-c c = omega (arith, c .shared-slice-known2 .given (c .before .before .before .before .before .args .at + 1))
@@ -42,14 +27,8 @@ returns-4 c = zero-second _ _ (c .before .before .before .before .before .if1 .l
 returns-5 : tie.Need-returns-5
 returns-5 c = high-second _ _ (c .before .before .before .before .before .before .if1 .left) (c .before .before .before .before .if2 .left) (c .before .before .before .if3 .left) (c .before .if4 .left) (c .if5 .taken)
 
-mul-t17 : tie.Need-mul-t17
-mul-t17 c = search needs
-
 add-t18 : tie.Need-add-t18
 add-t18 c = omega (arith, c .before .before .before .before .before .shared-slice-known .given (c .before .before .before .before .before .before .before .args .at))
-
-add-t11 : tie.Need-add-t11
-add-t11 c = search needs
 
 returns-6 : tie.Need-returns-6
 returns-6 c = two-bytes _ _ (c .before .before .before .before .before .before .if1 .left) (c .before .before .before .before .if2 .left) (c .before .before .before .if3 .left) (c .before .if4 .left) (c .if5 .left)
@@ -57,20 +36,5 @@ returns-6 c = two-bytes _ _ (c .before .before .before .before .before .before .
 pub number-at-spec : {M : Type 1} → statement M
 number-at-spec =
     tie.close
-    (tie.spec
-    returns
-    shared-slice-read-b
-    cast-b
-    add-t10
-    returns-2
-    add-if3
-    returns-3
-    add-c
-    shared-slice-read-c
-    cast-c
-    returns-4
-    returns-5
-    mul-t17
-    add-t18
-    add-t11
-    returns-6)
+    (tie.spec returns (λ c. search needs) cast-b (λ c. search needs) returns-2 (λ c. search needs) returns-3 (λ c. search needs)
+    (λ c. search needs) cast-c returns-4 returns-5 (λ c. search needs) add-t18 (λ c. search needs) returns-6)

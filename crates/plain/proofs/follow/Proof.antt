@@ -13,17 +13,8 @@ use Rattle.plain.proofs.follow.Tie as tie
 known : (c : tie.Else1) → Readable (c .before .before .before .args .store) (c .before .before .before .args .n) (c .before .before .before .args .e)
 known c = readable (c .before .before .before .args .store) (c .before .before .before .args .n) (c .before .before .before .args .e) _ (c .before .before .refusal .ensures) (sym (c .before .number .ensures) ∙ c .if1 .left)
 
-refusal-requires : tie.Need-refusal-requires
-refusal-requires c κs = search needs
-
-number-requires : tie.Need-number-requires
-number-requires c κs = search needs
-
 returns : tie.Need-returns
 returns c = let a = c .before .before .before .args in followed-refused (a .store) (a .n) (a .e) _ (c .before .before .refusal .ensures) (λ z. c .if1 .taken (c .before .number .ensures ∙ z))
-
-sown-requires : tie.Need-sown-requires
-sown-requires c κs = search needs
 
 stages-requires : tie.Need-stages-requires
 stages-requires c κs = followable (c .before .before .before .before .args .store) (known (c .before) .fit)
@@ -36,6 +27,4 @@ returns-2 c =
     (c .stages .ensures ∙ ap (stagesFrom J 129 0) (c .before .sown .ensures) ∙ stages-since J (placed (a .store) (known (c .before .before) .fit)) (a .e))
 
 pub follow-spec : {M : Type 1} → statement M
-follow-spec =
-    tie.close
-    (tie.spec refusal-requires number-requires returns sown-requires stages-requires returns-2)
+follow-spec = tie.close (tie.spec (λ c κs. search needs) (λ c κs. search needs) returns (λ c κs. search needs) stages-requires returns-2)

@@ -7,11 +7,8 @@ use Rattle.plain.proofs.word.Tie as tie
 returns : tie.Need-returns
 returns c = let a = c .before .args in word-over (a .marks) (a .top) (a .n) (c .if1 .taken)
 
-read-requires : tie.Need-read-requires
-read-requires c κs = search needs
-
 returns-2 : tie.Need-returns-2
 returns-2 c = let a = c .before .before .args in word-read (a .marks) (a .top) (a .n) (c .before .if1 .left) _ (c .read .ensures)
 
 pub word-spec : {M : Type 1} → statement M
-word-spec = tie.close (tie.spec returns read-requires returns-2)
+word-spec = tie.close (tie.spec returns (λ c κs. search needs) returns-2)

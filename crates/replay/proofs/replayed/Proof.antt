@@ -13,18 +13,6 @@ Inv-loop bytes desk₀ at₀ number₀ desk at number = (at ≤ length bytes + 1
 abbrev μ-loop : tie.MeasureT-loop
 μ-loop bytes desk₀ at₀ number₀ desk at number = length bytes + 1 - at
 
-open-requires : tie.Need-open-requires Inv-loop μ-loop
-open-requires c κs = search needs
-
-empty-requires : tie.Need-empty-requires Inv-loop μ-loop
-empty-requires c κs = search needs
-
-loop-holds : tie.Need-loop-holds Inv-loop μ-loop
-loop-holds c = (omega arith, omega arith)
-
-line-end-requires : tie.Need-line-end-requires Inv-loop μ-loop
-line-end-requires c κs = search needs
-
 sub-command : tie.Need-sub-command Inv-loop μ-loop
 sub-command c = let l = c .before .before .loop in let b = c .before .before .before .before .before .before .before .args .bytes .now in omega (arith, c .line-end .ensures, line-within b (l .at), line-on b (l .at) (omega arith), l .inv .0)
 
@@ -33,9 +21,6 @@ part-command-start c = let l = c .before .before .loop in let b = c .before .bef
 
 part-command-end : tie.Need-part-command-end Inv-loop μ-loop
 part-command-end c = let l = c .before .before .loop in let b = c .before .before .before .before .before .before .before .args .bytes .now in omega (arith, c .line-end .ensures, line-within b (l .at), line-on b (l .at) (omega arith), l .inv .0)
-
-command-requires : tie.Need-command-requires Inv-loop μ-loop
-command-requires c κs = search needs
 
 add-at : tie.Need-add-at Inv-loop μ-loop
 add-at c = let l = c .before .before .before .before .loop in let b = c .before .before .before .before .before .before .before .before .before .args .bytes .now in omega (arith, c .before .before .line-end .ensures, line-within b (l .at), c .before .before .before .before .before .before .before .before .before .pre)
@@ -54,25 +39,8 @@ loop-again c =
     let n = line-on b (l .at) (omega (arith, c .before .before .before .loop-test .taken)) in
     (omega (arith, e, line-within b (l .at)), omega (arith, e, n, l .inv .1))
 
-returns : tie.Need-returns Inv-loop μ-loop
-returns c = search needs
-
 pub replayed-spec : {M : Type 1} → statement M
 replayed-spec =
     tie.close
-    (tie.spec
-    Inv-loop
-    μ-loop
-    open-requires
-    empty-requires
-    loop-holds
-    line-end-requires
-    sub-command
-    part-command-start
-    part-command-end
-    command-requires
-    add-at
-    add-number
-    loop-less
-    loop-again
-    returns)
+    (tie.spec Inv-loop μ-loop (λ c κs. search needs) (λ c κs. search needs) (λ c. (omega arith, omega arith)) (λ c κs. search needs)
+    sub-command part-command-start part-command-end (λ c κs. search needs) add-at add-number loop-less loop-again (λ c. search needs))

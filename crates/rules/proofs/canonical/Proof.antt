@@ -32,12 +32,6 @@ taking-requires c κs =
       omega (arith, s .pre .0),
     )
 
-add-n : tie.Need-add-n Inv-loop μ-loop
-add-n c = search needs
-
-loop-less : tie.Need-loop-less Inv-loop μ-loop
-loop-less c = search needs
-
 loop-again : tie.Need-loop-again Inv-loop μ-loop
 loop-again c =
     let l = c .before .before .loop in
@@ -54,13 +48,4 @@ returns c =
 pub canonical-spec : {M : Type 1} → statement M
 canonical-spec =
     tie.close
-    (tie.spec
-    Inv-loop
-    μ-loop
-    cast-t6
-    loop-holds
-    taking-requires
-    add-n
-    loop-less
-    loop-again
-    returns)
+    (tie.spec Inv-loop μ-loop cast-t6 loop-holds taking-requires (λ c. search needs) (λ c. search needs) loop-again returns)

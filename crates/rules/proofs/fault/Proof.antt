@@ -13,25 +13,16 @@ returns-2 : tie.Need-returns-2
 returns-2 c = fault-head _ _ _ (c .before .if1 .left) (c .if2 .taken)
 
 -- src/lib.rt:44:8
-over-requires : tie.Need-over-requires
-over-requires c κs = search needs
-
 -- src/lib.rt:45:9
 returns-3 : tie.Need-returns-3
 returns-3 c = fault-above _ _ _ (c .before .before .before .if1 .left) (c .before .before .if2 .left) (sym (c .before .over .ensures) ∙ c .if3 .taken)
 
 -- src/lib.rt:47:8
-has-requires : tie.Need-has-requires
-has-requires c κs = search needs
-
 -- src/lib.rt:48:9
 returns-4 : tie.Need-returns-4
 returns-4 c = fault-zero _ _ _ (c .before .before .before .before .before .if1 .left) (c .before .before .before .before .if2 .left) (sym (c .before .before .before .over .ensures) ∙ c .before .before .if3 .left) (sym (c .before .has .ensures) ∙ c .if4 .taken)
 
 -- src/lib.rt:50:8
-has-requires-2 : tie.Need-has-requires-2
-has-requires-2 c κs = search needs
-
 -- src/lib.rt:51:9
 returns-5 : tie.Need-returns-5
 returns-5 c =
@@ -47,13 +38,4 @@ returns-6 c =
 pub fault-spec : {M : Type 1} → statement M
 fault-spec =
     tie.close
-    (tie.spec
-    returns
-    returns-2
-    over-requires
-    returns-3
-    has-requires
-    returns-4
-    has-requires-2
-    returns-5
-    returns-6)
+    (tie.spec returns returns-2 (λ c κs. search needs) returns-3 (λ c κs. search needs) returns-4 (λ c κs. search needs) returns-5 returns-6)

@@ -19,9 +19,6 @@ abbrev μ-loop : tie.MeasureT-loop
 loop-holds : tie.Need-loop-holds Inv-loop μ-loop
 loop-holds c = let a = c .before .before .args in mid-start hexByte (a .line .now) (a .from) (a .out .now)
 
-field-requires : tie.Need-field-requires Inv-loop μ-loop
-field-requires c κs = tt
-
 same-length : tie.Need-same-length Inv-loop μ-loop
 same-length c = c .before .before .loop .inv .kept
 
@@ -39,15 +36,6 @@ part-hex-start c = omega (arith, inside c)
 
 part-hex-end : tie.Need-part-hex-end Inv-loop μ-loop
 part-hex-end c = omega (arith, inside c)
-
-hex-requires : tie.Need-hex-requires Inv-loop μ-loop
-hex-requires c κs = tt
-
-enum-known-n : tie.Need-enum-known-n Inv-loop μ-loop
-enum-known-n c = search needs
-
-enum-told : tie.Need-enum-told Inv-loop μ-loop
-enum-told c = search needs
 
 same-length-2 : tie.Need-same-length-2 Inv-loop μ-loop
 same-length-2 c = c .before .before .before .before .before .before .loop .inv .kept
@@ -82,25 +70,6 @@ loop-again c = mid-more (c .before .before .before .before .before .before .befo
 pub bytes-spec : {M : Type 1} → statement M
 bytes-spec =
     tie.close
-    (tie.spec
-    Inv-loop
-    μ-loop
-    loop-holds
-    field-requires
-    same-length
-    returns
-    sub-hex
-    part-hex-start
-    part-hex-end
-    hex-requires
-    enum-known-n
-    enum-told
-    same-length-2
-    returns-2
-    same-length-3
-    returns-3
-    cast-out
-    slice-write-out
-    add-count
-    loop-less
+    (tie.spec Inv-loop μ-loop loop-holds (λ c κs. tt) same-length returns sub-hex part-hex-start part-hex-end (λ c κs. tt)
+    (λ c. search needs) (λ c. search needs) same-length-2 returns-2 same-length-3 returns-3 cast-out slice-write-out add-count loop-less
     loop-again)

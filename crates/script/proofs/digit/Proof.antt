@@ -6,21 +6,6 @@ use Rattle.script.specs.Script.{numeralOf}
 use Rattle.script.proofs.digit.Statement.{statement}
 use Rattle.script.proofs.digit.Tie as tie
 
-cast-t5 : tie.Need-cast-t5
-cast-t5 c = omega arith
-
-add-t7 : tie.Need-add-t7
-add-t7 c = omega arith
-
-cast-t8 : tie.Need-cast-t8
-cast-t8 c = omega arith
-
-add-t10 : tie.Need-add-t10
-add-t10 c = omega arith
-
-cast-t11 : tie.Need-cast-t11
-cast-t11 c = omega arith
-
 returns : tie.Need-returns
 returns c = ap numeralOf (sym (hex-digit (c .before .before .args .b) (omega arith) (omega arith)))
 
@@ -45,16 +30,5 @@ returns-7 c = ap numeralOf (sym (hex-above (c .before .before .before .before .b
 pub digit-spec : {M : Type 1} → statement M
 digit-spec =
     tie.close
-    (tie.spec
-    cast-t5
-    add-t7
-    cast-t8
-    add-t10
-    cast-t11
-    returns
-    returns-2
-    returns-3
-    returns-4
-    returns-5
-    returns-6
-    returns-7)
+    (tie.spec (λ c. omega arith) (λ c. omega arith) (λ c. omega arith) (λ c. omega arith) (λ c. omega arith) returns returns-2 returns-3
+    returns-4 returns-5 returns-6 returns-7)

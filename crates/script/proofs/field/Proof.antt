@@ -5,15 +5,9 @@ use Rattle.script.specs.Script.{fieldAt, other, past}
 use Rattle.script.proofs.field.Statement.{statement}
 use Rattle.script.proofs.field.Tie as tie
 
-after-requires : tie.Need-after-requires
-after-requires c κs = tt
-
-until-requires : tie.Need-until-requires
-until-requires c κs = tt
-
 returns : tie.Need-returns
 unfolding fieldAt
 returns c = ap₂ (λ (a e : ℕ). record { from = a; to = e }) (c .before .after .ensures) (c .until .ensures ∙ ap (past (other 32) (c .before .before .before .args .line .now)) (c .before .after .ensures))
 
 pub field-spec : {M : Type 1} → statement M
-field-spec = tie.close (tie.spec after-requires until-requires returns)
+field-spec = tie.close (tie.spec (λ c κs. tt) (λ c κs. tt) returns)

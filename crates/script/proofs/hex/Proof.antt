@@ -19,34 +19,10 @@ low c = heard-same (hexDigit (getD (c .before .before .before .before .before .b
 returns : tie.Need-returns
 returns c = ap numeralOf (sym (hex-other (c .before .before .args .field .now) (c .if1 .taken)))
 
-shared-slice-read-digit : tie.Need-shared-slice-read-digit
-shared-slice-read-digit c = search needs
-
-digit-requires : tie.Need-digit-requires
-digit-requires c κs = tt
-
-enum-known-high : tie.Need-enum-known-high
-enum-known-high c = search needs
-
-enum-told : tie.Need-enum-told
-enum-told c = search needs
-
 returns-2 : tie.Need-returns-2
 returns-2 c =
     let f = c .before .before .before .before .before .before .args .field .now in
     ap numeralOf (sym (hex-no-high f (c .before .before .before .before .if1 .left) (heard-same (hexDigit (getD f 0 0)) (c .before .before .digit .ensures) (c .enum-told .given .1))))
-
-shared-slice-read-digit-2 : tie.Need-shared-slice-read-digit-2
-shared-slice-read-digit-2 c = search needs
-
-digit-requires-2 : tie.Need-digit-requires-2
-digit-requires-2 c κs = tt
-
-enum-known-low : tie.Need-enum-known-low
-enum-known-low c = search needs
-
-enum-told-2 : tie.Need-enum-told-2
-enum-told-2 c = search needs
 
 returns-3 : tie.Need-returns-3
 returns-3 c =
@@ -68,18 +44,5 @@ returns-4 c =
 pub hex-spec : {M : Type 1} → statement M
 hex-spec =
     tie.close
-    (tie.spec
-    returns
-    shared-slice-read-digit
-    digit-requires
-    enum-known-high
-    enum-told
-    returns-2
-    shared-slice-read-digit-2
-    digit-requires-2
-    enum-known-low
-    enum-told-2
-    returns-3
-    mul-t11
-    add-t12
-    returns-4)
+    (tie.spec returns (λ c. search needs) (λ c κs. tt) (λ c. search needs) (λ c. search needs) returns-2 (λ c. search needs) (λ c κs. tt)
+    (λ c. search needs) (λ c. search needs) returns-3 mul-t11 add-t12 returns-4)

@@ -20,9 +20,6 @@ returns c = ap numeralOf (sym (numeral-empty (c .before .args .field .now) (c .i
 loop-holds : tie.Need-loop-holds Inv-loop μ-loop
 loop-holds c = (omega arith, omega arith, numeral-start (c .before .args .field .now) (c .if1 .left))
 
-shared-slice-read-b : tie.Need-shared-slice-read-b Inv-loop μ-loop
-shared-slice-read-b c = omega arith
-
 returns-2 : tie.Need-returns-2 Inv-loop μ-loop
 returns-2 c =
     let l = c .before .before .before .loop in
@@ -32,9 +29,6 @@ returns-3 : tie.Need-returns-3 Inv-loop μ-loop
 returns-3 c =
     let l = c .before .before .before .before .loop in
     ap numeralOf (sym (l .inv .2 ∙ numeral-high (c .before .before .before .before .before .before .args .field .now) (l .i) (l .value) (omega arith) (omega arith) (omega arith)))
-
-mul-next : tie.Need-mul-next Inv-loop μ-loop
-mul-next c = omega arith
 
 cast-next : tie.Need-cast-next Inv-loop μ-loop
 cast-next c = omega (arith, c .before .before .shared-slice-known .given (c .before .before .before .before .loop .i))
@@ -47,19 +41,10 @@ returns-4 c =
     let l = c .before .before .before .before .before .loop in
     ap numeralOf (sym (l .inv .2 ∙ numeral-large (c .before .before .before .before .before .before .before .args .field .now) (l .i) (l .value) (omega arith) (omega arith)))
 
-add-i : tie.Need-add-i Inv-loop μ-loop
-add-i c = omega arith
-
-loop-less : tie.Need-loop-less Inv-loop μ-loop
-loop-less c = omega arith
-
 loop-again : tie.Need-loop-again Inv-loop μ-loop
 loop-again c =
     let l = c .before .before .before .before .before .loop in
     (omega arith, omega arith, l .inv .2 ∙ numeral-more (c .before .before .before .before .before .before .before .args .field .now) (l .i) (l .value) (omega arith) (omega arith) (omega arith))
-
-cast-t14 : tie.Need-cast-t14 Inv-loop μ-loop
-cast-t14 c = omega arith
 
 returns-5 : tie.Need-returns-5 Inv-loop μ-loop
 returns-5 c =
@@ -69,20 +54,5 @@ returns-5 c =
 pub number-spec : {M : Type 1} → statement M
 number-spec =
     tie.close
-    (tie.spec
-    Inv-loop
-    μ-loop
-    returns
-    loop-holds
-    shared-slice-read-b
-    returns-2
-    returns-3
-    mul-next
-    cast-next
-    add-next
-    returns-4
-    add-i
-    loop-less
-    loop-again
-    cast-t14
-    returns-5)
+    (tie.spec Inv-loop μ-loop returns loop-holds (λ c. omega arith) returns-2 returns-3 (λ c. omega arith) cast-next add-next returns-4
+    (λ c. omega arith) (λ c. omega arith) loop-again (λ c. omega arith) returns-5)

@@ -18,9 +18,6 @@ abbrev μ-loop : tie.MeasureT-loop
 loop-holds : tie.Need-loop-holds Inv-loop μ-loop
 loop-holds c = let a = c .before .before .args in mid-start numeral (a .line .now) (a .from) (a .out .now)
 
-field-requires : tie.Need-field-requires Inv-loop μ-loop
-field-requires c κs = tt
-
 same-length : tie.Need-same-length Inv-loop μ-loop
 same-length c = c .before .before .loop .inv .kept
 
@@ -39,15 +36,6 @@ part-number-start c = omega (arith, inside c)
 part-number-end : tie.Need-part-number-end Inv-loop μ-loop
 part-number-end c = omega (arith, inside c)
 
-number-requires : tie.Need-number-requires Inv-loop μ-loop
-number-requires c κs = tt
-
-enum-known-n : tie.Need-enum-known-n Inv-loop μ-loop
-enum-known-n c = search needs
-
-enum-told : tie.Need-enum-told Inv-loop μ-loop
-enum-told c = search needs
-
 same-length-2 : tie.Need-same-length-2 Inv-loop μ-loop
 same-length-2 c = c .before .before .before .before .before .before .loop .inv .kept
 
@@ -59,9 +47,6 @@ same-length-3 c = c .before .before .before .before .before .before .before .bef
 
 returns-3 : tie.Need-returns-3 Inv-loop μ-loop
 returns-3 c = mid-full (c .before .before .before .before .before .before .before .before .loop .inv) (c .before .before .before .before .before .before .before .field .ensures) (c .before .before .before .before .before .before .if1 .left) (c .before .before .before .before .number .ensures) (c .before .before .n .given .1) (c .if2 .taken)
-
-mul-out : tie.Need-mul-out Inv-loop μ-loop
-mul-out c = search needs
 
 slice-write-out : tie.Need-slice-write-out Inv-loop μ-loop
 slice-write-out c = omega (arith, c .before .before .before .before .before .before .before .before .loop .inv .few, c .if2 .left)
@@ -78,25 +63,6 @@ loop-again c = mid-more (c .before .before .before .before .before .before .befo
 pub numbers-spec : {M : Type 1} → statement M
 numbers-spec =
     tie.close
-    (tie.spec
-    Inv-loop
-    μ-loop
-    loop-holds
-    field-requires
-    same-length
-    returns
-    sub-number
-    part-number-start
-    part-number-end
-    number-requires
-    enum-known-n
-    enum-told
-    same-length-2
-    returns-2
-    same-length-3
-    returns-3
-    mul-out
-    slice-write-out
-    add-count
-    loop-less
-    loop-again)
+    (tie.spec Inv-loop μ-loop loop-holds (λ c κs. tt) same-length returns sub-number part-number-start part-number-end (λ c κs. tt)
+    (λ c. search needs) (λ c. search needs) same-length-2 returns-2 same-length-3 returns-3 (λ c. search needs) slice-write-out add-count
+    loop-less loop-again)

@@ -16,23 +16,11 @@ Inv-loop bytes from b i₀ i = past (other b) bytes from ≡ past (other b) byte
 abbrev μ-loop : tie.MeasureT-loop
 μ-loop bytes from b i₀ i = length bytes - i
 
-loop-holds : tie.Need-loop-holds Inv-loop μ-loop
-loop-holds c = refl
-
-shared-slice-read-if1 : tie.Need-shared-slice-read-if1 Inv-loop μ-loop
-shared-slice-read-if1 c = omega arith
-
 returns : tie.Need-returns Inv-loop μ-loop
 returns c =
     let l = c .before .before .before .loop in
     let a = c .before .before .before .before .args in
     sym (l .inv ∙ past-here (other (a .b)) (a .bytes .now) (l .i) (omega arith) (ap not (eq-eqb _ _ (sym (c .if1 .taken)))))
-
-add-i : tie.Need-add-i Inv-loop μ-loop
-add-i c = omega arith
-
-loop-less : tie.Need-loop-less Inv-loop μ-loop
-loop-less c = omega arith
 
 loop-again : tie.Need-loop-again Inv-loop μ-loop
 loop-again c =
@@ -49,13 +37,4 @@ returns-2 c =
 pub until-spec : {M : Type 1} → statement M
 until-spec =
     tie.close
-    (tie.spec
-    Inv-loop
-    μ-loop
-    loop-holds
-    shared-slice-read-if1
-    returns
-    add-i
-    loop-less
-    loop-again
-    returns-2)
+    (tie.spec Inv-loop μ-loop (λ c. refl) (λ c. omega arith) returns (λ c. omega arith) (λ c. omega arith) loop-again returns-2)

@@ -14,15 +14,6 @@ returns c = taken-zero _ _ (c .if1 .taken)
 returns-2 : tie.Need-returns-2
 returns-2 c = taken-above _ _ (c .if2 .taken) (c .before .if1 .left)
 
-cast-only : tie.Need-cast-only
-cast-only c = search needs
-
-only-requires : tie.Need-only-requires
-only-requires c κs = search needs
-
-union-requires : tie.Need-union-requires
-union-requires c κs = search needs
-
 returns-3 : tie.Need-returns-3
 returns-3 c =
     c .union .ensures
@@ -30,4 +21,4 @@ returns-3 c =
     ∙ taken-so (c .before .before .before .before .args .set) _ (c .before .before .before .if1 .left) (c .before .before .if2 .left)
 
 pub with-spec : {M : Type 1} → statement M
-with-spec = tie.close (tie.spec returns returns-2 cast-only only-requires union-requires returns-3)
+with-spec = tie.close (tie.spec returns returns-2 (λ c. search needs) (λ c κs. search needs) (λ c κs. search needs) returns-3)

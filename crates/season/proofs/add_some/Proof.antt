@@ -13,28 +13,14 @@ use Rattle.season.proofs.add_some.Tie as tie
 many : (s : tie.Start) → length (s .args .list) ≡ 256
 many s = search (needs, length-mapped)
 
-add-first-requires : tie.Need-add-first-requires
-add-first-requires c κs = search needs
-
-same-length : tie.Need-same-length
-same-length c = search needs
-
 returns : tie.Need-returns
 returns c =
     let a = c .before .before .before .before .before .before .args in
     let all = taken-all (a .list) 256 (a .n) (many (c .before .before .before .before .before .before)) (c .before .before .before .before .if1 .taken) in
     (c .before .before .add-first .ensures .0 ∙ ap (λ (l : List Handed). addAllOf (a .store) l (a .out .now)) all, c .before .before .add-first .ensures .1 ∙ ap (λ (l : List Handed). bytesAfter (a .store) l (a .out .now)) all)
 
-add-first-requires-2 : tie.Need-add-first-requires-2
-add-first-requires-2 c κs = search needs
-
-same-length-2 : tie.Need-same-length-2
-same-length-2 c = search needs
-
 returns-2 : tie.Need-returns-2
 returns-2 c = c .before .before .add-first2 .ensures
 
 pub add-some-spec : {M : Type 1} → statement M
-add-some-spec =
-    tie.close
-    (tie.spec add-first-requires same-length returns add-first-requires-2 same-length-2 returns-2)
+add-some-spec = tie.close (tie.spec (λ c κs. search needs) (λ c. search needs) returns (λ c κs. search needs) (λ c. search needs) returns-2)

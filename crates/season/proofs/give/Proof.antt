@@ -27,21 +27,10 @@ slice-aggregate-more c = sym (length-take-le _ _ (omega (arith, four (c .before 
 more-requires : tie.Need-more-requires
 more-requires c κs = let f = shape-elim (c .before .before .before .before .args .store) (c .before .before .before .before .pre) .0 in (f .right, omega (arith, f .few, f .claims))
 
-after-requires : tie.Need-after-requires
-after-requires c κs = search needs
-
 returns-2 : tie.Need-returns-2
 returns-2 c =
     let a = c .before .before .before .before .before .before .args in
     c .after .ensures ∙ ap (afterOf (a .store)) (c .before .more .ensures) ∙ more-added (a .store) (c .before .before .before .before .before .before .pre) (a .item .consequent) _ ∙ ap (addOf (a .store) (a .item .consequent)) (supplied-few (a .item) (c .before .before .before .before .if1 .left))
 
 pub give-spec : {M : Type 1} → statement M
-give-spec =
-    tie.close
-    (tie.spec
-    returns
-    array-share-prefix-supports
-    slice-aggregate-more
-    more-requires
-    after-requires
-    returns-2)
+give-spec = tie.close (tie.spec returns array-share-prefix-supports slice-aggregate-more more-requires (λ c κs. search needs) returns-2)

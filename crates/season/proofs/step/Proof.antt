@@ -7,11 +7,8 @@ use Rattle.season.proofs.step.Tie as tie
 give-requires : tie.Need-give-requires
 give-requires c κs = c .pre
 
-number-requires : tie.Need-number-requires
-number-requires c κs = search needs
-
 returns : tie.Need-returns
 returns c = numbered _ _ _ (c .number .ensures) (c .before .before .give .ensures)
 
 pub step-spec : {M : Type 1} → statement M
-step-spec = tie.close (tie.spec give-requires number-requires returns)
+step-spec = tie.close (tie.spec give-requires (λ c κs. search needs) returns)

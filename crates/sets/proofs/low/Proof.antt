@@ -7,11 +7,8 @@ use Rattle.sets.proofs.low.Tie as tie
 returns : tie.Need-returns
 returns c = range-whole 32 (c .before .args .e) (c .before .args .a) (search needs) (c .if1 .taken)
 
-shr-result : tie.Need-shr-result
-shr-result c = search needs
-
 returns-2 : tie.Need-returns-2
 returns-2 c = range-test (c .before .args .e) (c .before .args .a)
 
 pub low-spec : {M : Type 1} → statement M
-low-spec = tie.close (tie.spec returns shr-result returns-2)
+low-spec = tie.close (tie.spec returns (λ c. search needs) returns-2)

@@ -15,41 +15,11 @@ use borrow.Author.Needs.{needs}
 use Rattle.shape.proofs.labels.Statement.{statement}
 use Rattle.shape.proofs.labels.Tie as tie
 
-sub-zeros : tie.Need-sub-zeros
-sub-zeros c = search needs
-
-part-zeros-start : tie.Need-part-zeros-start
-part-zeros-start c = search needs
-
-part-zeros-end : tie.Need-part-zeros-end
-part-zeros-end c = search needs
-
-zeros-requires : tie.Need-zeros-requires
-zeros-requires c κs = search needs
-
 returns : tie.Need-returns
 returns c = let a = c .before .before .before .before .before .args in
     let p = c .before .before .before .before .before .pre in
     labels-spare (a .a) (a .top) (a .sizes .now) (a .members .now) (p .1) (p .3) (p .2)
     (ap (allOf (eqb 0)) (sym (part-to-end (a .sizes .now) (a .top))) ∙ sym (c .before .zeros .ensures) ∙ not-true _ (c .if1 .taken))
-
-mul-end : tie.Need-mul-end
-mul-end c = search needs
-
-mul-all : tie.Need-mul-all
-mul-all c = search needs
-
-sub-all : tie.Need-sub-all
-sub-all c = search needs
-
-part-all-start : tie.Need-part-all-start
-part-all-start c = search needs
-
-part-all-end : tie.Need-part-all-end
-part-all-end c = search needs
-
-all-requires : tie.Need-all-requires
-all-requires c κs = search needs
 
 returns-2 : tie.Need-returns-2
 returns-2 c = let a = c .before .before .before .before .before .before .before .before .args in
@@ -57,18 +27,6 @@ returns-2 c = let a = c .before .before .before .before .before .before .before 
     labels-blank (a .a) (a .top) (a .sizes .now) (a .members .now) (p .1) (p .3) (p .2)
     (ap (allOf (eqb 0)) (sym (part-to-end (a .sizes .now) (a .top))) ∙ sym (c .before .before .before .before .zeros .ensures) ∙ not-false _ (c .before .before .before .if1 .left))
     (sym (all-zero (drop (12 * a .top) (a .members .now))) ∙ ne-eqb 0 _ (λ e. c .if2 .taken (c .before .all .ensures ∙ ap unionOf (part-to-end (a .members .now) (12 * a .top)) ∙ sym e)))
-
-slice-aggregate-all : tie.Need-slice-aggregate-all
-slice-aggregate-all c = sym (length-take-le _ _ (omega arith))
-
-all-requires-2 : tie.Need-all-requires-2
-all-requires-2 c κs = search needs
-
-low-requires : tie.Need-low-requires
-low-requires c κs = search needs
-
-rows-requires : tie.Need-rows-requires
-rows-requires c κs = search needs
 
 returns-3 : tie.Need-returns-3
 returns-3 c = let a = c .before .before .before .before .before .before .before .before .before .before .before .before .before .args in
@@ -89,22 +47,6 @@ returns-4 c = let a = c .before .before .before .before .before .before .before 
 pub labels-spec : {M : Type 1} → statement M
 labels-spec =
     tie.close
-    (tie.spec
-    sub-zeros
-    part-zeros-start
-    part-zeros-end
-    zeros-requires
-    returns
-    mul-end
-    mul-all
-    sub-all
-    part-all-start
-    part-all-end
-    all-requires
-    returns-2
-    slice-aggregate-all
-    all-requires-2
-    low-requires
-    rows-requires
-    returns-3
-    returns-4)
+    (tie.spec (λ c. search needs) (λ c. search needs) (λ c. search needs) (λ c κs. search needs) returns (λ c. search needs)
+    (λ c. search needs) (λ c. search needs) (λ c. search needs) (λ c. search needs) (λ c κs. search needs) returns-2
+    (λ c. sym (length-take-le _ _ (omega arith))) (λ c κs. search needs) (λ c κs. search needs) (λ c κs. search needs) returns-3 returns-4)

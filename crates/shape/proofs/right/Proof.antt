@@ -13,23 +13,11 @@ use Rattle.shape.proofs.right.Tie as tie
 returns : tie.Need-returns
 returns c = shape-depth (c .before .args .t1) (c .before .args .a) (c .before .args .top) (c .if1 .taken)
 
-all-requires : tie.Need-all-requires
-all-requires c κs = search needs
-
-low-requires : tie.Need-low-requires
-low-requires c κs = search needs
-
 returns-2 : tie.Need-returns-2
 returns-2 c = let s = c .before .before .before .before .before .before .before .args in
     shape-nogoods (s .t1) (s .a) (s .top) (omega arith)
     (sym (listed-by (s .a) (s .t1 .count) (s .t1 .nogoods))
     ∙ ap (λ (b : Bool). b && standing (s .t1 .count) (s .t1 .nogoods)) (sym (all-low (s .a) (s .t1 .nogoods)) ∙ ap (inRange (s .a)) (sym (c .before .before .all .ensures)) ∙ sym (c .before .low .ensures) ∙ not-true _ (c .if2 .taken)))
-
-list-requires : tie.Need-list-requires
-list-requires c κs = search needs
-
-labels-requires : tie.Need-labels-requires
-labels-requires c κs = search needs
 
 returns-3 : tie.Need-returns-3
 returns-3 c = let s = c .before .before .before .before .before .before .before .before .before .before .before .before .before .before .before .before .before .before .args in
@@ -46,12 +34,5 @@ returns-4 c = let s = c .before .before .before .before .before .before .before 
 pub right-spec : {M : Type 1} → statement M
 right-spec =
     tie.close
-    (tie.spec
-    returns
-    all-requires
-    low-requires
-    returns-2
-    list-requires
-    labels-requires
-    returns-3
+    (tie.spec returns (λ c κs. search needs) (λ c κs. search needs) returns-2 (λ c κs. search needs) (λ c κs. search needs) returns-3
     returns-4)

@@ -19,39 +19,18 @@ abbrev μ-loop : tie.MeasureT-loop
 returns : tie.Need-returns Inv-loop μ-loop
 returns c = run-short _ (c .if1 .taken)
 
-shared-slice-read-last : tie.Need-shared-slice-read-last Inv-loop μ-loop
-shared-slice-read-last c = search needs
-
 loop-holds : tie.Need-loop-holds Inv-loop μ-loop
 loop-holds c = (omega arith, omega arith, omega arith, refl, run-one _)
-
-mul-e : tie.Need-mul-e Inv-loop μ-loop
-mul-e c = search needs
-
-shared-slice-read-e : tie.Need-shared-slice-read-e Inv-loop μ-loop
-shared-slice-read-e c = search needs
 
 returns-2 : tie.Need-returns-2 Inv-loop μ-loop
 returns-2 c = let l = c .before .before .before .before .loop in
     let m = c .before .before .before .before .before .before .before .before .args .l .now in
     run-low m (l .i) (l .from) (l .last) (l .inv .4) (l .inv .0) (c .before .before .before .loop-test .taken) (c .before .if2 .taken ∙ l .inv .3) (c .if3 .taken)
 
-slice-aggregate-first-within : tie.Need-slice-aggregate-first-within Inv-loop μ-loop
-slice-aggregate-first-within c = sym (length-take-le _ _ (omega arith))
-
-first-within-requires : tie.Need-first-within-requires Inv-loop μ-loop
-first-within-requires c κs = search needs
-
 returns-3 : tie.Need-returns-3 Inv-loop μ-loop
 returns-3 c = let l = c .before .before .before .before .before .before .before .loop in
     let m = c .before .before .before .before .before .before .before .before .before .before .before .args .l .now in
     run-in m (l .i) (l .from) (l .last) (l .inv .4) (l .inv .0) (c .before .before .before .before .before .before .loop-test .taken) (l .from) _ (omega arith) (c .before .first-within .ensures) (c .if4 .taken)
-
-add-i : tie.Need-add-i Inv-loop μ-loop
-add-i c = search needs
-
-loop-less : tie.Need-loop-less Inv-loop μ-loop
-loop-less c = search needs
 
 loop-again : tie.Need-loop-again Inv-loop μ-loop
 loop-again c = let l = c .before .before .before .before .before .before .before .loop in
@@ -68,22 +47,10 @@ returns-4 c = let l = c .before .before .before .before .loop in
     let m = c .before .before .before .before .before .before .before .before .args .l .now in
     run-fewer m (l .i) (l .from) (l .last) (l .inv .4) (l .inv .0) (c .before .before .before .loop-test .taken) (omega (arith, c .if5 .taken, l .inv .3))
 
-slice-aggregate-first-within-2 : tie.Need-slice-aggregate-first-within-2 Inv-loop μ-loop
-slice-aggregate-first-within-2 c = sym (length-take-le _ _ (omega arith))
-
-first-within-requires-2 : tie.Need-first-within-requires-2 Inv-loop μ-loop
-first-within-requires-2 c κs = search needs
-
 returns-5 : tie.Need-returns-5 Inv-loop μ-loop
 returns-5 c = let l = c .before .before .before .before .before .before .before .loop in
     let m = c .before .before .before .before .before .before .before .before .before .before .before .args .l .now in
     run-in m (l .i) (l .from) (l .last) (l .inv .4) (l .inv .0) (c .before .before .before .before .before .before .loop-test .taken) (l .i) _ (omega arith) (c .before .first-within2 .ensures) (c .if6 .taken)
-
-add-i-2 : tie.Need-add-i-2 Inv-loop μ-loop
-add-i-2 c = search needs
-
-loop-less-2 : tie.Need-loop-less-2 Inv-loop μ-loop
-loop-less-2 c = search needs
 
 loop-again-2 : tie.Need-loop-again-2 Inv-loop μ-loop
 loop-again-2 c = let l = c .before .before .before .before .before .before .before .loop in
@@ -101,26 +68,7 @@ returns-6 c = let l = c .before .loop in run-end _ (l .i) (l .from) (l .last) (l
 pub sorted-spec : {M : Type 1} → statement M
 sorted-spec =
     tie.close
-    (tie.spec
-    Inv-loop
-    μ-loop
-    returns
-    shared-slice-read-last
-    loop-holds
-    mul-e
-    shared-slice-read-e
-    returns-2
-    slice-aggregate-first-within
-    first-within-requires
-    returns-3
-    add-i
-    loop-less
-    loop-again
-    returns-4
-    slice-aggregate-first-within-2
-    first-within-requires-2
-    returns-5
-    add-i-2
-    loop-less-2
-    loop-again-2
-    returns-6)
+    (tie.spec Inv-loop μ-loop returns (λ c. search needs) loop-holds (λ c. search needs) (λ c. search needs) returns-2
+    (λ c. sym (length-take-le _ _ (omega arith))) (λ c κs. search needs) returns-3 (λ c. search needs) (λ c. search needs) loop-again
+    returns-4 (λ c. sym (length-take-le _ _ (omega arith))) (λ c κs. search needs) returns-5 (λ c. search needs) (λ c. search needs)
+    loop-again-2 returns-6)

@@ -19,26 +19,11 @@ returns c =
     let a = c .before .args in
     sym (same-length (a .a .now) (a .b .now) (omega (arith, c .if1 .taken)))
 
-loop-holds : tie.Need-loop-holds Inv-loop μ-loop
-loop-holds c = (omega arith, refl)
-
-shared-slice-read-if2 : tie.Need-shared-slice-read-if2 Inv-loop μ-loop
-shared-slice-read-if2 c = omega arith
-
-shared-slice-read-if2-2 : tie.Need-shared-slice-read-if2-2 Inv-loop μ-loop
-shared-slice-read-if2-2 c = omega arith
-
 returns-2 : tie.Need-returns-2 Inv-loop μ-loop
 returns-2 c =
     let l = c .before .before .before .before .loop in
     let a = c .before .before .before .before .before .before .args in
     sym (l .inv .1 ∙ same-miss (a .a .now) (a .b .now) (l .i) (omega arith) (omega (arith, c .before .before .before .before .before .if1 .left)) (c .if2 .taken))
-
-add-i : tie.Need-add-i Inv-loop μ-loop
-add-i c = omega arith
-
-loop-less : tie.Need-loop-less Inv-loop μ-loop
-loop-less c = omega arith
 
 loop-again : tie.Need-loop-again Inv-loop μ-loop
 loop-again c =
@@ -55,15 +40,5 @@ returns-3 c =
 pub equal-spec : {M : Type 1} → statement M
 equal-spec =
     tie.close
-    (tie.spec
-    Inv-loop
-    μ-loop
-    returns
-    loop-holds
-    shared-slice-read-if2
-    shared-slice-read-if2-2
-    returns-2
-    add-i
-    loop-less
-    loop-again
-    returns-3)
+    (tie.spec Inv-loop μ-loop returns (λ c. (omega arith, refl)) (λ c. omega arith) (λ c. omega arith) returns-2 (λ c. omega arith)
+    (λ c. omega arith) loop-again returns-3)

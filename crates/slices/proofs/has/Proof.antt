@@ -18,23 +18,8 @@ Inv-loop l n i₀ i = (i ≤ length l) × (someOf (eqb n) l ≡ someOf (eqb n) (
 abbrev μ-loop : tie.MeasureT-loop
 μ-loop l n i₀ i = length l - i
 
-loop-holds : tie.Need-loop-holds Inv-loop μ-loop
-loop-holds c = (omega arith, refl)
-
-mul-if1 : tie.Need-mul-if1 Inv-loop μ-loop
-mul-if1 c = search needs
-
-shared-slice-read-if1 : tie.Need-shared-slice-read-if1 Inv-loop μ-loop
-shared-slice-read-if1 c = search needs
-
 returns : tie.Need-returns Inv-loop μ-loop
 returns c = let l = c .before .before .before .loop in let a = c .before .before .before .before .args in sym (l .inv .1 ∙ any-hit (eqb (a .n)) (a .l .now) (l .i) 0 (omega arith) (eq-eqb _ _ (sym (c .if1 .taken))))
-
-add-i : tie.Need-add-i Inv-loop μ-loop
-add-i c = search needs
-
-loop-less : tie.Need-loop-less Inv-loop μ-loop
-loop-less c = search needs
 
 loop-again : tie.Need-loop-again Inv-loop μ-loop
 loop-again c = let l = c .before .before .before .loop in let a = c .before .before .before .before .args in (omega arith, l .inv .1 ∙ any-miss (eqb (a .n)) (a .l .now) (l .i) 0 (omega arith) (ne-eqb _ _ (λ e. c .if1 .left (sym e))))
@@ -45,14 +30,5 @@ returns-2 c = let l = c .before .loop in let a = c .before .before .args in sym 
 pub has-spec : {M : Type 1} → statement M
 has-spec =
     tie.close
-    (tie.spec
-    Inv-loop
-    μ-loop
-    loop-holds
-    mul-if1
-    shared-slice-read-if1
-    returns
-    add-i
-    loop-less
-    loop-again
-    returns-2)
+    (tie.spec Inv-loop μ-loop (λ c. (omega arith, refl)) (λ c. search needs) (λ c. search needs) returns (λ c. search needs)
+    (λ c. search needs) loop-again returns-2)

@@ -17,18 +17,6 @@ Inv-loop l seen₀ i₀ seen i = (i ≤ length l) × (eqb 0 seen && allOf (eqb 0
 abbrev μ-loop : tie.MeasureT-loop
 μ-loop l seen₀ i₀ seen i = length l - i
 
-loop-holds : tie.Need-loop-holds Inv-loop μ-loop
-loop-holds c = (omega arith, refl)
-
-shared-slice-read-seen : tie.Need-shared-slice-read-seen Inv-loop μ-loop
-shared-slice-read-seen c = search needs
-
-add-i : tie.Need-add-i Inv-loop μ-loop
-add-i c = search needs
-
-loop-less : tie.Need-loop-less Inv-loop μ-loop
-loop-less c = search needs
-
 loop-again : tie.Need-loop-again Inv-loop μ-loop
 loop-again c = let l = c .before .before .loop in (omega arith, zero-on (eqb 0) _ (l .i) (l .seen) _ (l .inv .1) 0 _ (omega arith) refl)
 
@@ -38,4 +26,4 @@ returns c = let l = c .before .loop in zero-end (eqb 0) _ (l .i) (l .seen) _ (l 
 pub zeros-spec : {M : Type 1} → statement M
 zeros-spec =
     tie.close
-    (tie.spec Inv-loop μ-loop loop-holds shared-slice-read-seen add-i loop-less loop-again returns)
+    (tie.spec Inv-loop μ-loop (λ c. (omega arith, refl)) (λ c. search needs) (λ c. search needs) (λ c. search needs) loop-again returns)

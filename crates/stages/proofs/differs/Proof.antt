@@ -19,9 +19,6 @@ abbrev μ-loop : tie.MeasureT-loop
 returns : tie.Need-returns Inv-loop μ-loop
 returns c = let s = c .before in let e : length (s .args .list .sets) ≡ limits .nogoods = search needs in differs-count (s .args .list .sets) _ (s .args .list .count) (omega (arith, s .pre)) (c .if1 .taken)
 
-loop-holds : tie.Need-loop-holds Inv-loop μ-loop
-loop-holds c = (omega arith, refl)
-
 mul-if2 : tie.Need-mul-if2 Inv-loop μ-loop
 mul-if2 c = omega (arith, c .before .before .before .before .pre, c .loop-test .taken)
 
@@ -52,17 +49,5 @@ returns-3 c = let s = c .before .before .before .before in let e : length (s .ar
 pub differs-spec : {M : Type 1} → statement M
 differs-spec =
     tie.close
-    (tie.spec
-    Inv-loop
-    μ-loop
-    returns
-    loop-holds
-    mul-if2
-    array-read-if2
-    mul-if2-2
-    shared-slice-read-if2
-    returns-2
-    add-i
-    loop-less
-    loop-again
-    returns-3)
+    (tie.spec Inv-loop μ-loop returns (λ c. (omega arith, refl)) mul-if2 array-read-if2 mul-if2-2 shared-slice-read-if2 returns-2 add-i
+    loop-less loop-again returns-3)

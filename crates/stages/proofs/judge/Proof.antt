@@ -53,26 +53,14 @@ start-requires c κs = c .before .before .pre .assumptions
 loop-holds : tie.Need-loop-holds Inv-loop μ-loop
 loop-holds c = (judge-reached _ (begun c .before .before .pre) _ (c .before .before .start .ensures), judge-from _ (begun c .before .before .pre) _ (c .before .before .start .ensures), fresh-start _ _ _ refl (marked-all 0 (omega arith)), refl, refl)
 
-slice-aggregate-next : tie.Need-slice-aggregate-next Inv-loop μ-loop
-slice-aggregate-next c = search needs
-
 slice-aggregate-next-2 : tie.Need-slice-aggregate-next-2 Inv-loop μ-loop
 slice-aggregate-next-2 c = let l = head (lent c) .loop in sym (ap length (l .inv .3) ∙ layout _ _ (l .inv .0 .room) _ (l .inv .0 .is) .members-length)
 
 slice-aggregate-next-3 : tie.Need-slice-aggregate-next-3 Inv-loop μ-loop
 slice-aggregate-next-3 c = let l = head (lent (c .before)) .loop in sym (ap length (l .inv .4) ∙ layout _ _ (l .inv .0 .room) _ (l .inv .0 .is) .sizes-length)
 
-slice-aggregate-next-4 : tie.Need-slice-aggregate-next-4 Inv-loop μ-loop
-slice-aggregate-next-4 c = search needs
-
 next-requires : tie.Need-next-requires Inv-loop μ-loop
 next-requires c κs = let l = head (lent (all-lent c)) .loop in (l .inv .0, begun (head (lent (all-lent c)) .before) .before .tally .ensures, l .inv .2, begun (head (lent (all-lent c)) .before) .laid .ensures, l .inv .3, l .inv .4, refl)
-
-number-requires : tie.Need-number-requires Inv-loop μ-loop
-number-requires c κs = search needs
-
-refused-requires : tie.Need-refused-requires Inv-loop μ-loop
-refused-requires c κs = search needs
 
 returns : tie.Need-returns Inv-loop μ-loop
 returns c = let l = head (lent (all-lent (back (c .before .before .before) .before))) .loop in c .refused .ensures ∙ walk-refused _ (l .lists) (l .inv .0) _ (l .inv .1) _ _ _ _ (back (c .before .before .before) .next .ensures) _ (c .before .before .number .ensures) (c .before .if1 .taken)
@@ -99,22 +87,6 @@ loop-again c =
 pub judge-spec : {M : Type 1} → statement M
 judge-spec =
     tie.close
-    (tie.spec
-    Inv-loop
-    μ-loop
-    tally-requires
-    laid-requires
-    start-requires
-    loop-holds
-    slice-aggregate-next
-    slice-aggregate-next-2
-    slice-aggregate-next-3
-    slice-aggregate-next-4
-    next-requires
-    number-requires
-    refused-requires
-    returns
-    returns-2
-    add-t30
-    loop-less
-    loop-again)
+    (tie.spec Inv-loop μ-loop tally-requires laid-requires start-requires loop-holds (λ c. search needs) slice-aggregate-next-2
+    slice-aggregate-next-3 (λ c. search needs) next-requires (λ c κs. search needs) (λ c κs. search needs) returns returns-2 add-t30
+    loop-less loop-again)

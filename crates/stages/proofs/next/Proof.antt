@@ -47,23 +47,11 @@ back c = c .before .before .before .before .before .before
 touched-requires : tie.Need-touched-requires
 touched-requires c κs = (entry c .pre .0 .judgeable, entry c .pre .2 .long)
 
-array-read-refuted : tie.Need-array-read-refuted
-array-read-refuted c = search needs
-
-cast-refuted : tie.Need-cast-refuted
-cast-refuted c = search needs
-
-array-read-refuted-2 : tie.Need-array-read-refuted-2
-array-read-refuted-2 c = search needs
-
 refuted-requires : tie.Need-refuted-requires
 refuted-requires c κs =
     let p = entry (c .before) .pre in
     let a = entry (c .before) .args in
     (p .0, ap (λ t. getD t 0 0) (p .1), λ z. (stale-from (a .held) (a .depth) _ (p .2) (wide (a .held) (p .0 .judgeable)) (λ r m s o. right-range (a .held) (p .0 .judgeable .right) r m .between s o .1) (c .touched .result) (c .touched .ensures)) 0 (omega arith) z, p .2, p .3)
-
-stopped-requires : tie.Need-stopped-requires
-stopped-requires c κs = search needs
 
 returns : tie.Need-returns
 returns c =
@@ -105,18 +93,12 @@ relabel-requires c κs =
     let was : Lists = lists (a .members .now) (a .sizes .now) (a .many) (a .t8) (a .depth) in
     ((a .many, a .t8, p .0), p .1, listed-taken _ _ _ n, (stale-from (a .held) (a .depth) _ (p .2) (wide (a .held) (p .0 .judgeable)) (λ r m s o. right-range (a .held) (p .0 .judgeable .right) r m .between s o .1) (within (struck (lent c) .before) .before .before .touched .result) (within (struck (lent c) .before) .before .before .touched .ensures)), p .2, told-news (a .held) (p .0 .judgeable) (a .depth) _ (news-told (a .held) (p .0 .judgeable) (a .depth) was (p .0 .is) (p .0 .room) _ _ n _ (struck (lent c) .differs .ensures)), p .4, p .5, p .6, p .3, refl)
 
-stopped-requires-2 : tie.Need-stopped-requires-2
-stopped-requires-2 c κs = search needs
-
 returns-2 : tie.Need-returns-2
 returns-2 c =
     let p = entry (asked (within (struck (lent (back (c .before .before) .before)) .before) .before)) .pre in
     let a = entry (asked (within (struck (lent (back (c .before .before) .before)) .before) .before)) .args in
     let n = built-listed (stageBy (a .held) (a .depth + 1) .nogoods) _ (within (struck (lent (back (c .before .before) .before)) .before) .before .refuted .ensures) (within (struck (lent (back (c .before .before) .before)) .before) .if1 .left) in
     turn-stopped (a .held) (a .depth) _ _ _ _ (Label _) (label-not-done _) refl (next-beyond _ _ (listed-few _ _ _ n) _ (back (c .before .before) .relabel .ensures .over) (c .before .if2 .taken) _ refl) (c .stopped2 .ensures)
-
-still-requires : tie.Need-still-requires
-still-requires c κs = search needs
 
 returns-3 : tie.Need-returns-3
 returns-3 c =
@@ -133,48 +115,10 @@ returns-3 c =
       agrees = λ z. step-agrees (a .held) (a .depth) _ (r .marks-are (c .before .before .if2 .left)) (wide (a .held) (p .0 .judgeable)) _ (news-told (a .held) (p .0 .judgeable) (a .depth) was (p .0 .is) (p .0 .room) _ _ n _ (struck (lent (back (c .before .before .before) .before)) .differs .ensures)) _ (c .still .ensures);
     }
 
-same-length : tie.Need-same-length
-same-length c = search needs
-
-same-length-2 : tie.Need-same-length-2
-same-length-2 c = search needs
-
-same-length-3 : tie.Need-same-length-3
-same-length-3 c = search needs
-
-same-length-4 : tie.Need-same-length-4
-same-length-4 c = search needs
-
-same-length-5 : tie.Need-same-length-5
-same-length-5 c = search needs
-
-same-length-6 : tie.Need-same-length-6
-same-length-6 c = search needs
-
 pub next-spec : {M : Type 1} → statement M
 next-spec =
     tie.close
-    (tie.spec
-    touched-requires
-    array-read-refuted
-    cast-refuted
-    array-read-refuted-2
-    refuted-requires
-    stopped-requires
-    returns
-    array-share-prefix-nogoods
-    slice-aggregate-differs
-    differs-requires
-    array-share-prefix-struck
-    slice-aggregate-relabel
-    relabel-requires
-    stopped-requires-2
-    same-length
-    same-length-2
-    same-length-3
-    returns-2
-    still-requires
-    same-length-4
-    same-length-5
-    same-length-6
-    returns-3)
+    (tie.spec touched-requires (λ c. search needs) (λ c. search needs) (λ c. search needs) refuted-requires (λ c κs. search needs) returns
+    array-share-prefix-nogoods slice-aggregate-differs differs-requires array-share-prefix-struck slice-aggregate-relabel relabel-requires
+    (λ c κs. search needs) (λ c. search needs) (λ c. search needs) (λ c. search needs) returns-2 (λ c κs. search needs) (λ c. search needs)
+    (λ c. search needs) (λ c. search needs) returns-3)

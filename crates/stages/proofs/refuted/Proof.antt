@@ -38,12 +38,6 @@ slice-aggregate-build c =
     let a = c .before .before .before .args in
     sym (length-take-le (a .count) (a .t7) (omega (arith, nogoods-few _ _ (p .room) _ (p .is), nogoods-long _ _ (p .room) _ (p .is))))
 
-array-share-prefix-none : tie.Need-array-share-prefix-none
-array-share-prefix-none c = search needs
-
-slice-aggregate-build-2 : tie.Need-slice-aggregate-build-2
-slice-aggregate-build-2 c = search needs
-
 build-requires : tie.Need-build-requires
 build-requires c κs =
     let p = c .before .before .before .before .pre in
@@ -63,11 +57,4 @@ returns-2 c =
 pub refuted-spec : {M : Type 1} → statement M
 refuted-spec =
     tie.close
-    (tie.spec
-    returns
-    array-share-prefix-old
-    slice-aggregate-build
-    array-share-prefix-none
-    slice-aggregate-build-2
-    build-requires
-    returns-2)
+    (tie.spec returns array-share-prefix-old slice-aggregate-build (λ c. search needs) (λ c. search needs) build-requires returns-2)

@@ -78,41 +78,20 @@ struck-back c = c .before .before .before .before .before .before
 add-if1 : tie.Need-add-if1 Inv-loop μ-loop
 add-if1 c = omega (arith, wide _ (entry (c .before .before) .pre .0 .2 .judgeable))
 
-array-read-hi : tie.Need-array-read-hi Inv-loop μ-loop
-array-read-hi c = search needs
-
-cast-hi : tie.Need-cast-hi Inv-loop μ-loop
-cast-hi c = search needs
-
 loop-holds : tie.Need-loop-holds Inv-loop μ-loop
 loop-holds c =
     let p = entry c .pre in
     let a = entry c .args in
     relabelling-none (a .held) (a .depth) _ _ _ _ (p .8) (first-on _ (p .0 .2 .judgeable) _ (p .1)) (p .7 ∙ sizes-are _ _ (p .0 .2 .room) _ (p .0 .2 .is)) (p .6 ∙ members-are _ _ (p .0 .2 .room) _ (p .0 .2 .is))
 
-cast-at : tie.Need-cast-at Inv-loop μ-loop
-cast-at c = search needs
-
-add-hi : tie.Need-add-hi Inv-loop μ-loop
-add-hi c = search needs
-
-mul-hi : tie.Need-mul-hi Inv-loop μ-loop
-mul-hi c = search needs
-
 array-read-hi-2 : tie.Need-array-read-hi-2 Inv-loop μ-loop
 array-read-hi-2 c = omega (arith, wide _ (entry (head c .before) .pre .0 .2 .judgeable), c .if1 .taken)
-
-cast-hi-2 : tie.Need-cast-hi-2 Inv-loop μ-loop
-cast-hi-2 c = search needs
 
 add-hi-2 : tie.Need-add-hi-2 Inv-loop μ-loop
 add-hi-2 c = let p = entry (head c .before) .pre in let l = head c .loop in omega (arith, tally-low _ (p .0 .2 .judgeable) _ (p .1) (l .i + 1) (l .hi) (omega (arith, wide _ (p .0 .2 .judgeable), c .if1 .taken)) (l .inv .part))
 
 add-i : tie.Need-add-i Inv-loop μ-loop
 add-i c = omega (arith, wide _ (entry (head c .before) .pre .0 .2 .judgeable), c .if1 .taken)
-
-mul-from : tie.Need-mul-from Inv-loop μ-loop
-mul-from c = search needs
 
 element-copy-out-end : tie.Need-element-copy-out-end Inv-loop μ-loop
 element-copy-out-end c = let p = entry (head c .before) .pre .0 .2 in omega (arith, layout _ _ (p .room) _ (p .is) .sizes-length, wide _ (p .judgeable), c .if1 .taken)
@@ -123,23 +102,11 @@ cast-end c = let p = entry (head (c .before) .before) .pre .0 .2 in omega (arith
 add-end : tie.Need-add-end Inv-loop μ-loop
 add-end c = let p = entry (head (c .before) .before) .pre .0 .2 in omega (arith, layout _ _ (p .room) _ (p .is) .sizes-small (head (c .before) .loop .i), wide _ (p .judgeable), c .before .if1 .taken)
 
-mul-old : tie.Need-mul-old Inv-loop μ-loop
-mul-old c = search needs
-
-sub-old : tie.Need-sub-old Inv-loop μ-loop
-sub-old c = search needs
-
-part-old-start : tie.Need-part-old-start Inv-loop μ-loop
-part-old-start c = search needs
-
 part-old-end : tie.Need-part-old-end Inv-loop μ-loop
 part-old-end c =
     let p = entry (head (c .before) .before) .pre .0 .2 in
     let y = layout _ _ (p .room) _ (p .is) in
     omega (arith, y .sizes-small (head (c .before) .loop .i), ap length (entry (head (c .before) .before) .pre .10) ∙ y .members-length, wide _ (p .judgeable), c .before .if1 .taken)
-
-add-if2 : tie.Need-add-if2 Inv-loop μ-loop
-add-if2 c = search needs
 
 array-read-if2 : tie.Need-array-read-if2 Inv-loop μ-loop
 array-read-if2 c = omega (arith, wide _ (entry (head (inside c) .before) .pre .0 .2 .judgeable), inside c .if1 .taken)
@@ -294,45 +261,8 @@ returns-2 c = relabelling-end (entry (c .before .before .before) .args .held) (e
 pub relabel-spec : {M : Type 1} → statement M
 relabel-spec =
     tie.close
-    (tie.spec
-    Inv-loop
-    μ-loop
-    array-read-hi
-    cast-hi
-    loop-holds
-    add-if1
-    cast-at
-    add-hi
-    mul-hi
-    array-read-hi-2
-    cast-hi-2
-    add-hi-2
-    add-i
-    mul-from
-    element-copy-out-end
-    cast-end
-    add-end
-    mul-old
-    sub-old
-    part-old-start
-    part-old-end
-    add-if2
-    array-read-if2
-    build-requires
-    same-length
-    same-length-2
-    same-length-3
-    returns
-    put-requires
-    loop-less
-    loop-again
-    loop-less-2
-    loop-again-2
-    strike-requires
-    put-requires-2
-    loop-less-3
-    loop-again-3
-    same-length-4
-    same-length-5
-    same-length-6
-    returns-2)
+    (tie.spec Inv-loop μ-loop (λ c. search needs) (λ c. search needs) loop-holds add-if1 (λ c. search needs) (λ c. search needs)
+    (λ c. search needs) array-read-hi-2 (λ c. search needs) add-hi-2 add-i (λ c. search needs) element-copy-out-end cast-end add-end
+    (λ c. search needs) (λ c. search needs) (λ c. search needs) part-old-end (λ c. search needs) array-read-if2 build-requires same-length
+    same-length-2 same-length-3 returns put-requires loop-less loop-again loop-less-2 loop-again-2 strike-requires put-requires-2
+    loop-less-3 loop-again-3 same-length-4 same-length-5 same-length-6 returns-2)

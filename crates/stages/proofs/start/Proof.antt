@@ -19,21 +19,6 @@ abbrev μ-loop : tie.MeasureT-loop
 loop-holds : tie.Need-loop-holds Inv-loop μ-loop
 loop-holds c = (omega arith, sizes-none, members-none, refl, refl, refl)
 
-cast-at : tie.Need-cast-at Inv-loop μ-loop
-cast-at c = search needs
-
-add-only : tie.Need-add-only Inv-loop μ-loop
-add-only c = search needs
-
-only-requires : tie.Need-only-requires Inv-loop μ-loop
-only-requires c κs = search needs
-
-add-i : tie.Need-add-i Inv-loop μ-loop
-add-i c = search needs
-
-loop-less : tie.Need-loop-less Inv-loop μ-loop
-loop-less c = search needs
-
 loop-again : tie.Need-loop-again Inv-loop μ-loop
 loop-again c =
     let l = c .before .before .loop in
@@ -48,33 +33,8 @@ returns c =
     counted : Lists → ℕ → ℕ → Lists
     counted x n d = record { sizes = x .sizes; members = x .members; count = n; nogoods = x .nogoods; depth = d }
 
-element-write-lists : tie.Need-element-write-lists Inv-loop μ-loop
-element-write-lists c = search needs
-
-mul-lists : tie.Need-mul-lists Inv-loop μ-loop
-mul-lists c = search needs
-
-mul-lists-2 : tie.Need-mul-lists-2 Inv-loop μ-loop
-mul-lists-2 c = search needs
-
-element-write-lists-2 : tie.Need-element-write-lists-2 Inv-loop μ-loop
-element-write-lists-2 c = search needs
-
 pub start-spec : {M : Type 1} → statement M
 start-spec =
     tie.close
-    (tie.spec
-    Inv-loop
-    μ-loop
-    loop-holds
-    cast-at
-    element-write-lists
-    add-only
-    only-requires
-    mul-lists
-    mul-lists-2
-    element-write-lists-2
-    add-i
-    loop-less
-    loop-again
-    returns)
+    (tie.spec Inv-loop μ-loop loop-holds (λ c. search needs) (λ c. search needs) (λ c. search needs) (λ c κs. search needs)
+    (λ c. search needs) (λ c. search needs) (λ c. search needs) (λ c. search needs) (λ c. search needs) loop-again returns)

@@ -7,11 +7,8 @@ use Rattle.stages.proofs.still.Tie as tie
 returns : tie.Need-returns
 returns c = still-news _ _ (c .if1 .taken)
 
-zeros-requires : tie.Need-zeros-requires
-zeros-requires c κs = search needs
-
 returns-2 : tie.Need-returns-2
 returns-2 c = still-quiet _ _ (c .before .if1 .left) _ (c .zeros .ensures)
 
 pub still-spec : {M : Type 1} → statement M
-still-spec = tie.close (tie.spec returns zeros-requires returns-2)
+still-spec = tie.close (tie.spec returns (λ c κs. search needs) returns-2)

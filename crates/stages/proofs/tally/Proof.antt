@@ -59,18 +59,5 @@ returns c = count-all _ (c .before .before .pre) (c .before .loop .j) (c .loop-t
 pub tally-spec : {M : Type 1} → statement M
 tally-spec =
     tie.close
-    (tie.spec
-    Inv-loop
-    μ-loop
-    loop-holds
-    mul-entry
-    element-copy-out-entry
-    cast-n
-    mul-tallies
-    array-read-tallies
-    add-tallies
-    array-write-tallies
-    add-j
-    loop-less
-    loop-again
-    returns)
+    (tie.spec Inv-loop μ-loop loop-holds mul-entry element-copy-out-entry cast-n mul-tallies array-read-tallies add-tallies
+    array-write-tallies add-j loop-less loop-again returns)

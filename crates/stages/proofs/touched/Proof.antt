@@ -63,18 +63,5 @@ returns c = touched-end _ (c .before .before .before .before .args .t1 .entries)
 pub touched-spec : {M : Type 1} → statement M
 touched-spec =
     tie.close
-    (tie.spec
-    Inv-loop
-    μ-loop
-    shared-slice-read-first
-    loop-holds
-    mul-entry
-    element-copy-out-entry
-    cast-n
-    array-read-marked
-    marked-requires
-    array-write-marks
-    add-j
-    loop-less
-    loop-again
-    returns)
+    (tie.spec Inv-loop μ-loop shared-slice-read-first loop-holds mul-entry element-copy-out-entry cast-n array-read-marked marked-requires
+    array-write-marks add-j loop-less loop-again returns)

@@ -19,26 +19,8 @@ abbrev μ-loop : tie.MeasureT-loop
 loop-holds : tie.Need-loop-holds Inv-loop μ-loop
 loop-holds c = (omega arith, refl, paste-zero (c .before .args .members .now) (c .before .args .from) (c .before .args .label .sets))
 
-mul-members : tie.Need-mul-members Inv-loop μ-loop
-mul-members c = search needs
-
-array-read-members : tie.Need-array-read-members Inv-loop μ-loop
-array-read-members c = search needs
-
-add-members : tie.Need-add-members Inv-loop μ-loop
-add-members c = search needs
-
-mul-members-2 : tie.Need-mul-members-2 Inv-loop μ-loop
-mul-members-2 c = search needs
-
 slice-write-members : tie.Need-slice-write-members Inv-loop μ-loop
 slice-write-members c = omega (arith, c .before .loop .inv .1, c .before .before .before .pre)
-
-add-k : tie.Need-add-k Inv-loop μ-loop
-add-k c = search needs
-
-loop-less : tie.Need-loop-less Inv-loop μ-loop
-loop-less c = search needs
 
 loop-again : tie.Need-loop-again Inv-loop μ-loop
 loop-again c =
@@ -59,17 +41,5 @@ returns c =
 pub write-spec : {M : Type 1} → statement M
 write-spec =
     tie.close
-    (tie.spec
-    Inv-loop
-    μ-loop
-    loop-holds
-    mul-members
-    array-read-members
-    add-members
-    mul-members-2
-    slice-write-members
-    add-k
-    loop-less
-    loop-again
-    same-length
-    returns)
+    (tie.spec Inv-loop μ-loop loop-holds (λ c. search needs) (λ c. search needs) (λ c. search needs) (λ c. search needs) slice-write-members
+    (λ c. search needs) (λ c. search needs) loop-again same-length returns)

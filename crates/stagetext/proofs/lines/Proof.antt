@@ -12,23 +12,11 @@ use Rattle.stagetext.proofs.lines.Tie as tie
 known : (c : tie.Else1) → Readable (c .before .before .before .before .args .store) 0 (c .before .before .before .before .args .e)
 known c = readable (c .before .before .before .before .args .store) 0 (c .before .before .before .before .args .e) _ (followed-reply (c .before .before .before .before .args .store) 0 (c .before .before .before .before .args .e) _ (c .before .before .follow .ensures)) (sym (c .before .number .ensures) ∙ c .if1 .left)
 
-follow-requires : tie.Need-follow-requires
-follow-requires c κs = search needs
-
-number-requires : tie.Need-number-requires
-number-requires c κs = search needs
-
 returns : tie.Need-returns
 returns c = let a = c .before .before .before .before .args in lines-refused (a .store) (a .e) (a .out .now) _ (followed-reply (a .store) 0 (a .e) _ (c .before .before .follow .ensures)) (λ z. c .if1 .taken (c .before .number .ensures ∙ z))
 
 add-put : tie.Need-add-put
 add-put c = let f = known (c .before .before .before) .fit in omega (arith, f .few, f .claims)
-
-put-requires : tie.Need-put-requires
-put-requires c κs = search needs
-
-same-length : tie.Need-same-length
-same-length c = search needs
 
 returns-2 : tie.Need-returns-2
 returns-2 c =
@@ -39,4 +27,4 @@ returns-2 c =
 pub lines-spec : {M : Type 1} → statement M
 lines-spec =
     tie.close
-    (tie.spec follow-requires number-requires returns add-put put-requires same-length returns-2)
+    (tie.spec (λ c κs. search needs) (λ c κs. search needs) returns add-put (λ c κs. search needs) (λ c. search needs) returns-2)

@@ -8,9 +8,6 @@ use borrow.Author.Needs.{needs}
 use Rattle.stagetext.proofs.part.Statement.{statement}
 use Rattle.stagetext.proofs.part.Tie as tie
 
-array-read-if1 : tie.Need-array-read-if1
-array-read-if1 c = search needs
-
 returns : tie.Need-returns
 returns c =
     let a = c .before .before .args in
@@ -23,9 +20,6 @@ field-requires c κs =
     let e : length (a .t1) ≡ 129 = search needs in
     left-of (a .at) (a .out .now) (part-some (a .t1) (a .k) (a .n) e (c .before .before .before .pre .0) (c .before .if1 .left)) (c .before .before .before .pre .1) .room
 
-same-length : tie.Need-same-length
-same-length c = search needs
-
 returns-2 : tie.Need-returns-2
 returns-2 c =
     let a = c .before .before .before .before .before .before .args in
@@ -33,4 +27,4 @@ returns-2 c =
     put-as (part-some (a .t1) (a .k) (a .n) e (c .before .before .before .before .before .before .pre .0) (c .before .before .before .before .if1 .left)) (c .before .before .field .ensures)
 
 pub part-spec : {M : Type 1} → statement M
-part-spec = tie.close (tie.spec array-read-if1 returns field-requires same-length returns-2)
+part-spec = tie.close (tie.spec (λ c. search needs) returns field-requires (λ c. search needs) returns-2)

@@ -8,14 +8,8 @@ use lib.ListN.{length}
 use Rattle.stagetext.proofs.part_width.Statement.{statement}
 use Rattle.stagetext.proofs.part_width.Tie as tie
 
-array-read-if1 : tie.Need-array-read-if1
-array-read-if1 c = search needs
-
 returns : tie.Need-returns
 returns c = let e : length (c .before .args .t1) ≡ 129 = search needs in sym (ap length (part-none (c .before .args .t1) (c .before .args .k) (c .before .args .n) e (c .before .pre) (c .if1 .taken)))
-
-wide-requires : tie.Need-wide-requires
-wide-requires c κs = search needs
 
 add-result : tie.Need-add-result
 add-result c = omega (arith, c .wide .ensures, digits-most 2 (c .before .before .args .n) (omega (arith, c .before .before .pre)))
@@ -24,11 +18,4 @@ returns-2 : tie.Need-returns-2
 returns-2 c = let e : length (c .before .before .args .t1) ≡ 129 = search needs in omega (arith, c .wide .ensures, part-wide (c .before .before .args .t1) (c .before .before .args .k) (c .before .before .args .n) e (c .before .before .pre) (c .before .if1 .left))
 
 pub part-width-spec : {M : Type 1} → statement M
-part-width-spec =
-    tie.close
-    (tie.spec
-    array-read-if1
-    returns
-    wide-requires
-    add-result
-    returns-2)
+part-width-spec = tie.close (tie.spec (λ c. search needs) returns (λ c κs. search needs) add-result returns-2)

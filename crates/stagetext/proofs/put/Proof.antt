@@ -10,15 +10,6 @@ use Rattle.stagetext.proofs.put.Tie as tie
 returns : tie.Need-returns
 returns c = let a = c .before .before .args in put-above (a .t1) (a .top) (a .out .now) (c .if1 .taken)
 
-add-end : tie.Need-add-end
-add-end c = search needs
-
-slice-aggregate-last : tie.Need-slice-aggregate-last
-slice-aggregate-last c = search needs
-
-last-requires : tie.Need-last-requires
-last-requires c κs = search needs
-
 add-count : tie.Need-add-count
 add-count c = omega (arith, c .last .ensures, latest-low (c .before .before .before .before .args .t1) 0 (omega arith))
 
@@ -33,9 +24,6 @@ returns-2 c =
 rows-requires : tie.Need-rows-requires
 rows-requires c κs = (omega (arith, c .before .before .before .before .before .if1 .left), omega (arith, c .before .if2 .left, c .before .before .rows-width .ensures))
 
-same-length : tie.Need-same-length
-same-length c = search needs
-
 returns-3 : tie.Need-returns-3
 returns-3 c =
     let a = c .before .before .before .before .before .before .before .before .before .before .args in
@@ -44,14 +32,5 @@ returns-3 c =
 pub put-spec : {M : Type 1} → statement M
 put-spec =
     tie.close
-    (tie.spec
-    returns
-    add-end
-    slice-aggregate-last
-    last-requires
-    add-count
-    rows-width-requires
-    returns-2
-    rows-requires
-    same-length
-    returns-3)
+    (tie.spec returns (λ c. search needs) (λ c. search needs) (λ c κs. search needs) add-count rows-width-requires returns-2 rows-requires
+    (λ c. search needs) returns-3)

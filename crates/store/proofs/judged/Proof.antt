@@ -15,23 +15,11 @@ use Rattle.store.proofs.judged.Tie as tie
 fits : (c : tie.Else1) → heldFits (c .before .before .args .held) ≡ true
 fits c = sym (c .before .held-fits .ensures) ∙ not-false _ (c .if1 .left)
 
-held-fits-requires : tie.Need-held-fits-requires
-held-fits-requires c κs = search needs
-
-start-requires : tie.Need-start-requires
-start-requires c κs = search needs
-
 returns : tie.Need-returns
 returns c = ap (answer Shape) (c .start .ensures) ∙ judged-shape (c .before .before .before .args .held) (sym (c .before .before .held-fits .ensures) ∙ not-true _ (c .before .if1 .taken))
 
 judge-requires : tie.Need-judge-requires
 judge-requires c κs = let f = fits-elim (c .before .before .args .held) (fits c) in record { right = f .right; assumptions = f .few; numbers = omega (arith, f .few, f .claims) }
-
-number-requires : tie.Need-number-requires
-number-requires c κs = search needs
-
-start-requires-2 : tie.Need-start-requires-2
-start-requires-2 c κs = search needs
 
 returns-2 : tie.Need-returns-2
 returns-2 c =
@@ -48,12 +36,5 @@ returns-3 c =
 pub judged-spec : {M : Type 1} → statement M
 judged-spec =
     tie.close
-    (tie.spec
-    held-fits-requires
-    start-requires
-    returns
-    judge-requires
-    number-requires
-    start-requires-2
-    returns-2
+    (tie.spec (λ c κs. search needs) (λ c κs. search needs) returns judge-requires (λ c κs. search needs) (λ c κs. search needs) returns-2
     returns-3)

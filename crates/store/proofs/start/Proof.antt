@@ -8,14 +8,8 @@ use Rattle.store.proofs.start.Lts as lts
 use Rattle.rules.proofs.Held.nothing.Reads as nothing-reads
 use Rattle.stages.proofs.start.Reads as start-reads
 
-nothing-requires : tie.Need-nothing-requires
-nothing-requires c κs = search needs
-
-start-requires : tie.Need-start-requires
-start-requires c κs = search needs
-
 returns : tie.Need-returns
 returns c = let a = c .before .before .args in start-store (a .a) (a .m) _ _ (c .before .nothing .ensures) (c .start .ensures)
 
 pub start-spec : {M : Type 1} → statement M
-start-spec = tie.close (tie.spec nothing-requires start-requires returns)
+start-spec = tie.close (tie.spec (λ c κs. search needs) (λ c κs. search needs) returns)

@@ -36,12 +36,6 @@ loop-holds c = (omega arith, omega arith, omega arith, rest-start (limits .assum
 entry-requires : tie.Need-entry-requires Inv-loop μ-loop
 entry-requires c κs = let i = c .before .before .loop .inv in (i .0, omega arith, rest-room (limits .assumptions) _ _ _ (omega arith) (i .3))
 
-add-k : tie.Need-add-k Inv-loop μ-loop
-add-k c = omega arith
-
-loop-less : tie.Need-loop-less Inv-loop μ-loop
-loop-less c = omega arith
-
 loop-again : tie.Need-loop-again Inv-loop μ-loop
 loop-again c = let i = c .before .before .before .before .before .loop .inv in let e = c .before .before .entry .ensures in
     (omega arith, omega arith, omega (arith, e .next, i .2), rest-again (limits .assumptions) _ _ _ _ _ (omega arith) (i .2) (i .3) e)
@@ -61,17 +55,5 @@ same-length c = put-length (c .before .before .before .pre) (returns c)
 pub braces-spec : {M : Type 1} → statement M
 braces-spec =
     tie.close
-    (tie.spec
-    Inv-loop
-    μ-loop
-    slice-write-out
-    add-from
-    loop-holds
-    entry-requires
-    add-k
-    loop-less
-    loop-again
-    slice-write-out-2
-    add-result
-    same-length
-    returns)
+    (tie.spec Inv-loop μ-loop slice-write-out add-from loop-holds entry-requires (λ c. omega arith) (λ c. omega arith) loop-again
+    slice-write-out-2 add-result same-length returns)

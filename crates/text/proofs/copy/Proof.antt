@@ -25,20 +25,11 @@ ended c = rw (drop-of-length-le (c .before .before .args .word .now) {i = c .bef
 loop-holds : tie.Need-loop-holds Inv-loop μ-loop
 loop-holds c = (refl, omega arith, left-start (c .pre))
 
-shared-slice-read-out : tie.Need-shared-slice-read-out Inv-loop μ-loop
-shared-slice-read-out c = omega arith
-
 slice-write-out : tie.Need-slice-write-out Inv-loop μ-loop
 slice-write-out c = omega (arith, (turn (c .before)) .room)
 
 add-next : tie.Need-add-next Inv-loop μ-loop
 add-next c = let l = turn (c .before) in omega (arith, l .room, l .same)
-
-add-i : tie.Need-add-i Inv-loop μ-loop
-add-i c = omega arith
-
-loop-less : tie.Need-loop-less Inv-loop μ-loop
-loop-less c = omega arith
 
 loop-again : tie.Need-loop-again Inv-loop μ-loop
 loop-again c = (c .before .before .loop .inv .0, omega arith, left-byte _ _ (turn (c .before)))
@@ -52,15 +43,5 @@ returns c = left-none (ended c)
 pub copy-spec : {M : Type 1} → statement M
 copy-spec =
     tie.close
-    (tie.spec
-    Inv-loop
-    μ-loop
-    loop-holds
-    shared-slice-read-out
-    slice-write-out
-    add-next
-    add-i
-    loop-less
-    loop-again
-    same-length
-    returns)
+    (tie.spec Inv-loop μ-loop loop-holds (λ c. omega arith) slice-write-out add-next (λ c. omega arith) (λ c. omega arith) loop-again
+    same-length returns)

@@ -27,17 +27,11 @@ first c = let s = c .before .before .before .before in left-as (entered-first _ 
 comma : (c : tie.Then2) → let s = c .before .before .before .before in Left (44 ∷ digits (s .args .k)) (s .args .at) (s .args .out .now) (entered (s .args .e) (s .args .k) (ltb (s .args .from) (s .args .at))) (s .args .at) (s .args .out .now)
 comma c = let s = c .before .before .before .before in left-as (entered-later _ _ _ (present (c .before)) (lt-ltb _ _ (c .if2 .taken))) (s .pre .2)
 
-has-requires : tie.Need-has-requires
-has-requires c κs = search needs
-
 returns : tie.Need-returns
 returns c = left-none (left-as (entered-none _ _ _ (absent (c))) (c .before .before .before .pre .2))
 
 slice-write-out : tie.Need-slice-write-out
 slice-write-out c = omega (arith, comma c .room)
-
-add-number : tie.Need-add-number
-add-number c = search needs
 
 number-requires : tie.Need-number-requires
 number-requires c κs = left-byte _ _ (comma (c .before)) .room
@@ -51,23 +45,11 @@ same-length c = put-length (c .before .before .before .before .before .before .b
 number-requires-2 : tie.Need-number-requires-2
 number-requires-2 c κs = first (c .before) .room
 
-same-length-2 : tie.Need-same-length-2
-same-length-2 c = search needs
-
 returns-3 : tie.Need-returns-3
 returns-3 c = first (c .before .before .before .before) .done _ _ (c .before .before .number2 .ensures)
 
 pub entry-spec : {M : Type 1} → statement M
 entry-spec =
     tie.close
-    (tie.spec
-    has-requires
-    returns
-    slice-write-out
-    add-number
-    number-requires
-    same-length
-    returns-2
-    number-requires-2
-    same-length-2
-    returns-3)
+    (tie.spec (λ c κs. search needs) returns slice-write-out (λ c. search needs) number-requires same-length returns-2 number-requires-2
+    (λ c. search needs) returns-3)

@@ -14,9 +14,6 @@ opened s = left-start (s .pre)
 slice-write-out : tie.Need-slice-write-out
 slice-write-out c = omega (arith, opened (c .before) .room)
 
-add-number : tie.Need-add-number
-add-number c = search needs
-
 number-requires : tie.Need-number-requires
 number-requires c κs = left-byte _ _ (opened (c .before .before)) .room
 
@@ -27,4 +24,4 @@ same-length : tie.Need-same-length
 same-length c = put-length (c .before .before .before .before .before .pre) (returns c)
 
 pub field-spec : {M : Type 1} → statement M
-field-spec = tie.close (tie.spec slice-write-out add-number number-requires same-length returns)
+field-spec = tie.close (tie.spec slice-write-out (λ c. search needs) number-requires same-length returns)

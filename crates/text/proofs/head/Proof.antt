@@ -32,9 +32,6 @@ third c = left-then _ _ (second (c .before .before .before .before)) (c .field3 
 fourth : (c : tie.After-field4) → let s = c .before .before .before .before .before .before .before .before .before .before .before .before .before .before .before .before .before .before .before .before in Rest s (10 ∷ []) (c .field4 .result) (c .field4 .last .1 .1 .0)
 fourth c = left-then _ _ (third (c .before .before .before .before)) (c .field4 .ensures)
 
-slice-aggregate-copy : tie.Need-slice-aggregate-copy
-slice-aggregate-copy c = search needs
-
 copy-requires : tie.Need-copy-requires
 unfolding word
 copy-requires c κs = left-room (word "case") _ (begun (c .before .before .before))
@@ -66,14 +63,5 @@ returns c = left-none (left-byte _ _ (fourth (c .before .before)))
 pub head-spec : {M : Type 1} → statement M
 head-spec =
     tie.close
-    (tie.spec
-    slice-aggregate-copy
-    copy-requires
-    field-requires
-    field-requires-2
-    field-requires-3
-    field-requires-4
-    slice-write-out
-    add-result
-    same-length
-    returns)
+    (tie.spec (λ c. search needs) copy-requires field-requires field-requires-2 field-requires-3 field-requires-4 slice-write-out add-result
+    same-length returns)

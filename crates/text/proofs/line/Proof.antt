@@ -47,13 +47,4 @@ returns : tie.Need-returns
 returns c = left-none (left-byte _ _ (listed (c .before .before)))
 
 pub line-spec : {M : Type 1} → statement M
-line-spec =
-    tie.close
-    (tie.spec
-    number-requires
-    copy-requires
-    members-requires
-    slice-write-out
-    add-result
-    same-length
-    returns)
+line-spec = tie.close (tie.spec number-requires copy-requires members-requires slice-write-out add-result same-length returns)

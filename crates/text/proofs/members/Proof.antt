@@ -48,9 +48,6 @@ braces-requires c κs = left-room (braced (limits .assumptions) (getD (c .before
 add-i : tie.Need-add-i Inv-loop μ-loop
 add-i c = omega (arith, inside (c .before .before .before .before .before))
 
-loop-less : tie.Need-loop-less Inv-loop μ-loop
-loop-less c = omega arith
-
 loop-again : tie.Need-loop-again Inv-loop μ-loop
 loop-again c = (c .before .before .before .before .before .before .loop .inv .0, omega (arith, inside (c .before .before .before .before .before)), left-then _ _ (left-byte _ _ (turn (c .before .before .before .before .before))) (c .before .before .braces .ensures))
 
@@ -63,17 +60,5 @@ returns c = left-none (ended c)
 pub members-spec : {M : Type 1} → statement M
 members-spec =
     tie.close
-    (tie.spec
-    Inv-loop
-    μ-loop
-    loop-holds
-    slice-write-out
-    mul-braces
-    shared-slice-read-braces
-    add-braces
-    braces-requires
-    add-i
-    loop-less
-    loop-again
-    same-length
-    returns)
+    (tie.spec Inv-loop μ-loop loop-holds slice-write-out mul-braces shared-slice-read-braces add-braces braces-requires add-i
+    (λ c. omega arith) loop-again same-length returns)

@@ -26,9 +26,6 @@ first c = left-then _ _ (worded (c .before .before .before .before)) (c .field .
 second : (c : tie.After-field2) → let s = c .before .before .before .before .before .before .before .before .before .before .before .before in Rest s (10 ∷ []) (c .field2 .result) (c .field2 .last .1 .1 .0)
 second c = left-then _ _ (first (c .before .before .before .before)) (c .field2 .ensures)
 
-slice-aggregate-copy : tie.Need-slice-aggregate-copy
-slice-aggregate-copy c = search needs
-
 copy-requires : tie.Need-copy-requires
 unfolding word
 copy-requires c κs = left-room (word "refused") _ (begun (c .before .before .before))
@@ -54,12 +51,4 @@ returns c = left-none (left-byte _ _ (second (c .before .before)))
 pub refused-spec : {M : Type 1} → statement M
 refused-spec =
     tie.close
-    (tie.spec
-    slice-aggregate-copy
-    copy-requires
-    field-requires
-    field-requires-2
-    slice-write-out
-    add-result
-    same-length
-    returns)
+    (tie.spec (λ c. search needs) copy-requires field-requires field-requires-2 slice-write-out add-result same-length returns)

@@ -39,38 +39,11 @@ slice-aggregate-worded c = let s = c .before .before .before .before .before in 
 worded-requires : tie.Need-worded-requires
 worded-requires c κs = nogoods (c .before .before .before) .room
 
-same-length : tie.Need-same-length
-same-length c = search needs
-
 returns : tie.Need-returns
 returns c = nogoods (c .before .before .before .before .before .before) .done _ _ (c .before .before .worded .ensures)
 
-sub-i : tie.Need-sub-i
-sub-i c = search needs
-
-cast-i : tie.Need-cast-i
-cast-i c = search needs
-
-mul-from : tie.Need-mul-from
-mul-from c = search needs
-
-element-copy-out-to : tie.Need-element-copy-out-to
-element-copy-out-to c = search needs
-
-cast-to : tie.Need-cast-to
-cast-to c = search needs
-
 add-to : tie.Need-add-to
 add-to c = omega (arith, size (c .before))
-
-mul-worded : tie.Need-mul-worded
-mul-worded c = search needs
-
-sub-worded : tie.Need-sub-worded
-sub-worded c = search needs
-
-part-worded-start : tie.Need-part-worded-start
-part-worded-start c = search needs
 
 part-worded-end : tie.Need-part-worded-end
 part-worded-end c = omega (arith, long (c .before .before .before .before .before .before), size (c .before .before .before))
@@ -78,31 +51,12 @@ part-worded-end c = omega (arith, long (c .before .before .before .before .befor
 worded-requires-2 : tie.Need-worded-requires-2
 worded-requires-2 c κs = label (c .before .before .before .before .before) .room
 
-same-length-2 : tie.Need-same-length-2
-same-length-2 c = search needs
-
 returns-2 : tie.Need-returns-2
 returns-2 c = label (c .before .before .before .before .before .before .before .before) .done _ _ (c .before .before .worded2 .ensures)
 
 pub lined-spec : {M : Type 1} → statement M
 lined-spec =
     tie.close
-    (tie.spec
-    array-share-prefix-nogoods
-    slice-aggregate-worded
-    worded-requires
-    same-length
-    returns
-    sub-i
-    cast-i
-    mul-from
-    element-copy-out-to
-    cast-to
-    add-to
-    mul-worded
-    sub-worded
-    part-worded-start
-    part-worded-end
-    worded-requires-2
-    same-length-2
-    returns-2)
+    (tie.spec array-share-prefix-nogoods slice-aggregate-worded worded-requires (λ c. search needs) returns (λ c. search needs)
+    (λ c. search needs) (λ c. search needs) (λ c. search needs) (λ c. search needs) add-to (λ c. search needs) (λ c. search needs)
+    (λ c. search needs) part-worded-end worded-requires-2 (λ c. search needs) returns-2)

@@ -36,57 +36,33 @@ against c = worded (c .before .before .before .before .before) (word " contradic
 none : (c : tie.Else3) → Worded (c .before .before .before .before .before) (word " unsupported")
 none c = worded (c .before .before .before .before .before) (word " unsupported") (empty (c .before) ∙ ap (λ (b : Bool). choose b (word " contradicted") (word " unsupported")) (c .if3 .left))
 
-slice-aggregate-line : tie.Need-slice-aggregate-line
-slice-aggregate-line c = search needs
-
 line-requires : tie.Need-line-requires
 unfolding word
 line-requires c κs = nogood (c .before .before) .room
-
-same-length : tie.Need-same-length
-same-length c = search needs
 
 returns : tie.Need-returns
 unfolding word
 returns c = nogood (c .before .before .before .before .before) .done _ _ (c .before .before .line .ensures)
 
-slice-aggregate-line-2 : tie.Need-slice-aggregate-line-2
-slice-aggregate-line-2 c = search needs
-
 line-requires-2 : tie.Need-line-requires-2
 unfolding word
 line-requires-2 c κs = some (c .before .before) .room
-
-same-length-2 : tie.Need-same-length-2
-same-length-2 c = search needs
 
 returns-2 : tie.Need-returns-2
 unfolding word
 returns-2 c = some (c .before .before .before .before .before) .done _ _ (c .before .before .line2 .ensures)
 
-slice-aggregate-line-3 : tie.Need-slice-aggregate-line-3
-slice-aggregate-line-3 c = search needs
-
 line-requires-3 : tie.Need-line-requires-3
 unfolding word
 line-requires-3 c κs = against (c .before .before) .room
-
-same-length-3 : tie.Need-same-length-3
-same-length-3 c = search needs
 
 returns-3 : tie.Need-returns-3
 unfolding word
 returns-3 c = against (c .before .before .before .before .before) .done _ _ (c .before .before .line3 .ensures)
 
-slice-aggregate-line-4 : tie.Need-slice-aggregate-line-4
-slice-aggregate-line-4 c = search needs
-
 line-requires-4 : tie.Need-line-requires-4
 unfolding word
 line-requires-4 c κs = none (c .before .before) .room
-
-same-length-4 : tie.Need-same-length-4
-same-length-4 c = search needs
 
 returns-4 : tie.Need-returns-4
 unfolding word
@@ -95,20 +71,6 @@ returns-4 c = none (c .before .before .before .before .before) .done _ _ (c .bef
 pub worded-spec : {M : Type 1} → statement M
 worded-spec =
     tie.close
-    (tie.spec
-    slice-aggregate-line
-    line-requires
-    same-length
-    returns
-    slice-aggregate-line-2
-    line-requires-2
-    same-length-2
-    returns-2
-    slice-aggregate-line-3
-    line-requires-3
-    same-length-3
-    returns-3
-    slice-aggregate-line-4
-    line-requires-4
-    same-length-4
+    (tie.spec (λ c. search needs) line-requires (λ c. search needs) returns (λ c. search needs) line-requires-2 (λ c. search needs)
+    returns-2 (λ c. search needs) line-requires-3 (λ c. search needs) returns-3 (λ c. search needs) line-requires-4 (λ c. search needs)
     returns-4)

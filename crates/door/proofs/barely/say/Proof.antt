@@ -12,33 +12,12 @@ use Rattle.door.proofs.written.Reads as written-reads
 use Rattle.replies.proofs.number.Reads as number-reads
 
 -- src/barely.rt:44:20
-enum-known-told : tie.Need-enum-known-told
-enum-known-told c = search needs
-
 -- src/barely.rt:44:29
-plainly-requires : tie.Need-plainly-requires
-plainly-requires c κs = tt
-
 -- src/barely.rt:45:22
-enum-known-told-2 : tie.Need-enum-known-told-2
-enum-known-told-2 c = search needs
-
 -- src/barely.rt:46:20
-number-requires : tie.Need-number-requires
-number-requires c κs = tt
-
 -- src/barely.rt:46:20
-cast-t7 : tie.Need-cast-t7
-cast-t7 c = search needs
-
 -- src/barely.rt:49:21
-enum-known-told-3 : tie.Need-enum-known-told-3
-enum-known-told-3 c = search needs
-
 -- src/barely.rt:49:31
-written-requires : tie.Need-written-requires
-written-requires c κs = tt
-
 -- src/barely.rt:40:1
 returns : tie.Need-returns
 returns c = c .plainly .ensures ∙ ap barelyBy (sym (c .before .before .told .given .1))
@@ -54,14 +33,5 @@ returns-3 c = c .written .ensures ∙ ap barelyBy (sym (c .before .before .told3
 pub say-spec : {M : Type 1} → statement M
 say-spec =
     tie.close
-    (tie.spec
-    enum-known-told
-    plainly-requires
-    enum-known-told-2
-    number-requires
-    cast-t7
-    enum-known-told-3
-    written-requires
-    returns
-    returns-2
-    returns-3)
+    (tie.spec (λ c. search needs) (λ c κs. tt) (λ c. search needs) (λ c κs. tt) (λ c. search needs) (λ c. search needs) (λ c κs. tt) returns
+    returns-2 returns-3)

@@ -10,16 +10,10 @@ use Rattle.door.proofs.made.Reads as made-reads
 use Rattle.store.proofs.Store.withdraw.Reads as withdraw-reads
 
 -- src/making.rt:46:9
-withdraw-requires : tie.Need-withdraw-requires
-withdraw-requires c κs = tt
-
 -- src/making.rt:47:5
-made-requires : tie.Need-made-requires
-made-requires c κs = tt
-
 -- src/making.rt:42:1
 returns : tie.Need-returns
 returns c = c .made .ensures ∙ ap madeBy (c .before .withdraw .ensures)
 
 pub door-withdraw-spec : {M : Type 1} → statement M
-door-withdraw-spec = tie.close (tie.spec withdraw-requires made-requires returns)
+door-withdraw-spec = tie.close (tie.spec (λ c κs. tt) (λ c κs. tt) returns)

@@ -11,25 +11,12 @@ use Rattle.asking.proofs.context.Reads as context-reads
 use Rattle.replies.proofs.number.Reads as number-reads
 
 -- src/reading.rt:59:9
-context-requires : tie.Need-context-requires
-context-requires c κs = tt
-
 -- src/reading.rt:61:5
-number-requires : tie.Need-number-requires
-number-requires c κs = tt
-
 -- src/reading.rt:61:5
-cast-result : tie.Need-cast-result
-cast-result c = search needs
-
 -- src/reading.rt:54:1
-same-length : tie.Need-same-length
-same-length c = search needs
-
 -- src/reading.rt:54:1
 returns : tie.Need-returns
 returns c = let said = c .before .before .before .context .ensures in (c .number .ensures ∙ ap (λ (l : Left). numberOf (l .outcome .reply)) said, ap (λ (l : Left). l .bytes) said)
 
 pub door-context-spec : {M : Type 1} → statement M
-door-context-spec =
-    tie.close (tie.spec context-requires number-requires cast-result same-length returns)
+door-context-spec = tie.close (tie.spec (λ c κs. tt) (λ c κs. tt) (λ c. search needs) (λ c. search needs) returns)

@@ -12,29 +12,11 @@ use Rattle.asking.proofs.member.Reads as member-reads
 use Rattle.replies.proofs.number.Reads as number-reads
 
 -- src/reading.rt:69:9
-member-requires : tie.Need-member-requires
-member-requires c κs = tt
-
 -- src/reading.rt:72:19
-enum-known-answer : tie.Need-enum-known-answer
-enum-known-answer c = search needs
-
 -- src/reading.rt:74:20
-cast-t9 : tie.Need-cast-t9
-cast-t9 c = search needs
-
 -- src/reading.rt:76:20
-enum-known-answer-2 : tie.Need-enum-known-answer-2
-enum-known-answer-2 c = search needs
-
 -- src/reading.rt:77:20
-number-requires : tie.Need-number-requires
-number-requires c κs = tt
-
 -- src/reading.rt:77:20
-cast-t11 : tie.Need-cast-t11
-cast-t11 c = search needs
-
 -- src/reading.rt:65:1
 returns : tie.Need-returns
 returns c = ap foundBy (sym (c .before .answer .given .1) ∙ ap (λ (r : Shown). r .answer) (c .before .before .before .member .ensures))
@@ -46,12 +28,4 @@ returns-2 c = ap (λ (n : ℕ). told n 0) (c .number .ensures) ∙ ap foundBy (s
 pub door-member-spec : {M : Type 1} → statement M
 door-member-spec =
     tie.close
-    (tie.spec
-    member-requires
-    enum-known-answer
-    cast-t9
-    enum-known-answer-2
-    number-requires
-    cast-t11
-    returns
-    returns-2)
+    (tie.spec (λ c κs. tt) (λ c. search needs) (λ c. search needs) (λ c. search needs) (λ c κs. tt) (λ c. search needs) returns returns-2)

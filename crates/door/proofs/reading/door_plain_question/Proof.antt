@@ -9,14 +9,8 @@ use Rattle.door.proofs.reading.door_plain_question.Reads as reads
 use Rattle.door.proofs.reading.door_plain_question.Lts as lts
 use Rattle.plain.proofs.question.Reads as question-reads
 
-question-requires : tie.Need-question-requires
-question-requires c κs = tt
-
-plainly-requires : tie.Need-plainly-requires
-plainly-requires c κs = tt
-
 returns : tie.Need-returns
 returns c = c .plainly .ensures ∙ ap (λ (r : Answered). plainlyBy (r .answer)) (c .before .question .ensures)
 
 pub door-plain-question-spec : {M : Type 1} → statement M
-door-plain-question-spec = tie.close (tie.spec question-requires plainly-requires returns)
+door-plain-question-spec = tie.close (tie.spec (λ c κs. tt) (λ c κs. tt) returns)

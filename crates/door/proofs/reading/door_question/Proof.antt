@@ -12,33 +12,12 @@ use Rattle.asking.proofs.question.Reads as question-reads
 use Rattle.replies.proofs.number.Reads as number-reads
 
 -- src/reading.rt:27:9
-question-requires : tie.Need-question-requires
-question-requires c κs = tt
-
 -- src/reading.rt:30:30
-enum-known-answer : tie.Need-enum-known-answer
-enum-known-answer c = search needs
-
 -- src/reading.rt:35:27
-enum-known-answer-2 : tie.Need-enum-known-answer-2
-enum-known-answer-2 c = search needs
-
 -- src/reading.rt:40:32
-enum-told : tie.Need-enum-told
-enum-told c = search needs
-
 -- src/reading.rt:45:25
-enum-known-answer-3 : tie.Need-enum-known-answer-3
-enum-known-answer-3 c = search needs
-
 -- src/reading.rt:46:20
-number-requires : tie.Need-number-requires
-number-requires c κs = tt
-
 -- src/reading.rt:46:20
-cast-t11 : tie.Need-cast-t11
-cast-t11 c = search needs
-
 -- src/reading.rt:23:1
 returns : tie.Need-returns
 returns c = ap reasonedBy (sym (c .before .answer .given .1) ∙ ap (λ (r : Asked). r .answer) (c .before .before .before .question .ensures))
@@ -58,15 +37,5 @@ returns-4 c = ap (λ (n : ℕ). reasoned n 0 0) (c .number .ensures) ∙ ap reas
 pub door-question-spec : {M : Type 1} → statement M
 door-question-spec =
     tie.close
-    (tie.spec
-    question-requires
-    enum-known-answer
-    enum-known-answer-2
-    enum-told
-    enum-known-answer-3
-    number-requires
-    cast-t11
-    returns
-    returns-2
-    returns-3
-    returns-4)
+    (tie.spec (λ c κs. tt) (λ c. search needs) (λ c. search needs) (λ c. search needs) (λ c. search needs) (λ c κs. tt) (λ c. search needs)
+    returns returns-2 returns-3 returns-4)

@@ -11,20 +11,11 @@ use Rattle.door.proofs.written.Reads as written-reads
 use Rattle.listing.proofs.printed.Reads as printed-reads
 
 -- src/texts.rt:62:9
-printed-requires : tie.Need-printed-requires
-printed-requires c κs = tt
-
 -- src/texts.rt:63:5
-written-requires : tie.Need-written-requires
-written-requires c κs = tt
-
 -- src/texts.rt:57:1
-same-length : tie.Need-same-length
-same-length c = search needs
-
 -- src/texts.rt:57:1
 returns : tie.Need-returns
 returns c = let said = c .before .before .before .printed .ensures in (c .written .ensures ∙ ap (λ (w : Wrote). wroteBy (w .answer)) said, ap (λ (w : Wrote). w .bytes) said)
 
 pub door-printed-spec : {M : Type 1} → statement M
-door-printed-spec = tie.close (tie.spec printed-requires written-requires same-length returns)
+door-printed-spec = tie.close (tie.spec (λ c κs. tt) (λ c κs. tt) (λ c. search needs) returns)

@@ -14,9 +14,6 @@ use Rattle.door.proofs.texts.door_refusal.Tie as tie
 use Rattle.door.proofs.texts.door_refusal.Reads as reads
 use Rattle.door.proofs.texts.door_refusal.Lts as lts
 
-slice-aggregate-refused : tie.Need-slice-aggregate-refused
-slice-aggregate-refused c = search needs
-
 refused-requires : tie.Need-refused-requires
 refused-requires c κs = let s = c .before .before in blank-room 30 (refusal (s .args .number) (s .args .«record»)) (refusal-most (s .args .number) (s .args .«record») (s .fits .number .fits) (s .fits .«record» .fits))
 
@@ -25,15 +22,6 @@ array-share-prefix-text c = front-room (c .before .refused .ensures)
 
 slice-aggregate-fit : tie.Need-slice-aggregate-fit
 slice-aggregate-fit c = sym (length-take-le _ _ (front-room (c .before .before .refused .ensures)))
-
-fit-requires : tie.Need-fit-requires
-fit-requires c κs = tt
-
-written-requires : tie.Need-written-requires
-written-requires c κs = tt
-
-same-length : tie.Need-same-length
-same-length c = search needs
 
 returns : tie.Need-returns
 returns c =
@@ -44,12 +32,5 @@ returns c =
 pub door-refusal-spec : {M : Type 1} → statement M
 door-refusal-spec =
     tie.close
-    (tie.spec
-    slice-aggregate-refused
-    refused-requires
-    array-share-prefix-text
-    slice-aggregate-fit
-    fit-requires
-    written-requires
-    same-length
+    (tie.spec (λ c. search needs) refused-requires array-share-prefix-text slice-aggregate-fit (λ c κs. tt) (λ c κs. tt) (λ c. search needs)
     returns)

@@ -4,12 +4,6 @@ use Rattle.labels.proofs.Pools.{choose-no, choose-yes}
 use Rattle.labels.proofs.pool.counted.Statement.{statement}
 use Rattle.labels.proofs.pool.counted.Tie as tie
 
-within-requires : tie.Need-within-requires
-within-requires c κs = search needs
-
-add-result : tie.Need-add-result
-add-result c = search needs
-
 returns : tie.Need-returns
 returns c = choose-yes _ _ (c .before .within .ensures) _ _ (c .if1 .taken)
 
@@ -17,4 +11,4 @@ returns-2 : tie.Need-returns-2
 returns-2 c = choose-no _ _ (c .before .within .ensures) _ _ (c .if1 .left)
 
 pub counted-spec : {M : Type 1} → statement M
-counted-spec = tie.close (tie.spec within-requires add-result returns returns-2)
+counted-spec = tie.close (tie.spec (λ c κs. search needs) (λ c. search needs) returns returns-2)

@@ -11,9 +11,6 @@ use Rattle.labels.proofs.pool.enter.Statement.{statement}
 use Rattle.labels.proofs.pool.enter.Tie as tie
 use Rattle.theory.specs.Limits.{limits}
 
-purge-requires : tie.Need-purge-requires
-purge-requires c κs = search needs
-
 squeeze-requires : tie.Need-squeeze-requires
 squeeze-requires c κs = (search needs, purge-sorted (c .before .before .before .args .e) _ _ (c .before .purge .ensures .1) (c .before .before .before .pre .well .sorted))
 
@@ -27,12 +24,6 @@ returns c =
       same,
     )
 
-mul-pool : tie.Need-mul-pool
-mul-pool c = search needs
-
-add-t12 : tie.Need-add-t12
-add-t12 c = search needs
-
 returns-2 : tie.Need-returns-2
 returns-2 c =
     let s = c .before .before .before .before .before in
@@ -42,17 +33,7 @@ returns-2 c =
       length-set (c .before .squeeze .last .0) _ _ ∙ same,
     )
 
-element-write-pool : tie.Need-element-write-pool
-element-write-pool c = search needs
-
 pub enter-spec : {M : Type 1} → statement M
 enter-spec =
     tie.close
-    (tie.spec
-    purge-requires
-    squeeze-requires
-    returns
-    mul-pool
-    element-write-pool
-    add-t12
-    returns-2)
+    (tie.spec (λ c κs. search needs) squeeze-requires returns (λ c. search needs) (λ c. search needs) (λ c. search needs) returns-2)

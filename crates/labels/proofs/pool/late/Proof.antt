@@ -4,9 +4,6 @@ use borrow.Author.Needs.{needs}
 use Rattle.labels.proofs.pool.late.Statement.{statement}
 use Rattle.labels.proofs.pool.late.Tie as tie
 
-before-requires : tie.Need-before-requires
-before-requires c κs = search needs
-
 returns : tie.Need-returns
 returns c = late-asked (c .before .before .args .fill) (c .before .before .args .e) (c .before .if1 .taken) _ (c .before2 .ensures)
 
@@ -14,4 +11,4 @@ returns-2 : tie.Need-returns-2
 returns-2 c = late-no (c .before .args .fill) (c .before .args .e) (c .if1 .left)
 
 pub late-spec : {M : Type 1} → statement M
-late-spec = tie.close (tie.spec before-requires returns returns-2)
+late-spec = tie.close (tie.spec (λ c κs. search needs) returns returns-2)

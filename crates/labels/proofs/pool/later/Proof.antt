@@ -4,9 +4,6 @@ use Rattle.labels.proofs.Pools.{choose-no, choose-yes}
 use Rattle.labels.proofs.pool.later.Statement.{statement}
 use Rattle.labels.proofs.pool.later.Tie as tie
 
-before-requires : tie.Need-before-requires
-before-requires c κs = search needs
-
 returns : tie.Need-returns
 returns c = choose-yes _ _ (c .before .before2 .ensures) _ _ (c .if1 .taken)
 
@@ -14,4 +11,4 @@ returns-2 : tie.Need-returns-2
 returns-2 c = choose-no _ _ (c .before .before2 .ensures) _ _ (c .if1 .left)
 
 pub later-spec : {M : Type 1} → statement M
-later-spec = tie.close (tie.spec before-requires returns returns-2)
+later-spec = tie.close (tie.spec (λ c κs. search needs) returns returns-2)

@@ -19,27 +19,6 @@ abbrev μ-loop : tie.MeasureT-loop
 loop-holds : tie.Need-loop-holds Inv-loop μ-loop
 loop-holds c = (omega arith, omega arith, refl, ap (purged (c .before .args .e)) (rest-all (c .before .args .pool .now) (c .before .args .count)))
 
-mul-x : tie.Need-mul-x Inv-loop μ-loop
-mul-x c = search needs
-
-slice-read-x : tie.Need-slice-read-x Inv-loop μ-loop
-slice-read-x c = omega arith
-
-mul-pool : tie.Need-mul-pool Inv-loop μ-loop
-mul-pool c = search needs
-
-slice-write-pool : tie.Need-slice-write-pool Inv-loop μ-loop
-slice-write-pool c = omega arith
-
-counted-requires : tie.Need-counted-requires Inv-loop μ-loop
-counted-requires c κs = omega arith
-
-add-i : tie.Need-add-i Inv-loop μ-loop
-add-i c = omega arith
-
-loop-less : tie.Need-loop-less Inv-loop μ-loop
-loop-less c = omega arith
-
 loop-again : tie.Need-loop-again Inv-loop μ-loop
 loop-again c =
     let s = c .before .before .before .before .before in
@@ -59,17 +38,5 @@ returns c =
 pub purge-spec : {M : Type 1} → statement M
 purge-spec =
     tie.close
-    (tie.spec
-    Inv-loop
-    μ-loop
-    loop-holds
-    mul-x
-    slice-read-x
-    mul-pool
-    slice-write-pool
-    counted-requires
-    add-i
-    loop-less
-    loop-again
-    same-length
-    returns)
+    (tie.spec Inv-loop μ-loop loop-holds (λ c. search needs) (λ c. omega arith) (λ c. search needs) (λ c. omega arith) (λ c κs. omega arith)
+    (λ c. omega arith) (λ c. omega arith) loop-again same-length returns)

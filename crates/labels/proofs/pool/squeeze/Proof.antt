@@ -19,14 +19,8 @@ abbrev μ-loop : tie.MeasureT-loop
 sub-before : tie.Need-sub-before Inv-loop μ-loop
 sub-before c = omega (arith, c .if1 .taken)
 
-mul-before : tie.Need-mul-before Inv-loop μ-loop
-mul-before c = search needs
-
 slice-read-before : tie.Need-slice-read-before Inv-loop μ-loop
 slice-read-before c = omega (arith, c .before .if1 .taken, c .before .before .before .pre .0)
-
-before-requires : tie.Need-before-requires Inv-loop μ-loop
-before-requires c κs = search needs
 
 returns : tie.Need-returns Inv-loop μ-loop
 returns c = let s = c .before .before .before .before .before in squeeze-last (s .args .pool .now) (s .args .count) (s .args .e) (s .pre .0) (s .pre .1) (c .before .before .before .if1 .taken) _ (c .before .before2 .ensures) (c .if2 .taken)
@@ -34,23 +28,11 @@ returns c = let s = c .before .before .before .before .before in squeeze-last (s
 loop-holds : tie.Need-loop-holds Inv-loop μ-loop
 loop-holds c = let s = c .before .before in (omega arith, refl, ap (placed (s .args .e)) (rest-all (s .args .pool .now) (s .args .count)))
 
-mul-x : tie.Need-mul-x Inv-loop μ-loop
-mul-x c = search needs
-
 slice-read-x : tie.Need-slice-read-x Inv-loop μ-loop
 slice-read-x c = omega (arith, c .before .before .before .before .before .pre .0, c .before .loop-test .taken, c .before .before .loop .inv .1)
 
-sooner-requires : tie.Need-sooner-requires Inv-loop μ-loop
-sooner-requires c κs = search needs
-
-mul-pool : tie.Need-mul-pool Inv-loop μ-loop
-mul-pool c = search needs
-
 slice-write-pool : tie.Need-slice-write-pool Inv-loop μ-loop
 slice-write-pool c = omega (arith, c .before .before .before .before .before .before .pre .0, c .before .before .loop-test .taken, c .before .before .before .loop .inv .1)
-
-later-requires : tie.Need-later-requires Inv-loop μ-loop
-later-requires c κs = search needs
 
 add-i : tie.Need-add-i Inv-loop μ-loop
 add-i c = omega (arith, c .before .before .before .loop-test .taken)
@@ -76,23 +58,6 @@ returns-2 c =
 pub squeeze-spec : {M : Type 1} → statement M
 squeeze-spec =
     tie.close
-    (tie.spec
-    Inv-loop
-    μ-loop
-    sub-before
-    mul-before
-    slice-read-before
-    before-requires
-    returns
-    loop-holds
-    mul-x
-    slice-read-x
-    sooner-requires
-    mul-pool
-    slice-write-pool
-    later-requires
-    add-i
-    loop-less
-    loop-again
-    same-length
+    (tie.spec Inv-loop μ-loop sub-before (λ c. search needs) slice-read-before (λ c κs. search needs) returns loop-holds (λ c. search needs)
+    slice-read-x (λ c κs. search needs) (λ c. search needs) slice-write-pool (λ c κs. search needs) add-i loop-less loop-again same-length
     returns-2)

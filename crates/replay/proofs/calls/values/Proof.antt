@@ -11,65 +11,9 @@ Inv-loop n bytes i₀ t5 t6 i = (n ≤ 129) × (i ≤ n)
 abbrev μ-loop : tie.MeasureT-loop
 μ-loop n bytes i₀ t5 t6 i = n - i
 
-refused-requires : tie.Need-refused-requires Inv-loop μ-loop
-refused-requires c κs = search needs
-
-returns : tie.Need-returns Inv-loop μ-loop
-returns c = search needs
-
-loop-holds : tie.Need-loop-holds Inv-loop μ-loop
-loop-holds c = (omega arith, omega arith)
-
-slice-aggregate-say : tie.Need-slice-aggregate-say Inv-loop μ-loop
-slice-aggregate-say c = search needs
-
-say-requires : tie.Need-say-requires Inv-loop μ-loop
-say-requires c κs = search needs
-
-array-read-decimal : tie.Need-array-read-decimal Inv-loop μ-loop
-array-read-decimal c = omega arith
-
-cast-decimal : tie.Need-cast-decimal Inv-loop μ-loop
-cast-decimal c = search needs
-
-decimal-requires : tie.Need-decimal-requires Inv-loop μ-loop
-decimal-requires c κs = search needs
-
-add-i : tie.Need-add-i Inv-loop μ-loop
-add-i c = search needs
-
-loop-less : tie.Need-loop-less Inv-loop μ-loop
-loop-less c = omega arith
-
-loop-again : tie.Need-loop-again Inv-loop μ-loop
-loop-again c = (omega arith, omega arith)
-
-slice-aggregate-say-2 : tie.Need-slice-aggregate-say-2 Inv-loop μ-loop
-slice-aggregate-say-2 c = search needs
-
-say-requires-2 : tie.Need-say-requires-2 Inv-loop μ-loop
-say-requires-2 c κs = search needs
-
-returns-2 : tie.Need-returns-2 Inv-loop μ-loop
-returns-2 c = search needs
-
 pub values-spec : {M : Type 1} → statement M
 values-spec =
     tie.close
-    (tie.spec
-    Inv-loop
-    μ-loop
-    refused-requires
-    returns
-    loop-holds
-    slice-aggregate-say
-    say-requires
-    array-read-decimal
-    cast-decimal
-    decimal-requires
-    add-i
-    loop-less
-    loop-again
-    slice-aggregate-say-2
-    say-requires-2
-    returns-2)
+    (tie.spec Inv-loop μ-loop (λ c κs. search needs) (λ c. search needs) (λ c. (omega arith, omega arith)) (λ c. search needs)
+    (λ c κs. search needs) (λ c. omega arith) (λ c. search needs) (λ c κs. search needs) (λ c. search needs) (λ c. omega arith)
+    (λ c. (omega arith, omega arith)) (λ c. search needs) (λ c κs. search needs) (λ c. search needs))

@@ -28,9 +28,6 @@ returns-4 c =
     let f : length (s .args .t .supports) ≡ 4 = search needs in
     comes-more (s .args .self) (s .args .t) e f (s .pre .0) (s .pre .1) (omega arith) (c .if4 .taken)
 
-cast-n : tie.Need-cast-n
-cast-n c = search needs
-
 array-share-prefix-mine : tie.Need-array-share-prefix-mine
 array-share-prefix-mine c = let s = c .before .before .before .before .before .before .before .before .before .before .before .before .before .before in let e : length (s .args .self .supports) ≡ 4 = search needs in omega (arith, s .pre .0)
 
@@ -60,15 +57,5 @@ returns-5 c =
 pub comes-spec : {M : Type 1} → statement M
 comes-spec =
     tie.close
-    (tie.spec
-    returns
-    returns-2
-    returns-3
-    returns-4
-    cast-n
-    array-share-prefix-mine
-    slice-aggregate-less
-    array-share-prefix-theirs
-    slice-aggregate-less-2
-    less-requires
-    returns-5)
+    (tie.spec returns returns-2 returns-3 returns-4 (λ c. search needs) array-share-prefix-mine slice-aggregate-less
+    array-share-prefix-theirs slice-aggregate-less-2 less-requires returns-5)

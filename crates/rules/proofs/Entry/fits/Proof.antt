@@ -12,41 +12,17 @@ use borrow.Author.Needs.{needs}
 use Rattle.rules.proofs.Entry.fits.Statement.{statement}
 use Rattle.rules.proofs.Entry.fits.Tie as tie
 
-cast-if1 : tie.Need-cast-if1
-cast-if1 c = search needs
-
 returns : tie.Need-returns
 returns c = fits-above _ _ (c .if1 .taken)
 
 returns-2 : tie.Need-returns-2
 returns-2 c = fits-many _ _ (c .before .if1 .left) (c .if2 .taken)
 
-cast-n : tie.Need-cast-n
-cast-n c = search needs
-
 array-share-prefix-supports : tie.Need-array-share-prefix-supports
 array-share-prefix-supports c = let e : length (c .before .before .before .before .args .self .supports) ≡ 4 = search needs in omega arith
 
 slice-aggregate-rises : tie.Need-slice-aggregate-rises
 slice-aggregate-rises c = let e : length (c .before .before .before .before .before .args .self .supports) ≡ 4 = search needs in sym (length-take-le _ _ (omega arith))
-
-rises-requires : tie.Need-rises-requires
-rises-requires c κs = search needs
-
-array-read-ends : tie.Need-array-read-ends
-array-read-ends c = search needs
-
-array-read-ends-2 : tie.Need-array-read-ends-2
-array-read-ends-2 c = search needs
-
-array-read-ends-3 : tie.Need-array-read-ends-3
-array-read-ends-3 c = search needs
-
-array-read-ends-4 : tie.Need-array-read-ends-4
-array-read-ends-4 c = search needs
-
-ends-requires : tie.Need-ends-requires
-ends-requires c κs = search needs
 
 returns-3 : tie.Need-returns-3
 returns-3 c = let e : length (c .before .before .before .before .before .before .before .before .args .self .supports) ≡ 4 = search needs in fits-rest _ _ (omega arith) (omega arith) (sym (c .before .before .rises .ensures) ∙ c .before .if3 .taken) e _ (c .ends .ensures ∙ ap (λ (m : List ℕ). allOf (eqb 0) (drop (c .before .before .before .before .before .before .before .before .args .self .count) m)) (sym (four (c .before .before .before .before .before .before .before .before .args .self .supports) e)))
@@ -57,18 +33,6 @@ returns-4 c = fits-not _ _ (omega arith) (omega arith) (sym (c .before .rises .e
 pub fits-spec : {M : Type 1} → statement M
 fits-spec =
     tie.close
-    (tie.spec
-    cast-if1
-    returns
-    returns-2
-    cast-n
-    array-share-prefix-supports
-    slice-aggregate-rises
-    rises-requires
-    array-read-ends
-    array-read-ends-2
-    array-read-ends-3
-    array-read-ends-4
-    ends-requires
-    returns-3
+    (tie.spec (λ c. search needs) returns returns-2 (λ c. search needs) array-share-prefix-supports slice-aggregate-rises
+    (λ c κs. search needs) (λ c. search needs) (λ c. search needs) (λ c. search needs) (λ c. search needs) (λ c κs. search needs) returns-3
     returns-4)

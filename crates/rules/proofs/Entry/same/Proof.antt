@@ -19,9 +19,6 @@ returns-2 c =
     let f : length (s .args .t .supports) ≡ 4 = search needs in
     differ-many (s .args .self) (s .args .t) e f (s .pre .0) (s .pre .1) (c .before .before .before .if1 .left) (c .if2 .taken)
 
-cast-n : tie.Need-cast-n
-cast-n c = search needs
-
 array-share-prefix-mine : tie.Need-array-share-prefix-mine
 array-share-prefix-mine c = let s = c .before .before .before .before .before .before .before .before in let e : length (s .args .self .supports) ≡ 4 = search needs in omega (arith, s .pre .0)
 
@@ -34,9 +31,6 @@ array-share-prefix-theirs c = let s = c .before .before .before .before .before 
 slice-aggregate-equal-2 : tie.Need-slice-aggregate-equal-2
 slice-aggregate-equal-2 c = let s = c .before .before .before .before .before .before .before .before .before .before in let e : length (s .args .t .supports) ≡ 4 = search needs in sym (length-take-le _ _ (omega (arith, s .pre .0)))
 
-equal-requires : tie.Need-equal-requires
-equal-requires c κs = search needs
-
 returns-3 : tie.Need-returns-3
 returns-3 c =
     let s = c .before .before .before .before .before .before .before .before .before .before .before in
@@ -47,13 +41,5 @@ returns-3 c =
 pub same-spec : {M : Type 1} → statement M
 same-spec =
     tie.close
-    (tie.spec
-    returns
-    returns-2
-    cast-n
-    array-share-prefix-mine
-    slice-aggregate-equal
-    array-share-prefix-theirs
-    slice-aggregate-equal-2
-    equal-requires
-    returns-3)
+    (tie.spec returns returns-2 (λ c. search needs) array-share-prefix-mine slice-aggregate-equal array-share-prefix-theirs
+    slice-aggregate-equal-2 (λ c κs. search needs) returns-3)

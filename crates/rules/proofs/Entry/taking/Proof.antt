@@ -6,12 +6,6 @@ use Rattle.rules.proofs.Taking.{taking-hit, taking-miss, taking-room}
 use Rattle.rules.proofs.Entry.taking.Statement.{statement}
 use Rattle.rules.proofs.Entry.taking.Tie as tie
 
-has-requires : tie.Need-has-requires
-has-requires c κs = search needs
-
-cast-at : tie.Need-cast-at
-cast-at c = search needs
-
 element-write-self : tie.Need-element-write-self
 element-write-self c = let a = c .before .before .before .args in taking-room _ (a .l .now) (a .n) (c .before .before .before .pre .1) (a .t1) (c .before .before .before .pre .0) (sym (c .before .has .ensures) ∙ c .if1 .taken)
 
@@ -25,5 +19,4 @@ returns-2 : tie.Need-returns-2
 returns-2 c = let a = c .before .before .before .args in taking-miss _ (a .l .now) (a .n) (c .before .before .before .pre .1) (a .t1) (c .before .before .before .pre .0) (sym (c .before .has .ensures) ∙ c .if1 .left)
 
 pub taking-spec : {M : Type 1} → statement M
-taking-spec =
-    tie.close (tie.spec has-requires cast-at element-write-self add-self returns returns-2)
+taking-spec = tie.close (tie.spec (λ c κs. search needs) (λ c. search needs) element-write-self add-self returns returns-2)

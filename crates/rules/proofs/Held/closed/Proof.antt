@@ -19,32 +19,8 @@ Inv-loop at self₀ last i₀ self i = (at ≤ i) × (i ≤ last) × (last < 256
 abbrev μ-loop : tie.MeasureT-loop
 μ-loop at self₀ last i₀ self i = last - i
 
-sub-last : tie.Need-sub-last Inv-loop μ-loop
-sub-last c = search needs
-
 loop-holds : tie.Need-loop-holds Inv-loop μ-loop
 loop-holds c = (omega arith, omega arith, omega (arith, right-elim (c .args .t1) (c .pre .0) .few), close-none _ _, refl)
-
-add-next : tie.Need-add-next Inv-loop μ-loop
-add-next c = search needs
-
-mul-next : tie.Need-mul-next Inv-loop μ-loop
-mul-next c = search needs
-
-element-copy-out-next : tie.Need-element-copy-out-next Inv-loop μ-loop
-element-copy-out-next c = search needs
-
-mul-next-2 : tie.Need-mul-next-2 Inv-loop μ-loop
-mul-next-2 c = search needs
-
-element-set-from-next : tie.Need-element-set-from-next Inv-loop μ-loop
-element-set-from-next c = search needs
-
-add-i : tie.Need-add-i Inv-loop μ-loop
-add-i c = search needs
-
-loop-less : tie.Need-loop-less Inv-loop μ-loop
-loop-less c = search needs
 
 loop-again : tie.Need-loop-again Inv-loop μ-loop
 loop-again c =
@@ -79,19 +55,5 @@ returns c =
 pub closed-spec : {M : Type 1} → statement M
 closed-spec =
     tie.close
-    (tie.spec
-    Inv-loop
-    μ-loop
-    sub-last
-    loop-holds
-    add-next
-    mul-next
-    element-copy-out-next
-    mul-next-2
-    element-set-from-next
-    add-i
-    loop-less
-    loop-again
-    mul-vacant
-    element-set-from-vacant
-    returns)
+    (tie.spec Inv-loop μ-loop (λ c. search needs) loop-holds (λ c. search needs) (λ c. search needs) (λ c. search needs) (λ c. search needs)
+    (λ c. search needs) (λ c. search needs) (λ c. search needs) loop-again mul-vacant element-set-from-vacant returns)

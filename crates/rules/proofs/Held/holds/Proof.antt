@@ -18,9 +18,6 @@ Inv-loop entry self count j₀ j = (j ≤ count) × (someOf (sameJustification (
 abbrev μ-loop : tie.MeasureT-loop
 μ-loop entry self count j₀ j = count - j
 
-loop-holds : tie.Need-loop-holds Inv-loop μ-loop
-loop-holds c = (omega arith, refl)
-
 mul-t : tie.Need-mul-t Inv-loop μ-loop
 mul-t c = let s = c .before .before in omega (arith, right-elim (s .args .t1) (s .pre .0) .few)
 
@@ -38,12 +35,6 @@ returns c =
     let s = c .before .before .before .before .before in
     sym (l .inv .1 ∙ held-hit (s .args .t1 .entries) (s .args .t1 .count) (right-inside (s .args .t1) (s .pre .0)) (sameJustification (meaning (s .args .entry))) (l .j) (omega arith) (sym (c .before .same .ensures) ∙ c .if1 .taken))
 
-add-j : tie.Need-add-j Inv-loop μ-loop
-add-j c = search needs
-
-loop-less : tie.Need-loop-less Inv-loop μ-loop
-loop-less c = search needs
-
 loop-again : tie.Need-loop-again Inv-loop μ-loop
 loop-again c =
     let l = c .before .before .before .before .loop in
@@ -59,15 +50,5 @@ returns-2 c =
 pub holds-spec : {M : Type 1} → statement M
 holds-spec =
     tie.close
-    (tie.spec
-    Inv-loop
-    μ-loop
-    loop-holds
-    mul-t
-    element-copy-out-t
-    same-requires
-    returns
-    add-j
-    loop-less
-    loop-again
-    returns-2)
+    (tie.spec Inv-loop μ-loop (λ c. (omega arith, refl)) mul-t element-copy-out-t same-requires returns (λ c. search needs)
+    (λ c. search needs) loop-again returns-2)

@@ -19,21 +19,12 @@ abbrev μ-loop : tie.MeasureT-loop
 returns : tie.Need-returns Inv-loop μ-loop
 returns c = past-none (c .before .args .top) (c .before .args .t1 .entries) (c .before .args .t1 .count) (c .if1 .taken)
 
-element-copy-out-first : tie.Need-element-copy-out-first Inv-loop μ-loop
-element-copy-out-first c = search needs
-
-fits-requires : tie.Need-fits-requires Inv-loop μ-loop
-fits-requires c κs = search needs
-
 returns-2 : tie.Need-returns-2 Inv-loop μ-loop
 returns-2 c =
     let a = c .before .before .before .before .args in
     let e : length (a .t1 .entries) ≡ 256 = search (needs, length-mapped) in
     let room : a .t1 .count ≤ length (a .t1 .entries) = omega (arith, c .before .before .before .before .pre) in
     first-out (a .top) (a .t1 .entries) (a .t1 .count) room (omega (arith, c .before .before .before .if1 .left)) (sym (c .before .fits2 .ensures) ∙ not-true _ (c .if2 .taken))
-
-key-requires : tie.Need-key-requires Inv-loop μ-loop
-key-requires c κs = search needs
 
 loop-holds : tie.Need-loop-holds Inv-loop μ-loop
 loop-holds c =
@@ -52,18 +43,12 @@ element-copy-out-entry c =
     let room : a .t1 .count ≤ length (a .t1 .entries) = omega (arith, c .before .before .before .before .before .before .before .pre) in
     omega (arith, c .loop-test .taken)
 
-fits-requires-2 : tie.Need-fits-requires-2 Inv-loop μ-loop
-fits-requires-2 c κs = search needs
-
 returns-3 : tie.Need-returns-3 Inv-loop μ-loop
 returns-3 c =
     let a = c .before .before .before .before .before .before .before .before .before .before .args in
     let e : length (a .t1 .entries) ≡ 256 = search (needs, length-mapped) in
     let room : a .t1 .count ≤ length (a .t1 .entries) = omega (arith, c .before .before .before .before .before .before .before .before .before .before .pre) in
     past-out (a .top) (a .t1 .entries) (a .t1 .count) room (c .before .before .before .before .loop .j) (c .before .before .before .before .loop .last) (c .before .before .before .before .loop .inv) (c .before .before .before .loop-test .taken) (sym (c .before .fits3 .ensures) ∙ not-true _ (c .if3 .taken))
-
-key-requires-2 : tie.Need-key-requires-2 Inv-loop μ-loop
-key-requires-2 c κs = search needs
 
 returns-4 : tie.Need-returns-4 Inv-loop μ-loop
 returns-4 c =
@@ -95,22 +80,5 @@ returns-5 c =
 pub inplace-spec : {M : Type 1} → statement M
 inplace-spec =
     tie.close
-    (tie.spec
-    Inv-loop
-    μ-loop
-    returns
-    element-copy-out-first
-    fits-requires
-    returns-2
-    key-requires
-    loop-holds
-    mul-entry
-    element-copy-out-entry
-    fits-requires-2
-    returns-3
-    key-requires-2
-    returns-4
-    add-j
-    loop-less
-    loop-again
-    returns-5)
+    (tie.spec Inv-loop μ-loop returns (λ c. search needs) (λ c κs. search needs) returns-2 (λ c κs. search needs) loop-holds mul-entry
+    element-copy-out-entry (λ c κs. search needs) returns-3 (λ c κs. search needs) returns-4 add-j loop-less loop-again returns-5)

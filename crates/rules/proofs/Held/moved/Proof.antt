@@ -20,27 +20,6 @@ abbrev μ-loop : tie.MeasureT-loop
 loop-holds : tie.Need-loop-holds Inv-loop μ-loop
 loop-holds c = (omega arith, omega arith, shift-none _ _, refl)
 
-sub-last : tie.Need-sub-last Inv-loop μ-loop
-sub-last c = search needs
-
-mul-last : tie.Need-mul-last Inv-loop μ-loop
-mul-last c = search needs
-
-element-copy-out-last : tie.Need-element-copy-out-last Inv-loop μ-loop
-element-copy-out-last c = search needs
-
-mul-last-2 : tie.Need-mul-last-2 Inv-loop μ-loop
-mul-last-2 c = search needs
-
-element-set-from-last : tie.Need-element-set-from-last Inv-loop μ-loop
-element-set-from-last c = search needs
-
-sub-i : tie.Need-sub-i Inv-loop μ-loop
-sub-i c = search needs
-
-loop-less : tie.Need-loop-less Inv-loop μ-loop
-loop-less c = search needs
-
 loop-again : tie.Need-loop-again Inv-loop μ-loop
 loop-again c =
     let l = c .before .before .loop in
@@ -51,15 +30,6 @@ loop-again c =
       shift-more (a .t1 .entries) (l .self .entries) (l .i) (a .t1 .count) (omega arith) (omega arith) (omega arith) (l .inv .2),
       ap (λ (s : Held). withEntries s (s .count) (set (l .self .entries) (l .i) (getD (l .self .entries) (l .i - 1) beyond))) (l .inv .3),
     )
-
-mul-entry : tie.Need-mul-entry Inv-loop μ-loop
-mul-entry c = search needs
-
-element-set-from-entry : tie.Need-element-set-from-entry Inv-loop μ-loop
-element-set-from-entry c = search needs
-
-add-self : tie.Need-add-self Inv-loop μ-loop
-add-self c = search needs
 
 returns : tie.Need-returns Inv-loop μ-loop
 returns c =
@@ -74,19 +44,5 @@ returns c =
 pub moved-spec : {M : Type 1} → statement M
 moved-spec =
     tie.close
-    (tie.spec
-    Inv-loop
-    μ-loop
-    loop-holds
-    sub-last
-    mul-last
-    element-copy-out-last
-    mul-last-2
-    element-set-from-last
-    sub-i
-    loop-less
-    loop-again
-    mul-entry
-    element-set-from-entry
-    add-self
-    returns)
+    (tie.spec Inv-loop μ-loop loop-holds (λ c. search needs) (λ c. search needs) (λ c. search needs) (λ c. search needs) (λ c. search needs)
+    (λ c. search needs) (λ c. search needs) loop-again (λ c. search needs) (λ c. search needs) (λ c. search needs) returns)

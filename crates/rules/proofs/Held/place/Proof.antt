@@ -32,12 +32,6 @@ comes-requires c κs =
     let s = c .before .before .before in
     (right-count (s .args .t1) (s .pre .0) (c .before .before .loop .j) (omega arith), s .pre .1)
 
-add-j : tie.Need-add-j Inv-loop μ-loop
-add-j c = search needs
-
-loop-less : tie.Need-loop-less Inv-loop μ-loop
-loop-less c = search needs
-
 loop-again : tie.Need-loop-again Inv-loop μ-loop
 loop-again c =
     let l = c .before .before .before .before .loop in
@@ -59,15 +53,5 @@ returns-2 c =
 pub place-spec : {M : Type 1} → statement M
 place-spec =
     tie.close
-    (tie.spec
-    Inv-loop
-    μ-loop
-    loop-holds
-    mul-t
-    element-copy-out-t
-    comes-requires
-    add-j
-    loop-less
-    loop-again
-    returns
+    (tie.spec Inv-loop μ-loop loop-holds mul-t element-copy-out-t comes-requires (λ c. search needs) (λ c. search needs) loop-again returns
     returns-2)

@@ -10,21 +10,6 @@ use Rattle.rules.proofs.Held.right.Tie as tie
 returns : tie.Need-returns
 returns c = right-many (c .before .before .args .self) (c .if1 .taken)
 
-cast-top : tie.Need-cast-top
-cast-top c = search needs
-
-cast-top-2 : tie.Need-cast-top-2
-cast-top-2 c = search needs
-
-add-top : tie.Need-add-top
-add-top c = search needs
-
-inplace-requires : tie.Need-inplace-requires
-inplace-requires c κs = search needs
-
-spare-requires : tie.Need-spare-requires
-spare-requires c κs = search needs
-
 returns-2 : tie.Need-returns-2
 returns-2 c =
     let s = c .before .before .before .before .before .before .before .args .self in
@@ -38,4 +23,7 @@ returns-3 c =
     right-out s (c .before .before .before .before .if1 .left) e (sym (c .before .inplace .ensures) ∙ c .if2 .left)
 
 pub right-spec : {M : Type 1} → statement M
-right-spec = tie.close (tie.spec returns cast-top cast-top-2 add-top inplace-requires spare-requires returns-2 returns-3)
+right-spec =
+    tie.close
+    (tie.spec returns (λ c. search needs) (λ c. search needs) (λ c. search needs) (λ c κs. search needs) (λ c κs. search needs) returns-2
+    returns-3)

@@ -15,32 +15,17 @@ Inv-loop a b i₀ i = (i ≤ length a) × (lesser a b ≡ lesser (drop i a) (dro
 abbrev μ-loop : tie.MeasureT-loop
 μ-loop a b i₀ i = length a - i
 
-loop-holds : tie.Need-loop-holds Inv-loop μ-loop
-loop-holds c = (omega arith, refl)
-
-shared-slice-read-if1 : tie.Need-shared-slice-read-if1 Inv-loop μ-loop
-shared-slice-read-if1 c = search needs
-
 shared-slice-read-if1-2 : tie.Need-shared-slice-read-if1-2 Inv-loop μ-loop
 shared-slice-read-if1-2 c = omega (arith, c .before .before .before .before .pre)
 
 returns : tie.Need-returns Inv-loop μ-loop
 returns c = let l = c .before .before .before .before .loop in let a = c .before .before .before .before .before .args in sym (l .inv .1 ∙ less-yes (a .a .now) (a .b .now) (l .i) (omega arith) (omega (arith, c .before .before .before .before .before .pre)) (c .if1 .taken))
 
-shared-slice-read-if2 : tie.Need-shared-slice-read-if2 Inv-loop μ-loop
-shared-slice-read-if2 c = search needs
-
 shared-slice-read-if2-2 : tie.Need-shared-slice-read-if2-2 Inv-loop μ-loop
 shared-slice-read-if2-2 c = omega (arith, c .before .before .before .before .before .before .before .pre)
 
 returns-2 : tie.Need-returns-2 Inv-loop μ-loop
 returns-2 c = let l = c .before .before .before .before .before .before .before .loop in let a = c .before .before .before .before .before .before .before .before .args in sym (l .inv .1 ∙ less-no (a .a .now) (a .b .now) (l .i) (omega arith) (omega (arith, c .before .before .before .before .before .before .before .before .pre)) (c .if2 .taken))
-
-add-i : tie.Need-add-i Inv-loop μ-loop
-add-i c = search needs
-
-loop-less : tie.Need-loop-less Inv-loop μ-loop
-loop-less c = search needs
 
 loop-again : tie.Need-loop-again Inv-loop μ-loop
 loop-again c = let l = c .before .before .before .before .before .before .before .loop in let a = c .before .before .before .before .before .before .before .before .args in (omega arith, l .inv .1 ∙ less-more (a .a .now) (a .b .now) (l .i) (omega arith) (omega (arith, c .before .before .before .before .before .before .before .before .pre)) (c .before .before .before .if1 .left) (c .if2 .left))
@@ -51,17 +36,5 @@ returns-3 c = let l = c .before .loop in let a = c .before .before .args in sym 
 pub less-spec : {M : Type 1} → statement M
 less-spec =
     tie.close
-    (tie.spec
-    Inv-loop
-    μ-loop
-    loop-holds
-    shared-slice-read-if1
-    shared-slice-read-if1-2
-    returns
-    shared-slice-read-if2
-    shared-slice-read-if2-2
-    returns-2
-    add-i
-    loop-less
-    loop-again
-    returns-3)
+    (tie.spec Inv-loop μ-loop (λ c. (omega arith, refl)) (λ c. search needs) shared-slice-read-if1-2 returns (λ c. search needs)
+    shared-slice-read-if2-2 returns-2 (λ c. search needs) (λ c. search needs) loop-again returns-3)

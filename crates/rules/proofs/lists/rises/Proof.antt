@@ -21,20 +21,11 @@ abbrev μ-loop : tie.MeasureT-loop
 loop-holds : tie.Need-loop-holds Inv-loop μ-loop
 loop-holds c = let a = c .args in (omega arith, omega arith, rises-start (a .top) 0 (a .l .now) 0 _)
 
-shared-slice-read-x : tie.Need-shared-slice-read-x Inv-loop μ-loop
-shared-slice-read-x c = search needs
-
 returns : tie.Need-returns Inv-loop μ-loop
 returns c = let l = c .before .before .before .loop in let a = c .before .before .before .before .args in sym (l .inv .2 ∙ rises-low (a .top) (l .last) (a .l .now) (l .i) (a .n) (omega arith) (c .if1 .taken))
 
 returns-2 : tie.Need-returns-2 Inv-loop μ-loop
 returns-2 c = let l = c .before .before .before .before .loop in let a = c .before .before .before .before .before .args in sym (l .inv .2 ∙ rises-own (a .top) (l .last) (a .l .now) (l .i) (a .n) (omega arith) (c .if2 .taken))
-
-add-i : tie.Need-add-i Inv-loop μ-loop
-add-i c = search needs
-
-loop-less : tie.Need-loop-less Inv-loop μ-loop
-loop-less c = search needs
 
 loop-again : tie.Need-loop-again Inv-loop μ-loop
 loop-again c = let l = c .before .before .before .before .loop in let a = c .before .before .before .before .before .args in (omega arith, omega (arith, c .before .before .shared-slice-known .given (l .i)), l .inv .2 ∙ rises-more (a .top) (l .last) (a .l .now) (l .i) (a .n) (omega arith) (omega (arith, c .before .if1 .left)) (c .if2 .left))
@@ -48,15 +39,5 @@ returns-3 c = let l = c .before .loop in let a = c .before .before .args in sym 
 pub rises-spec : {M : Type 1} → statement M
 rises-spec =
     tie.close
-    (tie.spec
-    Inv-loop
-    μ-loop
-    loop-holds
-    shared-slice-read-x
-    returns
-    returns-2
-    add-i
-    loop-less
-    loop-again
-    cast-result
-    returns-3)
+    (tie.spec Inv-loop μ-loop loop-holds (λ c. search needs) returns returns-2 (λ c. search needs) (λ c. search needs) loop-again
+    cast-result returns-3)

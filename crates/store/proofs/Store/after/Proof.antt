@@ -5,17 +5,8 @@ use Rattle.store.proofs.Changes.{after-done, after-refused, after-stage
 use Rattle.store.proofs.Store.after.Statement.{statement}
 use Rattle.store.proofs.Store.after.Tie as tie
 
-number-requires : tie.Need-number-requires
-number-requires c κs = search needs
-
 returns : tie.Need-returns
 returns c = let a = c .before .before .args in after-refused (a .self) (a .changed) (λ z. c .if1 .taken (c .before .number .ensures ∙ z))
-
-judged-requires : tie.Need-judged-requires
-judged-requires c κs = search needs
-
-number-requires-2 : tie.Need-number-requires-2
-number-requires-2 c κs = search needs
 
 returns-2 : tie.Need-returns-2
 returns-2 c =
@@ -28,6 +19,4 @@ returns-3 c =
     after-done (a .self) (a .changed) (sym (c .before .before .before .before .number .ensures) ∙ c .before .before .before .if1 .left) _ (c .before .before .judged .ensures) (sym (c .before .number2 .ensures) ∙ c .if2 .left)
 
 pub after-spec : {M : Type 1} → statement M
-after-spec =
-    tie.close
-    (tie.spec number-requires returns judged-requires number-requires-2 returns-2 returns-3)
+after-spec = tie.close (tie.spec (λ c κs. search needs) returns (λ c κs. search needs) (λ c κs. search needs) returns-2 returns-3)

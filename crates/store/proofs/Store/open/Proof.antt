@@ -11,26 +11,11 @@ use Rattle.store.proofs.Store.open.Reads as reads
 use Rattle.store.proofs.Store.open.Lts as lts
 use Rattle.store.proofs.start.Reads as start-reads
 
-start-requires : tie.Need-start-requires
-start-requires c κs = search needs
-
 returns : tie.Need-returns
 returns c = let a = c .before .before .args in ap (answer Counts) (c .start .ensures) ∙ open-a (a .assumptions) (a .claims) (omega arith)
 
-start-requires-2 : tie.Need-start-requires-2
-start-requires-2 c κs = search needs
-
 returns-2 : tie.Need-returns-2
 returns-2 c = let a = c .before .before .before .args in ap (answer Counts) (c .start2 .ensures) ∙ open-m (a .assumptions) (a .claims) (omega arith) (omega arith)
-
-cast-start : tie.Need-cast-start
-cast-start c = search needs
-
-cast-start-2 : tie.Need-cast-start-2
-cast-start-2 c = search needs
-
-start-requires-3 : tie.Need-start-requires-3
-start-requires-3 c κs = search needs
 
 returns-3 : tie.Need-returns-3
 returns-3 c = let a = c .before .before .before .args in ap (answer Done) (c .start3 .ensures) ∙ open-done (a .assumptions) (a .claims) (omega arith) (omega arith)
@@ -38,12 +23,5 @@ returns-3 c = let a = c .before .before .before .args in ap (answer Done) (c .st
 pub open-spec : {M : Type 1} → statement M
 open-spec =
     tie.close
-    (tie.spec
-    start-requires
-    returns
-    start-requires-2
-    returns-2
-    cast-start
-    cast-start-2
-    start-requires-3
+    (tie.spec (λ c κs. search needs) returns (λ c κs. search needs) returns-2 (λ c. search needs) (λ c. search needs) (λ c κs. search needs)
     returns-3)

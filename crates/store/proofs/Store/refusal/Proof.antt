@@ -16,17 +16,11 @@ right c = sym (c .before .shape .ensures) ∙ not-false _ (c .if1 .left)
 bounds : (c : tie.Else1) → Fitting (c .before .before .args .self .held)
 bounds c = shape-elim (c .before .before .args .self) (right c) .0
 
-shape-requires : tie.Need-shape-requires
-shape-requires c κs = search needs
-
 returns : tie.Need-returns
 returns c = let a = c .before .before .args in refusal-shape (a .self) (a .n) (a .e) (sym (c .before .shape .ensures) ∙ not-true _ (c .if1 .taken))
 
 add-top : tie.Need-add-top
 add-top c = omega (arith, bounds (c .before .before) .few, bounds (c .before .before) .claims)
-
-cast-top : tie.Need-cast-top
-cast-top c = search needs
 
 returns-2 : tie.Need-returns-2
 returns-2 c = let a = c .before .before .before .before .before .args in refusal-number (a .self) (a .n) (a .e) (right (c .before .before .before)) (c .if2 .taken)
@@ -41,6 +35,4 @@ returns-4 : tie.Need-returns-4
 returns-4 c = let a = c .before .before .before .before .before .before .before .args in refusal-none (a .self) (a .n) (a .e) (right (c .before .before .before .before .before)) (c .before .before .if2 .left) (sym (c .before .low .ensures) ∙ not-false _ (c .if3 .left))
 
 pub refusal-spec : {M : Type 1} → statement M
-refusal-spec =
-    tie.close
-    (tie.spec shape-requires returns add-top cast-top returns-2 low-requires returns-3 returns-4)
+refusal-spec = tie.close (tie.spec (λ c κs. search needs) returns add-top (λ c. search needs) returns-2 low-requires returns-3 returns-4)

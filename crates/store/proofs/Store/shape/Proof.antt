@@ -15,9 +15,6 @@ fits c = sym (c .before .held-fits .ensures) ∙ not-false _ (c .if1 .left)
 bounds : (c : tie.Else1) → Fitting (c .before .before .before .args .self .held)
 bounds c = fits-elim (c .before .before .before .args .self .held) (fits c)
 
-held-fits-requires : tie.Need-held-fits-requires
-held-fits-requires c κs = search needs
-
 returns : tie.Need-returns
 returns c = shape-held (c .before .before .before .args .self) (sym (c .before .held-fits .ensures) ∙ not-true _ (c .if1 .taken))
 
@@ -31,4 +28,4 @@ returns-2 : tie.Need-returns-2
 returns-2 c = shape-lists (c .before .before .before .before .before .before .args .self) (fits (c .before .before .before)) _ (c .right .ensures)
 
 pub shape-spec : {M : Type 1} → statement M
-shape-spec = tie.close (tie.spec held-fits-requires returns add-right right-requires returns-2)
+shape-spec = tie.close (tie.spec (λ c κs. search needs) returns add-right right-requires returns-2)

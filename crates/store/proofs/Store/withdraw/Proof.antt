@@ -15,20 +15,14 @@ use Rattle.store.proofs.Store.withdraw.Tie as tie
 right : (c : tie.Else1) → rightShape (c .before .before .before .args .self) ≡ true
 right c = sym (c .before .shape .ensures) ∙ not-false _ (c .if1 .left)
 
-shape-requires : tie.Need-shape-requires
-shape-requires c κs = search needs
-
 returns : tie.Need-returns
 returns c = let a = c .before .before .before .args in withdraw-shape (a .self) (a .consequent) (a .supports .now) (sym (c .before .shape .ensures) ∙ not-true _ (c .if1 .taken))
 
 less-requires : tie.Need-less-requires
 less-requires c κs = let f = shape-elim (c .before .before .before .args .self) (right c) .0 in (f .right, omega (arith, f .few, f .claims))
 
-after-requires : tie.Need-after-requires
-after-requires c κs = search needs
-
 returns-2 : tie.Need-returns-2
 returns-2 c = let a = c .before .before .before .before .before .args in c .after .ensures ∙ ap (afterOf (a .self)) (c .before .less .ensures) ∙ less-withdrawn (a .self) (right (c .before .before)) (a .consequent) (a .supports .now)
 
 pub withdraw-spec : {M : Type 1} → statement M
-withdraw-spec = tie.close (tie.spec shape-requires returns less-requires after-requires returns-2)
+withdraw-spec = tie.close (tie.spec (λ c κs. search needs) returns less-requires (λ c κs. search needs) returns-2)
