@@ -19,6 +19,10 @@ Inv-loop marks e end out₀ lists i₀ out i = (i ≤ end) × (length out ≡ le
 abbrev μ-loop : tie.MeasureT-loop
 μ-loop marks e end out₀ lists i₀ out i = end - i
 
+-- The function's entry, from the head of the loop.
+abbrev entry : tie.At-loop Inv-loop μ-loop → tie.Start Inv-loop μ-loop
+entry c = c .before .before .before .before
+
 long : (s : tie.Start Inv-loop μ-loop) → length (s .args .marks .now) ≡ 129
 long s = ap length (s .pre .1) ∙ marks-long (fromAll (s .args .store .held .assumptions) (saidBy (s .args .store .held)))
 
@@ -26,18 +30,18 @@ loop-holds : tie.Need-loop-holds Inv-loop μ-loop
 loop-holds c = (omega arith, refl, fill-none _ _)
 
 shared-slice-read-byte : tie.Need-shared-slice-read-byte Inv-loop μ-loop
-shared-slice-read-byte c = omega (arith, long (c .before .before .before .before .before .before), c .before .loop-test .taken, c .before .before .before .before .before .before .pre .2)
+shared-slice-read-byte c = omega (arith, long (entry (c .before .before)), c .before .loop-test .taken, entry (c .before .before) .pre .2)
 
 byte-requires : tie.Need-byte-requires Inv-loop μ-loop
-byte-requires c κs = (c .before .before .before .before .before .before .pre .0, omega (arith, c .before .loop-test .taken, c .before .before .before .before .before .before .pre .2))
+byte-requires c κs = (entry (c .before .before) .pre .0, omega (arith, c .before .loop-test .taken, entry (c .before .before) .pre .2))
 
 slice-write-out : tie.Need-slice-write-out Inv-loop μ-loop
-slice-write-out c = omega (arith, c .before .before .loop-test .taken, c .before .before .before .loop .inv .1, c .before .before .before .before .before .before .before .pre .3)
+slice-write-out c = omega (arith, c .before .before .loop-test .taken, c .before .before .before .loop .inv .1, entry (c .before .before .before) .pre .3)
 
 loop-again : tie.Need-loop-again Inv-loop μ-loop
 loop-again c =
     let l = c .before .before .before .loop in
-    let s = c .before .before .before .before .before .before .before in
+    let s = entry (c .before .before .before) in
     (omega (arith, c .before .before .loop-test .taken), length-set (l .out) (l .i) (c .byte .result) ∙ l .inv .1, ap (λ (x : List ℕ). set x (l .i) (c .byte .result)) (l .inv .2) ∙ fill-more (byteAt (s .args .store .lists) (s .args .marks .now) (s .args .e)) (s .args .out .now) (l .i) _ (omega (arith, c .before .before .loop-test .taken, s .pre .3)) (c .byte .ensures))
 
 same-length : tie.Need-same-length Inv-loop μ-loop
@@ -46,7 +50,7 @@ same-length c = c .before .loop .inv .1
 returns : tie.Need-returns Inv-loop μ-loop
 returns c =
     let l = c .before .loop in
-    let s = c .before .before .before .before .before in
+    let s = entry (c .before) in
     let e : l .i ≡ s .args .end = omega (arith, l .inv .0, c .loop-test .left) in
     l .inv .2 ∙ ap (λ (n : ℕ). table n (byteAt (s .args .store .lists) (s .args .marks .now) (s .args .e)) ++ drop n (s .args .out .now)) e
     ∙ ap (λ (b : List ℕ). b ++ drop (s .args .end) (s .args .out .now)) (bytes-told (s .args .store) (s .args .marks .now) (s .args .e) (s .args .end) (s .pre .1) (s .pre .2))

@@ -10,11 +10,15 @@ use Rattle.rules.proofs.Steps.{length-mapped}
 use Rattle.bare.proofs.ask_some.Statement.{statement}
 use Rattle.bare.proofs.ask_some.Tie as tie
 
+-- The function's entry, from where test 1 held.
+abbrev entry : tie.Then1 → tie.Start
+entry c = c .before .before
+
 many : (s : tie.Start) → length (s .args .list) ≡ 256
 many s = search (needs, length-mapped)
 
 returns : tie.Need-returns
-returns c = let a = c .before .before .before .before .before .before .args in c .before .before .ask-first .ensures ∙ ap (λ (l : List Handed). askOf (a .query) l (a .out .now)) (taken-all (a .list) 256 (a .n) (many (c .before .before .before .before .before .before)) (c .before .before .before .before .if1 .taken))
+returns c = let a = entry (c .before .before .before .before) .args in c .before .before .ask-first .ensures ∙ ap (λ (l : List Handed). askOf (a .query) l (a .out .now)) (taken-all (a .list) 256 (a .n) (many (entry (c .before .before .before .before))) (c .before .before .before .before .if1 .taken))
 
 returns-2 : tie.Need-returns-2
 returns-2 c = c .before .before .ask-first2 .ensures

@@ -7,6 +7,10 @@ use Rattle.bare.proofs.Steps.{begun-first, begun-over, within}
 use Rattle.bare.proofs.begin.Statement.{statement}
 use Rattle.bare.proofs.begin.Tie as tie
 
+-- The function's entry, from where test 1 failed.
+abbrev entry : tie.Else1 → tie.Start
+entry c = c .before .before
+
 few : (c : tie.Else1) → (c .before .before .args .ask .assumptions ≤ 32) × (c .before .before .args .ask .claims ≤ 96)
 few c = within (c .before .before .args .ask) (sym (c .before .over .ensures) ∙ c .if1 .left)
 
@@ -26,7 +30,7 @@ start-requires : tie.Need-start-requires
 start-requires c κs = few (c .before .before) .0
 
 returns-2 : tie.Need-returns-2
-returns-2 c = begun-first (c .before .before .before .before .before .before .args .ask) (c .before .before .before .before .before .before .args .items) _ _ (sym (c .before .before .before .before .before .over .ensures) ∙ c .before .before .before .before .if1 .left) (c .before .start .ensures) (c .sown .ensures)
+returns-2 c = begun-first (entry (c .before .before .before .before) .args .ask) (entry (c .before .before .before .before) .args .items) _ _ (sym (c .before .before .before .before .before .over .ensures) ∙ c .before .before .before .before .if1 .left) (c .before .start .ensures) (c .sown .ensures)
 
 pub begin-spec : {M : Type 1} → statement M
 begin-spec = tie.close (tie.spec (λ c κs. search needs) returns cast-a cast-top add-top start-requires (λ c κs. search needs) returns-2)

@@ -17,12 +17,16 @@ Inv-loop list e count others i₀ i = (count ≡ length list) × (i ≤ count) �
 abbrev μ-loop : tie.MeasureT-loop
 μ-loop list e count others i₀ i = count - i
 
+-- The function's entry, from the head of the loop.
+abbrev entry : tie.At-loop Inv-loop μ-loop → tie.Start Inv-loop μ-loop
+entry c = c .before .before .before
+
 loop-holds : tie.Need-loop-holds Inv-loop μ-loop
 loop-holds c = (refl, omega arith, omega arith)
 
 loop-again : tie.Need-loop-again Inv-loop μ-loop
 loop-again c = let l = c .before .before .before .before .loop in
-    let a = c .before .before .before .before .before .before .before .args in
+    let a = entry (c .before .before .before .before) .args in
     let known = c .before .before .shared-slice-known2 .given (l .i) in (
       l .inv .0,
       omega arith,
@@ -35,7 +39,7 @@ returns c = c .before .loop .inv .0 ∙ first-none _ _ (c .before .loop .i) (c .
 
 returns-2 : tie.Need-returns-2 Inv-loop μ-loop
 returns-2 c = let l = c .before .before .before .before .loop in
-    let a = c .before .before .before .before .before .before .before .args in
+    let a = entry (c .before .before .before .before) .args in
     let known = c .before .before .shared-slice-known2 .given (l .i) in
     first-here _ _ (l .i) (l .inv .2) (omega arith) _
     (none-out (limits .assumptions) (getD (a .list .now) (l .i) 0) (a .e) (omega (arith, known)) (omega arith) (sym (c .before .meet .ensures ∙ ap (meet (getD (a .list .now) (l .i) 0)) (c .before .before .before .before .before .without .ensures)) ∙ c .if2 .taken)) refl

@@ -25,12 +25,16 @@ Inv-loop rules lo hi n members sizes struck moved pool₀ now₀ j₀ pool now j
 abbrev μ-loop : tie.MeasureT-loop
 μ-loop rules lo hi n members sizes struck moved pool₀ now₀ j₀ pool now j = hi - j
 
+-- The function's entry, from the head of the loop.
+abbrev entry : tie.At-loop Inv-loop μ-loop → tie.Start Inv-loop μ-loop
+entry c = c .before .before .before
+
 loop-holds : tie.Need-loop-holds Inv-loop μ-loop
 loop-holds c = (omega arith, (left-all _ _ _ _ _ (c .before .before .pre .3) refl, c .before .before .pre .4))
 
 joined-requires : tie.Need-joined-requires Inv-loop μ-loop
 joined-requires c κs =
-    let s = c .before .before .before .before .before .before in
+    let s = entry (c .before .before .before) in
     let l = c .before .before .before .loop in
     let rules = s .args .rules .now in
     let e = entries-long rules in
@@ -45,14 +49,14 @@ joined-requires c κs =
     )
 
 add-j : tie.Need-add-j Inv-loop μ-loop
-add-j c = omega (arith, c .before .before .before .before .before .before .before .pre .2, c .before .before .before .loop-test .taken)
+add-j c = omega (arith, entry (c .before .before .before .before) .pre .2, c .before .before .before .loop-test .taken)
 
 loop-less : tie.Need-loop-less Inv-loop μ-loop
 loop-less c = omega (arith, c .before .before .before .loop-test .taken)
 
 loop-again : tie.Need-loop-again Inv-loop μ-loop
 loop-again c =
-    let s = c .before .before .before .before .before .before .before in
+    let s = entry (c .before .before .before .before) in
     let l = c .before .before .before .before .loop in
     let rules = s .args .rules .now in
     let e = entries-long rules in
@@ -63,7 +67,7 @@ loop-again c =
     )
 
 returns : tie.Need-returns Inv-loop μ-loop
-returns c = let s = c .before .before .before .before in (left-end _ _ _ _ _ _ _ (c .before .loop .inv .1 .0) (joins-over (lying (s .args .members .now) (s .args .sizes .now)) _ (entriesOf (s .args .rules .now)) (c .before .loop .j) (s .args .hi) (c .loop-test .left)), c .before .loop .inv .1 .0 .same)
+returns c = let s = entry (c .before) in (left-end _ _ _ _ _ _ _ (c .before .loop .inv .1 .0) (joins-over (lying (s .args .members .now) (s .args .sizes .now)) _ (entriesOf (s .args .rules .now)) (c .before .loop .j) (s .args .hi) (c .loop-test .left)), c .before .loop .inv .1 .0 .same)
 
 pub pooled-spec : {M : Type 1} → statement M
 pooled-spec = tie.close (tie.spec Inv-loop μ-loop loop-holds (λ c κs. search needs) joined-requires add-j loop-less loop-again returns)

@@ -14,6 +14,22 @@ use borrow.Author.Needs.{needs}
 use Rattle.lines.proofs.case_line.Statement.{statement}
 use Rattle.lines.proofs.case_line.Tie as tie
 
+-- The function's entry, from where test 1 failed.
+abbrev entry : tie.Else1 → tie.Start
+entry c = c .before .before .before
+
+-- Where test 1 failed, from after `lists`.
+abbrev no1 : tie.After-lists → tie.Else1
+no1 c = c .before .before
+
+-- After `lists`, from after `text`.
+abbrev after-lists : tie.After-text → tie.After-lists
+after-lists c = c .before .before .before .before .before
+
+-- After `head`, from after `out`.
+abbrev after-head : tie.After-out → tie.After-head
+after-head c = c .before .before .before .before .before
+
 right : (c : tie.Else1) → rightShape (c .before .before .before .args .store) ≡ true
 right c = sym (c .before .shape .ensures) ∙ not-false _ (c .if1 .left)
 
@@ -21,11 +37,11 @@ returns : tie.Need-returns
 returns c = case-shape (c .before .before .before .args .store) _ (sym (c .before .shape .ensures) ∙ not-true _ (c .if1 .taken))
 
 cast-head-3 : tie.Need-cast-head-3
-cast-head-3 c = let k = bounded (c .before .before .before .before .before .before .before .before .args .store) (right (c .before .before .before .before .before)) in omega arith
+cast-head-3 c = let k = bounded (entry (no1 (c .before .before .before)) .args .store) (right (no1 (c .before .before .before))) in omega arith
 
 head-requires : tie.Need-head-requires
 unfolding caseText
-head-requires c κs = let s = c .before .before .before .before .before .before .before .before .before .before .args .store in blank-room 19 (caseText s) (case-length s (right (c .before .before .before .before .before .before .before)))
+head-requires c κs = let s = entry (no1 (after-lists c)) .args .store in blank-room 19 (caseText s) (case-length s (right (no1 (after-lists c))))
 
 array-share-prefix-text : tie.Need-array-share-prefix-text
 array-share-prefix-text c = front-room (c .before .head .ensures)
@@ -35,7 +51,7 @@ slice-aggregate-fit c = sym (length-take-le _ _ (front-room (c .before .before .
 
 returns-2 : tie.Need-returns-2
 unfolding caseText
-returns-2 c = case-rest (c .before .before .before .before .before .before .before .before .before .before .before .before .before .before .before .before .before .args .store) _ (right (c .before .before .before .before .before .before .before .before .before .before .before .before .before .before)) (front-taken (c .before .before .before .before .before .before .head .ensures)) (c .before .before .fit .ensures)
+returns-2 c = case-rest (entry (no1 (after-lists (after-head (c .before) .before))) .args .store) _ (right (no1 (after-lists (after-head (c .before) .before)))) (front-taken (after-head (c .before) .head .ensures)) (c .before .before .fit .ensures)
 
 pub case-line-spec : {M : Type 1} → statement M
 case-line-spec =

@@ -14,11 +14,23 @@ use Rattle.wording.specs.Wording.{lineWith}
 use Rattle.lines.proofs.line.Statement.{statement}
 use Rattle.lines.proofs.line.Tie as tie
 
--- what is known after the refusals
-known : (c : tie.Else1) → Readable (c .before .before .before .before .args .store) (c .before .before .before .before .args .n) 0
-known c = readable (c .before .before .before .before .args .store) (c .before .before .before .before .args .n) 0 _ (c .before .before .refusal .ensures) (sym (c .before .number .ensures) ∙ c .if1 .left)
+-- The function's entry, from where test 1 failed.
+abbrev entry : tie.Else1 → tie.Start
+entry c = c .before .before .before .before
 
-low : (c : tie.Else1) → c .before .before .before .before .args .n ≤ 128
+-- Where test 1 failed, from after `lined`.
+abbrev no1 : tie.After-lined → tie.Else1
+no1 c = c .before .before .before
+
+-- After `lined`, from after `out`.
+abbrev after-lined : tie.After-out → tie.After-lined
+after-lined c = c .before .before .before .before .before
+
+-- what is known after the refusals
+known : (c : tie.Else1) → Readable (entry c .args .store) (entry c .args .n) 0
+known c = readable (entry c .args .store) (entry c .args .n) 0 _ (c .before .before .refusal .ensures) (sym (c .before .number .ensures) ∙ c .if1 .left)
+
+low : (c : tie.Else1) → (entry c) .args .n ≤ 128
 low c = let k = known c in omega (arith, k .number, k .fit .few, k .fit .claims)
 
 nogoods : (s : tie.Start) → length (s .args .store .lists .nogoods) ≤ 32
@@ -32,7 +44,7 @@ contradicted-requires c κs = (known c .right, low c)
 
 lined-requires : tie.Need-lined-requires
 lined-requires c κs =
-    let s = c .before .before .before .before .before .before in
+    let s = entry (c .before .before) in
     let k = known (c .before .before) .right in
     (k, low (c .before .before), blank-room 2857 (lineWith (s .args .store .lists) (s .args .n) (c .before .contradicted .result)) (line-length (s .args .store) (s .args .n) _ k (nogoods s) (low (c .before .before))))
 
@@ -43,7 +55,7 @@ slice-aggregate-fit : tie.Need-slice-aggregate-fit
 slice-aggregate-fit c = sym (length-take-le _ _ (front-room (c .before .before .lined .ensures)))
 
 returns-2 : tie.Need-returns-2
-returns-2 c = let a = c .before .before .before .before .before .before .before .before .before .before .before .before .before .args in line-rest (a .store) _ (a .n) (known (c .before .before .before .before .before .before .before .before .before)) (front-taken (c .before .before .before .before .before .before .lined .ensures) ∙ text-told (a .store) (a .n) _ (c .before .before .before .before .before .before .before .before .contradicted .ensures)) (c .before .before .fit .ensures)
+returns-2 c = let a = entry (no1 (after-lined (c .before))) .args in line-rest (a .store) _ (a .n) (known (no1 (after-lined (c .before)))) (front-taken (after-lined (c .before) .lined .ensures) ∙ text-told (a .store) (a .n) _ (after-lined (c .before) .before .before .contradicted .ensures)) (c .before .before .fit .ensures)
 
 pub line-spec : {M : Type 1} → statement M
 line-spec =

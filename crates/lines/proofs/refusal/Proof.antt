@@ -14,6 +14,18 @@ use borrow.Author.Needs.{needs}
 use Rattle.lines.proofs.refusal.Statement.{statement}
 use Rattle.lines.proofs.refusal.Tie as tie
 
+-- The function's entry, from after `number`.
+abbrev entry : tie.After-number → tie.Start
+entry c = c .before .before
+
+-- After `number`, from after `refused`.
+abbrev after-number : tie.After-refused → tie.After-number
+after-number c = c .before .before
+
+-- After `refused`, from after `out`.
+abbrev after-refused : tie.After-out → tie.After-refused
+after-refused c = c .before .before .before .before .before
+
 -- the text with the number that the call gave
 same : (c : tie.After-number) → let s = c .before .before in textOf (c .number .result) (s .args .«record») ≡ refusalText (s .args .reply) (s .args .«record»)
 unfolding refusalText
@@ -32,7 +44,7 @@ slice-aggregate-fit : tie.Need-slice-aggregate-fit
 slice-aggregate-fit c = sym (length-take-le _ _ (front-room (c .before .before .refused .ensures)))
 
 returns : tie.Need-returns
-returns c = let s = c .before .before .before .before .before .before .before .before .before .before in refusal-rest (s .args .reply) (s .args .«record») _ (front-taken (c .before .before .before .before .before .before .refused .ensures) ∙ same (c .before .before .before .before .before .before .before .before)) (c .before .before .fit .ensures)
+returns c = let s = entry (after-number (after-refused (c .before))) in refusal-rest (s .args .reply) (s .args .«record») _ (front-taken (after-refused (c .before) .refused .ensures) ∙ same (after-number (after-refused (c .before)))) (c .before .before .fit .ensures)
 
 pub refusal-spec : {M : Type 1} → statement M
 refusal-spec =

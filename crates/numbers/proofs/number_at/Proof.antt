@@ -6,6 +6,10 @@ use Rattle.numbers.proofs.Numbers.{no-first, one-byte, no-second, zero-
 use Rattle.numbers.proofs.number_at.Statement.{statement}
 use Rattle.numbers.proofs.number_at.Tie as tie
 
+-- Where test 1 failed, from where test 4 failed.
+abbrev no1 : tie.Else4 → tie.Else1
+no1 c = c .before .before .before .before .before
+
 returns : tie.Need-returns
 returns c = no-first _ _ (c .if1 .taken)
 
@@ -25,13 +29,13 @@ returns-4 : tie.Need-returns-4
 returns-4 c = zero-second _ _ (c .before .before .before .before .before .if1 .left) (c .before .before .before .if2 .left) (c .before .before .if3 .left) (c .if4 .taken)
 
 returns-5 : tie.Need-returns-5
-returns-5 c = high-second _ _ (c .before .before .before .before .before .before .if1 .left) (c .before .before .before .before .if2 .left) (c .before .before .before .if3 .left) (c .before .if4 .left) (c .if5 .taken)
+returns-5 c = high-second _ _ (no1 (c .before) .if1 .left) (c .before .before .before .before .if2 .left) (c .before .before .before .if3 .left) (c .before .if4 .left) (c .if5 .taken)
 
 add-t18 : tie.Need-add-t18
-add-t18 c = omega (arith, c .before .before .before .before .before .shared-slice-known .given (c .before .before .before .before .before .before .before .args .at))
+add-t18 c = omega (arith, c .before .before .before .before .before .shared-slice-known .given (no1 (c .before) .before .args .at))
 
 returns-6 : tie.Need-returns-6
-returns-6 c = two-bytes _ _ (c .before .before .before .before .before .before .if1 .left) (c .before .before .before .before .if2 .left) (c .before .before .before .if3 .left) (c .before .if4 .left) (c .if5 .left)
+returns-6 c = two-bytes _ _ (no1 (c .before) .if1 .left) (c .before .before .before .before .if2 .left) (c .before .before .before .if3 .left) (c .before .if4 .left) (c .if5 .left)
 
 pub number-at-spec : {M : Type 1} → statement M
 number-at-spec =

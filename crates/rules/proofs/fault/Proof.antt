@@ -5,6 +5,10 @@ use Rattle.rules.proofs.Faults.{fault-above, fault-head, fault-many, fa
 use Rattle.rules.proofs.fault.Statement.{statement}
 use Rattle.rules.proofs.fault.Tie as tie
 
+-- Where test 2 failed, from where test 4 failed.
+abbrev no2 : tie.Else4 → tie.Else2
+no2 c = c .before .before .before .before
+
 returns : tie.Need-returns
 returns c = fault-many _ _ _ (c .if1 .taken)
 
@@ -26,13 +30,13 @@ returns-4 c = fault-zero _ _ _ (c .before .before .before .before .before .if1 .
 -- src/lib.rt:51:9
 returns-5 : tie.Need-returns-5
 returns-5 c =
-    fault-own _ _ _ (c .before .before .before .before .before .before .before .if1 .left) (c .before .before .before .before .before .before .if2 .left) (sym (c .before .before .before .before .before .over .ensures) ∙ c .before .before .before .before .if3 .left) (sym (c .before .before .before .has .ensures) ∙ c .before .before .if4 .left)
+    fault-own _ _ _ (no2 (c .before .before) .before .if1 .left) (no2 (c .before .before) .if2 .left) (sym (c .before .before .before .before .before .over .ensures) ∙ c .before .before .before .before .if3 .left) (sym (c .before .before .before .has .ensures) ∙ c .before .before .if4 .left)
     (sym (c .before .has2 .ensures) ∙ c .if5 .taken)
 
 -- src/lib.rt:34:1
 returns-6 : tie.Need-returns-6
 returns-6 c =
-    fault-none _ _ _ (c .before .before .before .before .before .before .before .if1 .left) (c .before .before .before .before .before .before .if2 .left) (sym (c .before .before .before .before .before .over .ensures) ∙ c .before .before .before .before .if3 .left) (sym (c .before .before .before .has .ensures) ∙ c .before .before .if4 .left)
+    fault-none _ _ _ (no2 (c .before .before) .before .if1 .left) (no2 (c .before .before) .if2 .left) (sym (c .before .before .before .before .before .over .ensures) ∙ c .before .before .before .before .if3 .left) (sym (c .before .before .before .has .ensures) ∙ c .before .before .if4 .left)
     (sym (c .before .has2 .ensures) ∙ c .if5 .left)
 
 pub fault-spec : {M : Type 1} → statement M

@@ -6,6 +6,10 @@ use Rattle.script.specs.Script.{numeralOf}
 use Rattle.script.proofs.digit.Statement.{statement}
 use Rattle.script.proofs.digit.Tie as tie
 
+-- The function's entry, from where test 5 failed.
+abbrev entry : tie.Else5 → tie.Start
+entry c = c .before .before .before .before .before
+
 returns : tie.Need-returns
 returns c = ap numeralOf (sym (hex-digit (c .before .before .args .b) (omega arith) (omega arith)))
 
@@ -13,7 +17,7 @@ returns-2 : tie.Need-returns-2
 returns-2 c = ap numeralOf (sym (hex-upper (c .before .before .before .before .args .b) (omega arith) (omega arith)))
 
 returns-3 : tie.Need-returns-3
-returns-3 c = ap numeralOf (sym (hex-lower (c .before .before .before .before .before .before .args .b) (omega arith) (omega arith)))
+returns-3 c = ap numeralOf (sym (hex-lower (entry (c .before) .args .b) (omega arith) (omega arith)))
 
 returns-4 : tie.Need-returns-4
 returns-4 c = ap numeralOf (sym (hex-below (c .before .args .b) (omega arith)))
@@ -25,7 +29,7 @@ returns-6 : tie.Need-returns-6
 returns-6 c = ap numeralOf (sym (hex-amid (c .before .before .before .before .before .args .b) (omega arith) (omega arith)))
 
 returns-7 : tie.Need-returns-7
-returns-7 c = ap numeralOf (sym (hex-above (c .before .before .before .before .before .before .args .b) (omega arith)))
+returns-7 c = ap numeralOf (sym (hex-above (entry (c .before) .args .b) (omega arith)))
 
 pub digit-spec : {M : Type 1} → statement M
 digit-spec =

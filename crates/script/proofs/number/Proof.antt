@@ -14,6 +14,10 @@ Inv-loop field value₀ i₀ value i = (i ≤ length field) × (value ≤ 429496
 abbrev μ-loop : tie.MeasureT-loop
 μ-loop field value₀ i₀ value i = length field - i
 
+-- The function's entry, from the head of the loop.
+abbrev entry : tie.At-loop Inv-loop μ-loop → tie.Start Inv-loop μ-loop
+entry c = c .before .before
+
 returns : tie.Need-returns Inv-loop μ-loop
 returns c = ap numeralOf (sym (numeral-empty (c .before .args .field .now) (c .if1 .taken)))
 
@@ -23,12 +27,12 @@ loop-holds c = (omega arith, omega arith, numeral-start (c .before .args .field 
 returns-2 : tie.Need-returns-2 Inv-loop μ-loop
 returns-2 c =
     let l = c .before .before .before .loop in
-    ap numeralOf (sym (l .inv .2 ∙ numeral-low (c .before .before .before .before .before .args .field .now) (l .i) (l .value) (omega arith) (omega arith)))
+    ap numeralOf (sym (l .inv .2 ∙ numeral-low (entry (c .before .before .before) .args .field .now) (l .i) (l .value) (omega arith) (omega arith)))
 
 returns-3 : tie.Need-returns-3 Inv-loop μ-loop
 returns-3 c =
     let l = c .before .before .before .before .loop in
-    ap numeralOf (sym (l .inv .2 ∙ numeral-high (c .before .before .before .before .before .before .args .field .now) (l .i) (l .value) (omega arith) (omega arith) (omega arith)))
+    ap numeralOf (sym (l .inv .2 ∙ numeral-high (entry (c .before .before .before .before) .args .field .now) (l .i) (l .value) (omega arith) (omega arith) (omega arith)))
 
 cast-next : tie.Need-cast-next Inv-loop μ-loop
 cast-next c = omega (arith, c .before .before .shared-slice-known .given (c .before .before .before .before .loop .i))
@@ -39,12 +43,12 @@ add-next c = omega (arith, c .before .before .shared-slice-known .given (c .befo
 returns-4 : tie.Need-returns-4 Inv-loop μ-loop
 returns-4 c =
     let l = c .before .before .before .before .before .loop in
-    ap numeralOf (sym (l .inv .2 ∙ numeral-large (c .before .before .before .before .before .before .before .args .field .now) (l .i) (l .value) (omega arith) (omega arith)))
+    ap numeralOf (sym (l .inv .2 ∙ numeral-large (entry (c .before .before .before .before .before) .args .field .now) (l .i) (l .value) (omega arith) (omega arith)))
 
 loop-again : tie.Need-loop-again Inv-loop μ-loop
 loop-again c =
     let l = c .before .before .before .before .before .loop in
-    (omega arith, omega arith, l .inv .2 ∙ numeral-more (c .before .before .before .before .before .before .before .args .field .now) (l .i) (l .value) (omega arith) (omega arith) (omega arith))
+    (omega arith, omega arith, l .inv .2 ∙ numeral-more (entry (c .before .before .before .before .before) .args .field .now) (l .i) (l .value) (omega arith) (omega arith) (omega arith))
 
 returns-5 : tie.Need-returns-5 Inv-loop μ-loop
 returns-5 c =

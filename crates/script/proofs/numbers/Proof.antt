@@ -15,6 +15,18 @@ Inv-loop line from out₀ at₀ count₀ out at count = Midway numeral line from
 abbrev μ-loop : tie.MeasureT-loop
 μ-loop line from out₀ at₀ count₀ out at count = length line - at
 
+-- The function's entry, from the head of the loop.
+abbrev entry : tie.At-loop Inv-loop μ-loop → tie.Start Inv-loop μ-loop
+entry c = c .before .before .before
+
+-- The head of the loop, from where test 1 failed.
+abbrev head : tie.Else1 Inv-loop μ-loop → tie.At-loop Inv-loop μ-loop
+head c = c .before .before
+
+-- Where test 1 failed, from `At-match-keys1`.
+abbrev no1 : tie.At-match-keys1 Inv-loop μ-loop → tie.Else1 Inv-loop μ-loop
+no1 c = c .before .before .before
+
 loop-holds : tie.Need-loop-holds Inv-loop μ-loop
 loop-holds c = let a = c .before .before .args in mid-start numeral (a .line .now) (a .from) (a .out .now)
 
@@ -24,8 +36,8 @@ same-length c = c .before .before .loop .inv .kept
 returns : tie.Need-returns Inv-loop μ-loop
 returns c = mid-end (c .before .before .loop .inv) (c .before .field .ensures) (c .if1 .taken)
 
-inside : (c : tie.Else1 Inv-loop μ-loop) → Inside (c .before .before .before .before .before .args .line .now) (c .before .before .loop .at) (c .before .field .result)
-inside c = field-inside (c .before .before .before .before .before .args .line .now) (c .before .before .loop .at) (c .before .field .result) (c .before .field .ensures) (c .if1 .left)
+inside : (c : tie.Else1 Inv-loop μ-loop) → Inside (entry (head c) .args .line .now) (c .before .before .loop .at) (c .before .field .result)
+inside c = field-inside (entry (head c) .args .line .now) (c .before .before .loop .at) (c .before .field .result) (c .before .field .ensures) (c .if1 .left)
 
 sub-number : tie.Need-sub-number Inv-loop μ-loop
 sub-number c = omega (arith, inside c)
@@ -37,28 +49,28 @@ part-number-end : tie.Need-part-number-end Inv-loop μ-loop
 part-number-end c = omega (arith, inside c)
 
 same-length-2 : tie.Need-same-length-2 Inv-loop μ-loop
-same-length-2 c = c .before .before .before .before .before .before .loop .inv .kept
+same-length-2 c = head (c .before .before .before .before) .loop .inv .kept
 
 returns-2 : tie.Need-returns-2 Inv-loop μ-loop
-returns-2 c = mid-bad (c .before .before .before .before .before .before .loop .inv) (c .before .before .before .before .before .field .ensures) (c .before .before .before .before .if1 .left) (c .before .before .number .ensures) (c .enum-told .given .1)
+returns-2 c = mid-bad (head (c .before .before .before .before) .loop .inv) (c .before .before .before .before .before .field .ensures) (c .before .before .before .before .if1 .left) (c .before .before .number .ensures) (c .enum-told .given .1)
 
 same-length-3 : tie.Need-same-length-3 Inv-loop μ-loop
-same-length-3 c = c .before .before .before .before .before .before .before .before .loop .inv .kept
+same-length-3 c = head (no1 (c .before .before .before)) .loop .inv .kept
 
 returns-3 : tie.Need-returns-3 Inv-loop μ-loop
-returns-3 c = mid-full (c .before .before .before .before .before .before .before .before .loop .inv) (c .before .before .before .before .before .before .before .field .ensures) (c .before .before .before .before .before .before .if1 .left) (c .before .before .before .before .number .ensures) (c .before .before .n .given .1) (c .if2 .taken)
+returns-3 c = mid-full (head (no1 (c .before .before .before)) .loop .inv) (no1 (c .before .before .before) .before .field .ensures) (no1 (c .before .before .before) .if1 .left) (c .before .before .before .before .number .ensures) (c .before .before .n .given .1) (c .if2 .taken)
 
 slice-write-out : tie.Need-slice-write-out Inv-loop μ-loop
-slice-write-out c = omega (arith, c .before .before .before .before .before .before .before .before .loop .inv .few, c .if2 .left)
+slice-write-out c = omega (arith, head (no1 (c .before .before .before)) .loop .inv .few, c .if2 .left)
 
 add-count : tie.Need-add-count Inv-loop μ-loop
-add-count c = let i = c .before .before .before .before .before .before .before .before .loop .inv in omega (arith, i .few, i .kept, c .if2 .left, c .before .before .before .before .before .before .before .before .before .before .before .good)
+add-count c = let i = head (no1 (c .before .before .before)) .loop .inv in omega (arith, i .few, i .kept, c .if2 .left, entry (head (no1 (c .before .before .before))) .good)
 
 loop-less : tie.Need-loop-less Inv-loop μ-loop
-loop-less c = omega (arith, inside (c .before .before .before .before .before .before))
+loop-less c = omega (arith, inside (no1 (c .before .before .before)))
 
 loop-again : tie.Need-loop-again Inv-loop μ-loop
-loop-again c = mid-more (c .before .before .before .before .before .before .before .before .loop .inv) (c .before .before .before .before .before .before .before .field .ensures) (c .before .before .before .before .before .before .if1 .left) (c .before .before .before .before .number .ensures) (c .before .before .n .given .1) (c .if2 .left)
+loop-again c = mid-more (head (no1 (c .before .before .before)) .loop .inv) (no1 (c .before .before .before) .before .field .ensures) (no1 (c .before .before .before) .if1 .left) (c .before .before .before .before .number .ensures) (c .before .before .n .given .1) (c .if2 .left)
 
 pub numbers-spec : {M : Type 1} → statement M
 numbers-spec =

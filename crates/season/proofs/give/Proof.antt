@@ -12,6 +12,10 @@ use Rattle.store.specs.Calls.{addOf, afterOf}
 use Rattle.season.proofs.give.Statement.{statement}
 use Rattle.season.proofs.give.Tie as tie
 
+-- The function's entry, from where test 1 failed.
+abbrev entry : tie.Else1 → tie.Start
+entry c = c .before .before
+
 four : (s : tie.Start) → length (s .args .item .supports) ≡ 4
 four s = search needs
 
@@ -22,15 +26,15 @@ array-share-prefix-supports : tie.Need-array-share-prefix-supports
 array-share-prefix-supports c = omega (arith, four (c .before .before .before), c .before .if1 .left)
 
 slice-aggregate-more : tie.Need-slice-aggregate-more
-slice-aggregate-more c = sym (length-take-le _ _ (omega (arith, four (c .before .before .before .before), c .before .before .if1 .left)))
+slice-aggregate-more c = sym (length-take-le _ _ (omega (arith, four (entry (c .before .before)), c .before .before .if1 .left)))
 
 more-requires : tie.Need-more-requires
-more-requires c κs = let f = shape-elim (c .before .before .before .before .args .store) (c .before .before .before .before .pre) .0 in (f .right, omega (arith, f .few, f .claims))
+more-requires c κs = let f = shape-elim (entry (c .before .before) .args .store) (entry (c .before .before) .pre) .0 in (f .right, omega (arith, f .few, f .claims))
 
 returns-2 : tie.Need-returns-2
 returns-2 c =
-    let a = c .before .before .before .before .before .before .args in
-    c .after .ensures ∙ ap (afterOf (a .store)) (c .before .more .ensures) ∙ more-added (a .store) (c .before .before .before .before .before .before .pre) (a .item .consequent) _ ∙ ap (addOf (a .store) (a .item .consequent)) (supplied-few (a .item) (c .before .before .before .before .if1 .left))
+    let a = entry (c .before .before .before .before) .args in
+    c .after .ensures ∙ ap (afterOf (a .store)) (c .before .more .ensures) ∙ more-added (a .store) (entry (c .before .before .before .before) .pre) (a .item .consequent) _ ∙ ap (addOf (a .store) (a .item .consequent)) (supplied-few (a .item) (c .before .before .before .before .if1 .left))
 
 pub give-spec : {M : Type 1} → statement M
 give-spec = tie.close (tie.spec returns array-share-prefix-supports slice-aggregate-more more-requires (λ c κs. search needs) returns-2)

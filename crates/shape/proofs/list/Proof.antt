@@ -13,11 +13,15 @@ use borrow.Author.Needs.{needs}
 use Rattle.shape.proofs.list.Statement.{statement}
 use Rattle.shape.proofs.list.Tie as tie
 
+-- The function's entry, from where test 2 held.
+abbrev entry : tie.Then2 → tie.Start
+entry c = c .before .before .before .before .before
+
 returns : tie.Need-returns
 returns c = standing-long _ _ (c .if1 .taken)
 
 returns-2 : tie.Need-returns-2
-returns-2 c = let a = c .before .before .before .before .before .before .before .args in
+returns-2 c = let a = entry (c .before .before) .args in
     ap (λ (u : ℕ). eqb u 0) (c .all .ensures ∙ ap unionOf (part-to-end (a .l .now) (a .count))) ∙ turned (unionOf (drop (a .count) (a .l .now))) ∙ standing-rest (a .count) (a .l .now) (c .before .before .before .before .before .if1 .left) (sym (c .before .before .before .sorted .ensures) ∙ c .before .before .if2 .taken)
 
 returns-3 : tie.Need-returns-3

@@ -14,6 +14,10 @@ Inv-loop a b i₀ i = (i ≤ length a) × (sameSets a b ≡ sameSets (drop i a) 
 abbrev μ-loop : tie.MeasureT-loop
 μ-loop a b i₀ i = length a - i
 
+-- The function's entry, from the head of the loop.
+abbrev entry : tie.At-loop Inv-loop μ-loop → tie.Start Inv-loop μ-loop
+entry c = c .before .before
+
 returns : tie.Need-returns Inv-loop μ-loop
 returns c =
     let a = c .before .args in
@@ -22,13 +26,13 @@ returns c =
 returns-2 : tie.Need-returns-2 Inv-loop μ-loop
 returns-2 c =
     let l = c .before .before .before .before .loop in
-    let a = c .before .before .before .before .before .before .args in
+    let a = entry (c .before .before .before .before) .args in
     sym (l .inv .1 ∙ same-miss (a .a .now) (a .b .now) (l .i) (omega arith) (omega (arith, c .before .before .before .before .before .if1 .left)) (c .if2 .taken))
 
 loop-again : tie.Need-loop-again Inv-loop μ-loop
 loop-again c =
     let l = c .before .before .before .before .loop in
-    let a = c .before .before .before .before .before .before .args in
+    let a = entry (c .before .before .before .before) .args in
     (omega arith, l .inv .1 ∙ same-hit (a .a .now) (a .b .now) (l .i) (omega arith) (omega (arith, c .before .before .before .before .before .if1 .left)) (c .if2 .left))
 
 returns-3 : tie.Need-returns-3 Inv-loop μ-loop

@@ -16,35 +16,39 @@ Inv-loop old count sets i₀ i = (i ≤ count) × (sameSets (take count sets) ol
 abbrev μ-loop : tie.MeasureT-loop
 μ-loop old count sets i₀ i = count - i
 
+-- The function's entry, from the head of the loop.
+abbrev entry : tie.At-loop Inv-loop μ-loop → tie.Start Inv-loop μ-loop
+entry c = c .before .before .before
+
 returns : tie.Need-returns Inv-loop μ-loop
 returns c = let s = c .before in let e : length (s .args .list .sets) ≡ limits .nogoods = search needs in differs-count (s .args .list .sets) _ (s .args .list .count) (omega (arith, s .pre)) (c .if1 .taken)
 
 mul-if2 : tie.Need-mul-if2 Inv-loop μ-loop
-mul-if2 c = omega (arith, c .before .before .before .before .pre, c .loop-test .taken)
+mul-if2 c = omega (arith, entry (c .before) .pre, c .loop-test .taken)
 
 array-read-if2 : tie.Need-array-read-if2 Inv-loop μ-loop
-array-read-if2 c = let s = c .before .before .before .before in let e : length (s .args .list .sets) ≡ limits .nogoods = search needs in omega (arith, s .pre, c .loop-test .taken)
+array-read-if2 c = let s = entry (c .before) in let e : length (s .args .list .sets) ≡ limits .nogoods = search needs in omega (arith, s .pre, c .loop-test .taken)
 
 mul-if2-2 : tie.Need-mul-if2-2 Inv-loop μ-loop
-mul-if2-2 c = omega (arith, c .before .before .before .before .pre, c .loop-test .taken)
+mul-if2-2 c = omega (arith, entry (c .before) .pre, c .loop-test .taken)
 
 shared-slice-read-if2 : tie.Need-shared-slice-read-if2 Inv-loop μ-loop
 shared-slice-read-if2 c = omega (arith, c .before .before .before .before .if1 .left, c .before .loop-test .taken)
 
 returns-2 : tie.Need-returns-2 Inv-loop μ-loop
-returns-2 c = let s = c .before .before .before .before .before .before in let e : length (s .args .list .sets) ≡ limits .nogoods = search needs in differs-here (s .args .list .sets) _ (s .args .list .count) (omega (arith, s .pre)) (c .before .before .before .before .before .if1 .left) (c .before .before .before .loop .i) (c .before .before .before .loop .inv .1) (c .before .before .loop-test .taken) (c .if2 .taken)
+returns-2 c = let s = entry (c .before .before .before) in let e : length (s .args .list .sets) ≡ limits .nogoods = search needs in differs-here (s .args .list .sets) _ (s .args .list .count) (omega (arith, s .pre)) (c .before .before .before .before .before .if1 .left) (c .before .before .before .loop .i) (c .before .before .before .loop .inv .1) (c .before .before .loop-test .taken) (c .if2 .taken)
 
 add-i : tie.Need-add-i Inv-loop μ-loop
-add-i c = omega (arith, c .before .before .before .before .before .before .pre, c .before .before .loop-test .taken)
+add-i c = omega (arith, entry (c .before .before .before) .pre, c .before .before .loop-test .taken)
 
 loop-less : tie.Need-loop-less Inv-loop μ-loop
 loop-less c = omega (arith, c .before .before .loop-test .taken)
 
 loop-again : tie.Need-loop-again Inv-loop μ-loop
-loop-again c = let s = c .before .before .before .before .before .before in let e : length (s .args .list .sets) ≡ limits .nogoods = search needs in (omega (arith, c .before .before .loop-test .taken), differs-on (s .args .list .sets) _ (s .args .list .count) (omega (arith, s .pre)) (c .before .before .before .before .before .if1 .left) (c .before .before .before .loop .i) (c .before .before .before .loop .inv .1) (c .before .before .loop-test .taken) (c .if2 .left))
+loop-again c = let s = entry (c .before .before .before) in let e : length (s .args .list .sets) ≡ limits .nogoods = search needs in (omega (arith, c .before .before .loop-test .taken), differs-on (s .args .list .sets) _ (s .args .list .count) (omega (arith, s .pre)) (c .before .before .before .before .before .if1 .left) (c .before .before .before .loop .i) (c .before .before .before .loop .inv .1) (c .before .before .loop-test .taken) (c .if2 .left))
 
 returns-3 : tie.Need-returns-3 Inv-loop μ-loop
-returns-3 c = let s = c .before .before .before .before in let e : length (s .args .list .sets) ≡ limits .nogoods = search needs in differs-none (s .args .list .sets) _ (s .args .list .count) (omega (arith, s .pre)) (c .before .before .before .if1 .left) (c .before .loop .i) (c .before .loop .inv .1) (c .loop-test .left)
+returns-3 c = let s = entry (c .before) in let e : length (s .args .list .sets) ≡ limits .nogoods = search needs in differs-none (s .args .list .sets) _ (s .args .list .count) (omega (arith, s .pre)) (c .before .before .before .if1 .left) (c .before .loop .i) (c .before .loop .inv .1) (c .loop-test .left)
 
 pub differs-spec : {M : Type 1} → statement M
 differs-spec =

@@ -40,9 +40,13 @@ struck c = c .before .before
 abbrev lent : tie.After-relabel-arg4 → tie.After-struck2
 lent c = c .before .before .before
 
+-- After `relabel`, from after `marks`.
+abbrev after-relabel : tie.After-marks → tie.After-relabel
+after-relabel c = c .before .before .before .before .before
+
 -- What `relabel` gave, from where all that it took is back.
 abbrev back : tie.After-slice-known6 → tie.After-relabel
-back c = c .before .before .before .before .before .before
+back c = after-relabel (c .before)
 
 touched-requires : tie.Need-touched-requires
 touched-requires c κs = (entry c .pre .0 .judgeable, entry c .pre .2 .long)

@@ -27,9 +27,21 @@ Inv-loop held rules moved news depth members sizes olds struck later₀ counts�
 abbrev μ-loop : tie.MeasureT-loop
 μ-loop held rules moved news depth members sizes olds struck later₀ counts₀ marks₀ tallies stale hi₀ i₀ later counts marks hi i = held .assumptions + held .claims - i
 
+-- The function's entry, from after `slice-known2`.
+abbrev entry-from-slice-known2 : tie.After-slice-known2 Inv-loop μ-loop → tie.Start Inv-loop μ-loop
+entry-from-slice-known2 c = c .before .before .before .before .before
+
+-- After `put2`, from after `marks2`.
+abbrev after-put2 : tie.After-marks2 Inv-loop μ-loop → tie.After-put2 Inv-loop μ-loop
+after-put2 c = c .before .before .before .before .before
+
+-- After `put`, from after `marks`.
+abbrev after-put : tie.After-marks Inv-loop μ-loop → tie.After-put Inv-loop μ-loop
+after-put c = c .before .before .before .before .before
+
 -- The function's entry, from where the loop begins.
 abbrev entry : tie.After-slice-known3 Inv-loop μ-loop → tie.Start Inv-loop μ-loop
-entry c = c .before .before .before .before .before .before
+entry c = entry-from-slice-known2 (c .before)
 
 -- The loop's head, from where its test holds.
 abbrev head : tie.Then1 Inv-loop μ-loop → tie.At-loop Inv-loop μ-loop
@@ -61,7 +73,7 @@ put-before c = c .before .before .before .before
 
 -- Where the built label is put, from the end of its turn.
 abbrev put-back : tie.After-slice-known6 Inv-loop μ-loop → tie.After-put Inv-loop μ-loop
-put-back c = c .before .before .before .before .before .before
+put-back c = after-put (c .before)
 
 -- Where the label is struck, from where all that it is put into is lent.
 abbrev lent-struck : tie.After-put-arg6 Inv-loop μ-loop → tie.After-strike Inv-loop μ-loop
@@ -73,7 +85,7 @@ struck-before c = c .before .before .before .before
 
 -- Where the struck label is put, from the end of its turn.
 abbrev struck-back : tie.After-slice-known9 Inv-loop μ-loop → tie.After-put2 Inv-loop μ-loop
-struck-back c = c .before .before .before .before .before .before
+struck-back c = after-put2 (c .before)
 
 add-if1 : tie.Need-add-if1 Inv-loop μ-loop
 add-if1 c = omega (arith, wide _ (entry (c .before .before) .pre .0 .2 .judgeable))

@@ -8,21 +8,33 @@ use Rattle.store.proofs.Reading.{Readable, readable}
 use Rattle.stagetext.proofs.lines.Statement.{statement}
 use Rattle.stagetext.proofs.lines.Tie as tie
 
+-- The function's entry, from after `follow`.
+abbrev entry : tie.After-follow → tie.Start
+entry c = c .before .before
+
+-- After `follow`, from where test 1 failed.
+abbrev after-follow : tie.Else1 → tie.After-follow
+after-follow c = c .before .before
+
+-- Where test 1 failed, from after `put`.
+abbrev no1 : tie.After-put → tie.Else1
+no1 c = c .before .before .before .before .before
+
 -- what is known after the refusals
-known : (c : tie.Else1) → Readable (c .before .before .before .before .args .store) 0 (c .before .before .before .before .args .e)
-known c = readable (c .before .before .before .before .args .store) 0 (c .before .before .before .before .args .e) _ (followed-reply (c .before .before .before .before .args .store) 0 (c .before .before .before .before .args .e) _ (c .before .before .follow .ensures)) (sym (c .before .number .ensures) ∙ c .if1 .left)
+known : (c : tie.Else1) → Readable (entry (after-follow c) .args .store) 0 (entry (after-follow c) .args .e)
+known c = readable (entry (after-follow c) .args .store) 0 (entry (after-follow c) .args .e) _ (followed-reply (entry (after-follow c) .args .store) 0 (entry (after-follow c) .args .e) _ (c .before .before .follow .ensures)) (sym (c .before .number .ensures) ∙ c .if1 .left)
 
 returns : tie.Need-returns
-returns c = let a = c .before .before .before .before .args in lines-refused (a .store) (a .e) (a .out .now) _ (followed-reply (a .store) 0 (a .e) _ (c .before .before .follow .ensures)) (λ z. c .if1 .taken (c .before .number .ensures ∙ z))
+returns c = let a = entry (c .before .before) .args in lines-refused (a .store) (a .e) (a .out .now) _ (followed-reply (a .store) 0 (a .e) _ (c .before .before .follow .ensures)) (λ z. c .if1 .taken (c .before .number .ensures ∙ z))
 
 add-put : tie.Need-add-put
 add-put c = let f = known (c .before .before .before) .fit in omega (arith, f .few, f .claims)
 
 returns-2 : tie.Need-returns-2
 returns-2 c =
-    let a = c .before .before .before .before .before .before .before .before .before .before .before .args in
-    let f = c .before .before .before .before .before .before .before .before .before .follow in
-    lines-put (a .store) (a .e) (a .out .now) (known (c .before .before .before .before .before .before .before)) (f .result .marks) (followed-marks (a .store) 0 (a .e) (f .result) (f .ensures) (sym (c .before .before .before .before .before .before .before .before .number .ensures) ∙ c .before .before .before .before .before .before .before .if1 .left)) _ _ (c .before .before .put .ensures)
+    let a = entry (after-follow (no1 (c .before .before))) .args in
+    let f = after-follow (no1 (c .before .before)) .follow in
+    lines-put (a .store) (a .e) (a .out .now) (known (no1 (c .before .before))) (f .result .marks) (followed-marks (a .store) 0 (a .e) (f .result) (f .ensures) (sym (no1 (c .before .before) .before .number .ensures) ∙ (no1 (c .before .before)) .if1 .left)) _ _ (c .before .before .put .ensures)
 
 pub lines-spec : {M : Type 1} → statement M
 lines-spec =

@@ -8,6 +8,10 @@ use borrow.Author.Needs.{needs}
 use Rattle.stagetext.proofs.part.Statement.{statement}
 use Rattle.stagetext.proofs.part.Tie as tie
 
+-- The function's entry, from where test 1 failed.
+abbrev entry : tie.Else1 → tie.Start
+entry c = c .before .before
+
 returns : tie.Need-returns
 returns c =
     let a = c .before .before .args in
@@ -22,9 +26,9 @@ field-requires c κs =
 
 returns-2 : tie.Need-returns-2
 returns-2 c =
-    let a = c .before .before .before .before .before .before .args in
+    let a = entry (c .before .before .before .before) .args in
     let e : length (a .t1) ≡ 129 = search needs in
-    put-as (part-some (a .t1) (a .k) (a .n) e (c .before .before .before .before .before .before .pre .0) (c .before .before .before .before .if1 .left)) (c .before .before .field .ensures)
+    put-as (part-some (a .t1) (a .k) (a .n) e (entry (c .before .before .before .before) .pre .0) (c .before .before .before .before .if1 .left)) (c .before .before .field .ensures)
 
 pub part-spec : {M : Type 1} → statement M
 part-spec = tie.close (tie.spec (λ c. search needs) returns field-requires (λ c. search needs) returns-2)

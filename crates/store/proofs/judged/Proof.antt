@@ -12,6 +12,14 @@ use Rattle.store.specs.Shape.{heldFits}
 use Rattle.store.proofs.judged.Statement.{statement}
 use Rattle.store.proofs.judged.Tie as tie
 
+-- The function's entry, from where test 2 held.
+abbrev entry : tie.Then2 → tie.Start
+entry c = c .before .before .before .before .before
+
+-- The function's entry, from where test 2 failed.
+abbrev entry-from-no2 : tie.Else2 → tie.Start
+entry-from-no2 c = c .before .before .before .before .before
+
 fits : (c : tie.Else1) → heldFits (c .before .before .args .held) ≡ true
 fits c = sym (c .before .held-fits .ensures) ∙ not-false _ (c .if1 .left)
 
@@ -23,13 +31,13 @@ judge-requires c κs = let f = fits-elim (c .before .before .args .held) (fits c
 
 returns-2 : tie.Need-returns-2
 returns-2 c =
-    let h = c .before .before .before .before .before .before .args .held in
+    let h = entry (c .before) .args .held in
     let told = c .before .before .before .judge in
     ap (answer (told .result .reply)) (c .start2 .ensures) ∙ judged-refused h (fits (c .before .before .before .before)) (told .result) (told .ensures) (λ z. c .before .if2 .taken (c .before .before .number .ensures ∙ z))
 
 returns-3 : tie.Need-returns-3
 returns-3 c =
-    let h = c .before .before .before .before .before .before .args .held in
+    let h = entry-from-no2 (c .before) .args .held in
     let told = c .before .before .before .judge in
     judged-done h (fits (c .before .before .before .before)) (told .result) (told .ensures) (sym (c .before .before .number .ensures) ∙ c .before .if2 .left)
 

@@ -75,20 +75,20 @@ number-slice-write-out-2 : (t : ℕ) → number-lts.Need-slice-write-out-2 (
   number-below t,
   number.Post,
 ) (number-at t) number.Post
-number-slice-write-out-2 t c = omega (arith, (left-then _ _ (more t (c .before .before .before .before .before .before) (c .before .before .before .before .if1 .left)) (c .before .before .number .ensures)) .room)
+number-slice-write-out-2 t c = let i = c .before .before .before .before in omega (arith, (left-then _ _ (more t (i .before .before) (i .if1 .left)) (c .before .before .number .ensures)) .room)
 
 number-add-result-2 :
     (t : ℕ) → number-lts.Need-add-result-2 (number-below t, number.Post) (number-at t) number.Post
-number-add-result-2 t c = omega (arith, (left-then _ _ (more t (c .before .before .before .before .before .before) (c .before .before .before .before .if1 .left)) (c .before .before .number .ensures)) .room, c .before .before .number .kept)
+number-add-result-2 t c = let i = c .before .before .before .before in omega (arith, (left-then _ _ (more t (i .before .before) (i .if1 .left)) (c .before .before .number .ensures)) .room, c .before .before .number .kept)
 
 number-same-length-2 :
     (t : ℕ) →
     number-lts.Need-same-length-2 (number-below t, number.Post) (number-at t) number.Post
-number-same-length-2 t c = left-byte _ [] (left-then _ _ (more t (c .before .before .before .before .before .before) (c .before .before .before .before .if1 .left)) (c .before .before .number .ensures)) .same
+number-same-length-2 t c = let i = c .before .before .before .before in left-byte _ [] (left-then _ _ (more t (i .before .before) (i .if1 .left)) (c .before .before .number .ensures)) .same
 
 number-returns-2 :
     (t : ℕ) → number-lts.Need-returns-2 (number-below t, number.Post) (number-at t) number.Post
-number-returns-2 t c = left-none (left-byte _ [] (left-then _ _ (more t (c .before .before .before .before .before .before) (c .before .before .before .before .if1 .left)) (c .before .before .number .ensures)))
+number-returns-2 t c = let i = c .before .before .before .before in left-none (left-byte _ [] (left-then _ _ (more t (i .before .before) (i .if1 .left)) (c .before .before .number .ensures)))
 
 pub +number-spec : {M : Type 1} → statement M
 +number-spec =

@@ -13,6 +13,10 @@ use borrow.Author.Needs.{needs}
 use Rattle.text.proofs.entry.Statement.{statement}
 use Rattle.text.proofs.entry.Tie as tie
 
+-- The function's entry, from where test 2 held.
+abbrev entry : tie.Then2 → tie.Start
+entry c = c .before .before .before .before
+
 absent : (c : tie.Then1) → among (c .before .before .before .args .e) (c .before .before .before .args .k) ≡ false
 absent c = sym (c .before .has .ensures) ∙ not-true _ (c .if1 .taken)
 
@@ -24,8 +28,8 @@ first : (c : tie.Else2) → let s = c .before .before .before .before in Left (d
 first c = let s = c .before .before .before .before in left-as (entered-first _ _ _ (present (c .before)) (le-ltb _ _ (c .if2 .left))) (s .pre .2)
 
 -- a later one
-comma : (c : tie.Then2) → let s = c .before .before .before .before in Left (44 ∷ digits (s .args .k)) (s .args .at) (s .args .out .now) (entered (s .args .e) (s .args .k) (ltb (s .args .from) (s .args .at))) (s .args .at) (s .args .out .now)
-comma c = let s = c .before .before .before .before in left-as (entered-later _ _ _ (present (c .before)) (lt-ltb _ _ (c .if2 .taken))) (s .pre .2)
+comma : (c : tie.Then2) → let s = entry c in Left (44 ∷ digits (s .args .k)) (s .args .at) (s .args .out .now) (entered (s .args .e) (s .args .k) (ltb (s .args .from) (s .args .at))) (s .args .at) (s .args .out .now)
+comma c = let s = entry c in left-as (entered-later _ _ _ (present (c .before)) (lt-ltb _ _ (c .if2 .taken))) (s .pre .2)
 
 returns : tie.Need-returns
 returns c = left-none (left-as (entered-none _ _ _ (absent (c))) (c .before .before .before .pre .2))
@@ -40,7 +44,7 @@ returns-2 : tie.Need-returns-2
 returns-2 c = left-byte _ _ (comma (c .before .before .before .before)) .done _ _ (c .before .before .number .ensures)
 
 same-length : tie.Need-same-length
-same-length c = put-length (c .before .before .before .before .before .before .before .before .pre .2) (returns-2 c)
+same-length c = put-length (entry (c .before .before .before .before) .pre .2) (returns-2 c)
 
 number-requires-2 : tie.Need-number-requires-2
 number-requires-2 c κs = first (c .before) .room

@@ -12,6 +12,18 @@ use borrow.Author.Needs.{needs}
 use Rattle.writing.proofs.write.Statement.{statement}
 use Rattle.writing.proofs.write.Tie as tie
 
+-- The function's entry, from where test 1 failed.
+abbrev entry : tie.Else1 → tie.Start
+entry c = c .before .before .before
+
+-- Where test 1 failed, from after `put-held`.
+abbrev no1 : tie.After-put-held → tie.Else1
+no1 c = c .before .before .before
+
+-- After `put-held`, from after `out`.
+abbrev after-put-held : tie.After-out → tie.After-put-held
+after-put-held c = c .before .before .before .before .before
+
 right : (c : tie.Else1) → rightShape (c .before .before .before .args .store) ≡ true
 right c = sym (c .before .shape .ensures) ∙ not-false _ (c .if1 .left)
 
@@ -20,8 +32,8 @@ returns c = write-shape (c .before .before .before .args .store) _ (sym (c .befo
 
 put-held-requires : tie.Need-put-held-requires
 put-held-requires c κs =
-    let h = c .before .before .before .before .before .args .store .held in
-    let f = shape-fits (c .before .before .before .before .before .args .store) (right (c .before .before)) in
+    let h = entry (c .before .before) .args .store .held in
+    let f = shape-fits (entry (c .before .before) .args .store) (right (c .before .before)) in
     (f, blank-room 1796 (fileOf h) (file-length h f))
 
 array-share-prefix-text : tie.Need-array-share-prefix-text
@@ -31,7 +43,7 @@ slice-aggregate-fit : tie.Need-slice-aggregate-fit
 slice-aggregate-fit c = sym (length-take-le _ _ (front-room (c .before .before .put-held .ensures)))
 
 returns-2 : tie.Need-returns-2
-returns-2 c = write-rest (c .before .before .before .before .before .before .before .before .before .before .before .before .args .store) _ (right (c .before .before .before .before .before .before .before .before .before)) (front-taken (c .before .before .before .before .before .before .put-held .ensures)) (c .before .before .fit .ensures)
+returns-2 c = write-rest (entry (no1 (after-put-held (c .before))) .args .store) _ (right (no1 (after-put-held (c .before)))) (front-taken (after-put-held (c .before) .put-held .ensures)) (c .before .before .fit .ensures)
 
 pub write-spec : {M : Type 1} → statement M
 write-spec =

@@ -14,6 +14,14 @@ use Rattle.door.proofs.texts.door_refusal.Tie as tie
 use Rattle.door.proofs.texts.door_refusal.Reads as reads
 use Rattle.door.proofs.texts.door_refusal.Lts as lts
 
+-- The function's entry, from after `refused`.
+abbrev entry : tie.After-refused → tie.Start
+entry c = c .before .before .before
+
+-- After `refused`, from after `out`.
+abbrev after-refused : tie.After-out → tie.After-refused
+after-refused c = c .before .before .before .before .before
+
 refused-requires : tie.Need-refused-requires
 refused-requires c κs = let s = c .before .before in blank-room 30 (refusal (s .args .number) (s .args .«record»)) (refusal-most (s .args .number) (s .args .«record») (s .fits .number .fits) (s .fits .«record» .fits))
 
@@ -25,8 +33,8 @@ slice-aggregate-fit c = sym (length-take-le _ _ (front-room (c .before .before .
 
 returns : tie.Need-returns
 returns c =
-    let s = c .before .before .before .before .before .before .before .before .before .before in
-    let said = c .before .before .before .fit .ensures ∙ ap (λ (t : List ℕ). fitted t (s .args .out .now)) (front-taken (c .before .before .before .before .before .before .before .refused .ensures)) in
+    let s = entry (after-refused (c .before .before)) in
+    let said = c .before .before .before .fit .ensures ∙ ap (λ (t : List ℕ). fitted t (s .args .out .now)) (front-taken (after-refused (c .before .before) .refused .ensures)) in
     (c .written .ensures ∙ ap (λ (w : Wrote). wroteBy (w .answer)) said, ap (λ (w : Wrote). w .bytes) said)
 
 pub door-refusal-spec : {M : Type 1} → statement M

@@ -16,6 +16,10 @@ Inv-loop pool₀ count e carried₀ i₀ pool carried i = (i ≤ count) × (leng
 abbrev μ-loop : tie.MeasureT-loop
 μ-loop pool₀ count e carried₀ i₀ pool carried i = count - i
 
+-- The function's entry, from the head of the loop.
+abbrev entry : tie.At-loop Inv-loop μ-loop → tie.Start Inv-loop μ-loop
+entry c = c .before .before .before
+
 sub-before : tie.Need-sub-before Inv-loop μ-loop
 sub-before c = omega (arith, c .if1 .taken)
 
@@ -29,10 +33,10 @@ loop-holds : tie.Need-loop-holds Inv-loop μ-loop
 loop-holds c = let s = c .before .before in (omega arith, refl, ap (placed (s .args .e)) (rest-all (s .args .pool .now) (s .args .count)))
 
 slice-read-x : tie.Need-slice-read-x Inv-loop μ-loop
-slice-read-x c = omega (arith, c .before .before .before .before .before .pre .0, c .before .loop-test .taken, c .before .before .loop .inv .1)
+slice-read-x c = omega (arith, entry (c .before .before) .pre .0, c .before .loop-test .taken, c .before .before .loop .inv .1)
 
 slice-write-pool : tie.Need-slice-write-pool Inv-loop μ-loop
-slice-write-pool c = omega (arith, c .before .before .before .before .before .before .pre .0, c .before .before .loop-test .taken, c .before .before .before .loop .inv .1)
+slice-write-pool c = omega (arith, entry (c .before .before .before) .pre .0, c .before .before .loop-test .taken, c .before .before .before .loop .inv .1)
 
 add-i : tie.Need-add-i Inv-loop μ-loop
 add-i c = omega (arith, c .before .before .before .loop-test .taken)
@@ -42,7 +46,7 @@ loop-less c = omega (arith, c .before .before .before .loop-test .taken)
 
 loop-again : tie.Need-loop-again Inv-loop μ-loop
 loop-again c =
-    let s = c .before .before .before .before .before .before .before in
+    let s = entry (c .before .before .before .before) in
     let l = c .before .before .before .before .loop in
     (omega (arith, c .before .before .before .loop-test .taken), length-set (l .pool) (l .i) _ ∙ l .inv .1, squeeze-turn _ (l .pool) (s .args .count) (l .carried) (l .i) (omega (arith, s .pre .0, l .inv .1)) (l .inv .2) (c .before .before .before .loop-test .taken) _ (c .before .sooner .ensures) _ (c .later .ensures))
 
@@ -51,7 +55,7 @@ same-length c = c .before .loop .inv .1
 
 returns-2 : tie.Need-returns-2 Inv-loop μ-loop
 returns-2 c =
-    let s = c .before .before .before .before in
+    let s = entry (c .before) in
     let l = c .before .loop in
     squeeze-end _ (l .pool) (s .args .count) (l .carried) (l .i) (omega (arith, s .pre .0, l .inv .1)) (l .inv .2) (l .inv .0) (c .loop-test .left)
 

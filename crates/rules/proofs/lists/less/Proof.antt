@@ -15,6 +15,10 @@ Inv-loop a b i₀ i = (i ≤ length a) × (lesser a b ≡ lesser (drop i a) (dro
 abbrev μ-loop : tie.MeasureT-loop
 μ-loop a b i₀ i = length a - i
 
+-- The head of the loop, from where test 1 failed.
+abbrev head : tie.Else1 Inv-loop μ-loop → tie.At-loop Inv-loop μ-loop
+head c = c .before .before .before .before
+
 shared-slice-read-if1-2 : tie.Need-shared-slice-read-if1-2 Inv-loop μ-loop
 shared-slice-read-if1-2 c = omega (arith, c .before .before .before .before .pre)
 
@@ -22,13 +26,13 @@ returns : tie.Need-returns Inv-loop μ-loop
 returns c = let l = c .before .before .before .before .loop in let a = c .before .before .before .before .before .args in sym (l .inv .1 ∙ less-yes (a .a .now) (a .b .now) (l .i) (omega arith) (omega (arith, c .before .before .before .before .before .pre)) (c .if1 .taken))
 
 shared-slice-read-if2-2 : tie.Need-shared-slice-read-if2-2 Inv-loop μ-loop
-shared-slice-read-if2-2 c = omega (arith, c .before .before .before .before .before .before .before .pre)
+shared-slice-read-if2-2 c = omega (arith, head (c .before .before) .before .pre)
 
 returns-2 : tie.Need-returns-2 Inv-loop μ-loop
-returns-2 c = let l = c .before .before .before .before .before .before .before .loop in let a = c .before .before .before .before .before .before .before .before .args in sym (l .inv .1 ∙ less-no (a .a .now) (a .b .now) (l .i) (omega arith) (omega (arith, c .before .before .before .before .before .before .before .before .pre)) (c .if2 .taken))
+returns-2 c = let l = head (c .before .before .before) .loop in let a = head (c .before .before .before) .before .args in sym (l .inv .1 ∙ less-no (a .a .now) (a .b .now) (l .i) (omega arith) (omega (arith, head (c .before .before .before) .before .pre)) (c .if2 .taken))
 
 loop-again : tie.Need-loop-again Inv-loop μ-loop
-loop-again c = let l = c .before .before .before .before .before .before .before .loop in let a = c .before .before .before .before .before .before .before .before .args in (omega arith, l .inv .1 ∙ less-more (a .a .now) (a .b .now) (l .i) (omega arith) (omega (arith, c .before .before .before .before .before .before .before .before .pre)) (c .before .before .before .if1 .left) (c .if2 .left))
+loop-again c = let l = head (c .before .before .before) .loop in let a = head (c .before .before .before) .before .args in (omega arith, l .inv .1 ∙ less-more (a .a .now) (a .b .now) (l .i) (omega arith) (omega (arith, head (c .before .before .before) .before .pre)) (c .before .before .before .if1 .left) (c .if2 .left))
 
 returns-3 : tie.Need-returns-3 Inv-loop μ-loop
 returns-3 c = let l = c .before .loop in let a = c .before .before .args in sym (l .inv .1 ∙ less-end (a .a .now) (a .b .now) (l .i) (omega (arith, c .before .before .pre)))

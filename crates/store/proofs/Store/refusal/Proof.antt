@@ -10,6 +10,10 @@ use Rattle.store.specs.Shape.{rightShape}
 use Rattle.store.proofs.Store.refusal.Statement.{statement}
 use Rattle.store.proofs.Store.refusal.Tie as tie
 
+-- The function's entry, from where test 2 failed.
+abbrev entry : tie.Else2 → tie.Start
+entry c = c .before .before .before .before .before
+
 right : (c : tie.Else1) → rightShape (c .before .before .args .self) ≡ true
 right c = sym (c .before .shape .ensures) ∙ not-false _ (c .if1 .left)
 
@@ -29,10 +33,10 @@ low-requires : tie.Need-low-requires
 low-requires c κs = bounds (c .before .before .before) .few
 
 returns-3 : tie.Need-returns-3
-returns-3 c = let a = c .before .before .before .before .before .before .before .args in refusal-set (a .self) (a .n) (a .e) (right (c .before .before .before .before .before)) (c .before .before .if2 .left) (sym (c .before .low .ensures) ∙ not-true _ (c .if3 .taken))
+returns-3 c = let a = entry (c .before .before) .args in refusal-set (a .self) (a .n) (a .e) (right (c .before .before .before .before .before)) (c .before .before .if2 .left) (sym (c .before .low .ensures) ∙ not-true _ (c .if3 .taken))
 
 returns-4 : tie.Need-returns-4
-returns-4 c = let a = c .before .before .before .before .before .before .before .args in refusal-none (a .self) (a .n) (a .e) (right (c .before .before .before .before .before)) (c .before .before .if2 .left) (sym (c .before .low .ensures) ∙ not-false _ (c .if3 .left))
+returns-4 c = let a = entry (c .before .before) .args in refusal-none (a .self) (a .n) (a .e) (right (c .before .before .before .before .before)) (c .before .before .if2 .left) (sym (c .before .low .ensures) ∙ not-false _ (c .if3 .left))
 
 pub refusal-spec : {M : Type 1} → statement M
 refusal-spec = tie.close (tie.spec (λ c κs. search needs) returns add-top (λ c. search needs) returns-2 low-requires returns-3 returns-4)

@@ -9,6 +9,10 @@ use Rattle.store.specs.Shape.{heldFits}
 use Rattle.store.proofs.Store.shape.Statement.{statement}
 use Rattle.store.proofs.Store.shape.Tie as tie
 
+-- The function's entry, from where test 1 failed.
+abbrev entry : tie.Else1 → tie.Start
+entry c = c .before .before .before
+
 fits : (c : tie.Else1) → heldFits (c .before .before .before .args .self .held) ≡ true
 fits c = sym (c .before .held-fits .ensures) ∙ not-false _ (c .if1 .left)
 
@@ -25,7 +29,7 @@ right-requires : tie.Need-right-requires
 right-requires c κs = (bounds (c .before .before) .few, omega (arith, bounds (c .before .before) .few, bounds (c .before .before) .claims))
 
 returns-2 : tie.Need-returns-2
-returns-2 c = shape-lists (c .before .before .before .before .before .before .args .self) (fits (c .before .before .before)) _ (c .right .ensures)
+returns-2 c = shape-lists (entry (c .before .before .before) .args .self) (fits (c .before .before .before)) _ (c .right .ensures)
 
 pub shape-spec : {M : Type 1} → statement M
 shape-spec = tie.close (tie.spec (λ c κs. search needs) returns add-right right-requires returns-2)
