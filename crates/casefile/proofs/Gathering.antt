@@ -9,9 +9,10 @@ use lib.ListN.{length}
 use Rattle.casefile.specs.Case.{gathered, joined}
 use Rattle.items.proofs.Taken.{Faultless}
 use Rattle.items.specs.Items.{Item}
-use Rattle.rules.proofs.Laws.{canonical-fits, faultless-ranged, held-said, nothing-right, put-right, right-held, right-range}
+use Rattle.rules.proofs.Laws.{canonical-fits, faultless-ranged, held-said, nothing-right, right-held, right-range}
+use Rattle.holding.proofs.Laws.{put-right}
 use Rattle.rules.proofs.Order.{same-mem}
-use Rattle.rules.proofs.Putting.{put-cases, put-length, put-new, put-old}
+use Rattle.holding.proofs.Putting.{put-cases, put-length, put-new, put-old}
 use Rattle.rules.specs.Held.{entryOf, fitting, heldOf, heldRight, meaning, put, saidBy}
 use Rattle.rules.specs.Items.{justificationOf, sameJustification}
 use Rattle.rules.specs.declared.Held.{Held}

@@ -33,10 +33,10 @@ fn with(held: Held, entry: Entry) -> Held
     requires { ⌜ (heldRight held ≡ true) × (held .count < limits .held) × (fitting (top held) entry ≡ true) ⌝ }
     ensures { λ r. ⌜ r ≡ heldOf (held .assumptions) (held .claims) (joined (meaning entry) (saidBy held)) ⌝ }
 {
-    if held.holds(entry) {
+    if holding::holds(held, entry) {
         return held;
     }
-    held.insert(entry)
+    holding::insert(held, entry)
 }
 
 // Nothing held, for this fault in this record.

@@ -26,7 +26,7 @@ pub fn more(held: Held, consequent: u32, supports: &[u32]) -> Changed
         return Changed { reply, held };
     }
     let entry = rules::canonical(top, consequent, supports);
-    if held.holds(entry) {
+    if holding::holds(held, entry) {
         return Changed {
             reply: Reply::Already,
             held,
@@ -40,7 +40,7 @@ pub fn more(held: Held, consequent: u32, supports: &[u32]) -> Changed
     }
     Changed {
         reply: Reply::Done,
-        held: held.insert(entry),
+        held: holding::insert(held, entry),
     }
 }
 
@@ -55,7 +55,7 @@ pub fn less(held: Held, consequent: u32, supports: &[u32]) -> Changed
         return Changed { reply, held };
     }
     let entry = rules::canonical(top, consequent, supports);
-    if !held.holds(entry) {
+    if !holding::holds(held, entry) {
         return Changed {
             reply: Reply::Unheld,
             held,
@@ -63,6 +63,6 @@ pub fn less(held: Held, consequent: u32, supports: &[u32]) -> Changed
     }
     Changed {
         reply: Reply::Done,
-        held: held.remove(entry),
+        held: holding::remove(held, entry),
     }
 }

@@ -25,10 +25,10 @@ use Rattle.replies.proofs.Laws.{zero-done}
 use Rattle.replies.specs.Replies.{numberOf}
 use Rattle.replies.specs.declared.Reply.{Reply}
 use Rattle.replies.specs.declared.Reply.the-variants.{Already, Counts, Done, Full, Shape, Short, Unheld}
-use Rattle.rules.proofs.Dropping.{dropped-few, dropped-from}
+use Rattle.holding.proofs.Dropping.{dropped-few, dropped-from}
 use Rattle.rules.proofs.Entries.{said-many}
 use Rattle.rules.proofs.Laws.{Ranged, faultless-ranged, held-said, right-range}
-use Rattle.rules.proofs.Putting.{put-length}
+use Rattle.holding.proofs.Putting.{put-length}
 use Rattle.rules.proofs.Scan.{right-elim}
 use Rattle.rules.specs.Held.{dropped, heldOf, ordered, put, saidBy}
 use Rattle.rules.specs.Items.{faultOf, justificationOf, sameJustification}

@@ -4,9 +4,9 @@ use mathlib.Core.List.{List, List·Memᴰ as Mem, [], _∷_, List·Memᴰ·head 
 use mathlib.Core.Logic.{_⊎_, inr, ⊎-elim}
 use mathlib.Core.Path.{_∙_, _≡_, ap, refl, subst, sym}
 use Rattle.promises.specs.Made.{SameMembers, inOrder}
-use Rattle.rules.proofs.Dropping.{dropped-members, dropped-ordered}
-use Rattle.rules.proofs.Order.{ordered-unique, put-ordered, same-mem}
-use Rattle.rules.proofs.Putting.{put-cases, put-new, put-old}
+use Rattle.holding.proofs.Dropping.{dropped-members, dropped-ordered}
+use Rattle.rules.proofs.Order.{ordered-unique, same-mem}
+use Rattle.holding.proofs.Putting.{put-ordered, put-cases, put-new, put-old}
 use Rattle.rules.specs.Held.{dropped, ordered, put}
 use Rattle.rules.specs.Items.{sameJustification}
 use Rattle.theory.specs.Lists.{choose, someOf}

@@ -16,7 +16,7 @@ use Rattle.promises.specs.Calls.{Calls, ours}
 use Rattle.promises.specs.Demand3.{Demand3, Reordered, Same, further, swapped, unmoved}
 use Rattle.promises.specs.Made.{Made, SameMembers, added, inOrder, listed, loaded, putIn, withdrawn}
 use Rattle.replies.specs.declared.Reply.the-variants.{Already, Done}
-use Rattle.rules.proofs.Dropping.{dropped-cases, dropped-from, dropped-gone, dropped-keeps}
+use Rattle.holding.proofs.Dropping.{dropped-cases, dropped-from, dropped-gone, dropped-keeps}
 use Rattle.rules.proofs.Order.{mem-same}
 use Rattle.rules.specs.Held.{dropped, saidBy}
 use Rattle.rules.specs.Items.{faultOf, justificationOf, sameJustification}

@@ -24,7 +24,7 @@ use Rattle.promises.specs.Standing.{AsTheyStand, Stands, asRead}
 use Rattle.promises.specs.Table.{ShapedRows, enlarged, handed, lessened}
 use Rattle.replies.specs.declared.Reply.{Reply}
 use Rattle.replies.specs.declared.Reply.the-variants.{Done}
-use Rattle.rules.proofs.Dropping.{dropped-ordered}
+use Rattle.holding.proofs.Dropping.{dropped-ordered}
 use Rattle.rules.proofs.Scan.{right-elim}
 use Rattle.rules.specs.Held.{saidBy}
 use Rattle.stagetext.specs.Stagetext.{stageText, stagesOf}

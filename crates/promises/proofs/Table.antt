@@ -39,10 +39,10 @@ use Rattle.replies.proofs.Laws.{no-ten}
 use Rattle.replies.specs.Replies.{numberOf}
 use Rattle.replies.specs.declared.Reply.{Reply}
 use Rattle.replies.specs.declared.Reply.the-variants.{Already, Counts, Done, Falsity, Full, Itself, Number, Place, Shape, Short, Supports, Unheld}
-use Rattle.rules.proofs.Dropping.{dropped-from}
+use Rattle.holding.proofs.Dropping.{dropped-from}
 use Rattle.rules.proofs.Laws.{Ranged, faultless-ranged, right-range}
 use Rattle.rules.proofs.Order.{mem-same, same-mem}
-use Rattle.rules.proofs.Putting.{put-cases, put-new, put-old}
+use Rattle.holding.proofs.Putting.{put-cases, put-new, put-old}
 use Rattle.rules.specs.Held.{dropped, heldOf, put, saidBy}
 use Rattle.rules.specs.Items.{faultOf, sameJustification}
 use Rattle.rules.specs.declared.Held.{Held}

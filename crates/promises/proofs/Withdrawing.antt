@@ -17,7 +17,7 @@ use Rattle.promises.specs.Room.{AllInRoom, StagesSay, WithdrawSays}
 use Rattle.promises.specs.Rows.{given}
 use Rattle.replies.specs.declared.Reply.{Reply}
 use Rattle.replies.specs.declared.Reply.the-variants.{Done, Falsity, Itself, Number, Supports, Unheld}
-use Rattle.rules.proofs.Dropping.{dropped-from}
+use Rattle.holding.proofs.Dropping.{dropped-from}
 use Rattle.rules.proofs.Laws.{Ranged}
 use Rattle.rules.proofs.Order.{mem-same, same-mem}
 use Rattle.rules.specs.Held.{dropped, heldOf}

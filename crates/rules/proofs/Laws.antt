@@ -10,24 +10,19 @@ use lib.Dec.{eqb, leb, ltb}
 use lib.ListN.{drop, getD, length, length-map, length-take, take}
 use borrow.Author.Tests.{eqb-true, le-leb, leb-true, lt-ltb, ltb-true}
 use Rattle.replies.specs.declared.Reply.the-variants.{Done}
-use Rattle.rules.proofs.Dropping.{dropped-few, dropped-from, dropped-ordered}
 use Rattle.rules.proofs.Entries.{Small, entry-at, entry-fits, fits-elim, length-padded, meaning-entry, padded-spare, places, reread, said-many, unpadded, vacant-unused}
 use Rattle.rules.proofs.Faults.{faultless}
-use Rattle.rules.proofs.Order.{put-ordered}
-use Rattle.rules.proofs.Putting.{put-cases, put-length}
 use Rattle.rules.proofs.Scan.{right-elim, right-intro}
 use Rattle.rules.proofs.Steps.{beyond}
 use Rattle.rules.proofs.Taking.{first-few}
-use Rattle.rules.specs.Held.{climbs, dropped, entryOf, fitting, heldOf, heldRight, meaning, ordered, put, saidBy, unusedEntry, vacant}
-use Rattle.rules.specs.Items.{faultOf, justificationOf, sameJustification, setOf}
-use Rattle.rules.specs.Placing.{withEntries}
+use Rattle.rules.specs.Held.{climbs, entryOf, fitting, heldOf, heldRight, meaning, ordered, saidBy, unusedEntry, vacant}
+use Rattle.rules.specs.Items.{faultOf, justificationOf, setOf}
 use Rattle.rules.specs.declared.Entry.{Entry}
 use Rattle.rules.specs.declared.Held.{Held}
 use Rattle.theory.proofs.Listing.{below-elim}
 use Rattle.theory.proofs.Lists.{all-elim, all-intro, and-intro, and-left, and-right, clash, not-so, some-elim, those-elim}
 use Rattle.theory.proofs.Order.{below-sorted, rising, sorted-head, sorted-tail, sorted-those}
 use Rattle.theory.proofs.Places.{is-table}
-use Rattle.theory.specs.Cases.{room}
 use Rattle.theory.specs.Lists.{allOf, numbersBelow, someOf, sortedBy, those}
 use Rattle.theory.specs.Places.{padded}
 use Rattle.theory.specs.Stages.{Justification}
@@ -36,7 +31,7 @@ use Rattle.theory.specs.Stages.{Justification}
 pub right-held : (h : Held) → heldRight h ≡ true → h ≡ heldOf (h .assumptions) (h .claims) (saidBy h)
 unfolding heldOf padded
 right-held h r =
-    ap₂ (λ (n : ℕ) (l : List Entry). withEntries h n l) (sym (said-many h r))
+    ap₂ (λ (n : ℕ) (l : List Entry). record { assumptions = h .assumptions; claims = h .claims; count = n; entries = l }) (sym (said-many h r))
     (is-table (h .entries) 256 (λ i. getD (map entryOf (saidBy h)) i vacant) beyond (right-elim h r .long) (λ i p. places h r i p ∙ sym (entry-at (saidBy h) i)))
 
 -- J as it is held says J
@@ -110,21 +105,6 @@ held-right A M J few f o =
 pub nothing-right : (A M : ℕ) → heldRight (heldOf A M []) ≡ true
 unfolding ordered
 nothing-right A M = held-right A M [] (omega arith) (λ j m. elim m [ ]) refl
-
--- one more, not yet held, leaves the shape right
-pub put-right : (h : Held) (e : Entry) → heldRight h ≡ true → h .count < 256 → fitting (h .assumptions + h .claims) e ≡ true → someOf (sameJustification (meaning e)) (saidBy h) ≡ false
-    → heldRight (heldOf (h .assumptions) (h .claims) (put (meaning e) (saidBy h))) ≡ true
-put-right h e r room fits new =
-    let N : ℕ = h .assumptions + h .claims in
-    held-right (h .assumptions) (h .claims) (put (meaning e) (saidBy h)) (omega (arith, put-length (meaning e) (saidBy h), said-many h r))
-    (λ j m. ⊎-elim (λ (q : j ≡ meaning e). subst (Ranged N) (sym q) (fitting-ranged N e fits)) (λ n. right-range h r j n) (put-cases (meaning e) (saidBy h) m))
-    (put-ordered (meaning e) (saidBy h) (right-elim h r .order) new)
-
--- .. and so does one less
-pub dropped-right : (h : Held) (r : Justification) → heldRight h ≡ true → heldRight (heldOf (h .assumptions) (h .claims) (dropped r (saidBy h))) ≡ true
-dropped-right h r k =
-    held-right (h .assumptions) (h .claims) (dropped r (saidBy h)) (omega (arith, dropped-few r (saidBy h), said-many h k, right-elim h k .few))
-    (λ j m. right-range h k j (dropped-from r (saidBy h) m)) (dropped-ordered r (saidBy h) (right-elim h k .order))
 
 -- ---- the canonical form
 climbs-sorted : (N p : ℕ) (l : List ℕ) → sortedBy ltb l ≡ true → ((s : ℕ) → Mem s l → (p < s) × (s ≤ N)) → climbs N p l ≡ true

@@ -5,9 +5,5 @@ pub mod Entries
 pub mod Keys
 pub mod Placed
 pub mod Taking
-pub mod Moving
-pub mod Putting
 pub mod Order
-pub mod Dropping
-pub mod Removing
 pub mod Laws

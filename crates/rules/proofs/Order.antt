@@ -8,15 +8,13 @@ use native.Mathlib.Decide.{decLt}
 use native.Mathlib.Omega.{arith}
 use lib.Dec.{eqb, ltb}
 use lib.ListN.{length}
-use borrow.Author.Tests.{eq-eqb, eqb-true, lt-ltb, ltb-true}
-use Rattle.rules.proofs.Putting.{put-cases}
-use Rattle.rules.proofs.Steps.{ahead-fewer, ahead-same, ahead-yes}
-use Rattle.rules.specs.Held.{ordered, put}
+use borrow.Author.Tests.{eq-eqb, eqb-true, le-ltb, lt-ltb, ltb-true, ne-eqb}
+use Rattle.rules.specs.Held.{ordered}
 use Rattle.rules.specs.Items.{sameJustification}
 use Rattle.theory.proofs.Judgement.{same-elim, same-refl}
-use Rattle.theory.proofs.Lists.{and-intro, and-left, and-right, clash, either, or-cases, or-left, or-right, some-elim, some-intro}
+use Rattle.theory.proofs.Lists.{and-intro, and-left, and-right, clash, or-cases, or-left, or-right, some-elim, some-intro}
 use Rattle.theory.specs.Judge.{sameSets}
-use Rattle.theory.specs.Lists.{choose, someOf}
+use Rattle.theory.specs.Lists.{someOf}
 use Rattle.theory.specs.Stages.{Justification, ahead, lesser}
 
 -- ---- the order of two lists
@@ -70,6 +68,30 @@ lesser-total (x ∷ l) (y ∷ m) = go (decLt x y) (decLt y x) (lesser-total l m)
         c
 
 -- ---- the order of two justifications
+module _ (r t : Justification) where
+  pub ahead-yes : r .consequent < t .consequent → true ≡ ahead r t
+  unfolding ahead
+  ahead-yes h = rw (lt-ltb (r .consequent) (t .consequent) h)
+
+  pub ahead-no : t .consequent < r .consequent → false ≡ ahead r t
+  unfolding ahead
+  ahead-no h = rw (le-ltb (r .consequent) (t .consequent) (omega arith), ne-eqb (r .consequent) (t .consequent) (λ e. omega arith))
+
+  module _ (e : r .consequent ≡ t .consequent) where
+    pub ahead-fewer : length (r .supports) < length (t .supports) → true ≡ ahead r t
+    unfolding ahead
+    ahead-fewer h = rw (le-ltb (r .consequent) (t .consequent) (omega arith), eq-eqb (r .consequent) (t .consequent) e, lt-ltb (length (r .supports)) (length (t .supports)) h)
+
+    pub ahead-more : length (t .supports) < length (r .supports) → false ≡ ahead r t
+    unfolding ahead
+    ahead-more h =
+        rw (le-ltb (r .consequent) (t .consequent) (omega arith), eq-eqb (r .consequent) (t .consequent) e, le-ltb (length (r .supports)) (length (t .supports)) (omega arith), ne-eqb (length (r .supports)) (length (t .supports)) (λ q. omega arith))
+
+    pub ahead-same : length (r .supports) ≡ length (t .supports) → (b : Bool) → b ≡ lesser (r .supports) (t .supports) → b ≡ ahead r t
+    unfolding ahead
+    ahead-same q b p =
+        rw (le-ltb (r .consequent) (t .consequent) (omega arith), eq-eqb (r .consequent) (t .consequent) e, le-ltb (length (r .supports)) (length (t .supports)) (omega arith), eq-eqb (length (r .supports)) (length (t .supports)) q) p
+
 abbrev Ahead : Justification → Justification → Type 0
 Ahead i j =
     (i .consequent < j .consequent)
@@ -187,19 +209,3 @@ ordered-unique (x ∷ l) (y ∷ m) h k f g =
     (ordered-unique l m (ordered-tail x l h) (ordered-tail y m k)
     (λ z n. ⊎-elim (λ q. absurd (ahead-irrefl x (subst (λ (v : Justification). ahead x v ≡ true) (q ∙ sym e) (ordered-head x l h z n)))) (λ a. a) (List·Memᴰ·cases-cons (f z (there n))))
     (λ z n. ⊎-elim (λ q. absurd (ahead-irrefl y (subst (λ (v : Justification). ahead y v ≡ true) (q ∙ e) (ordered-head y m k z n)))) (λ a. a) (List·Memᴰ·cases-cons (g z (there n)))))
-
-put-among : (r : Justification) (l : List Justification) → ordered l ≡ true → (Mem r l → ⊥) → ordered (put r l) ≡ true
-unfolding put ordered
-put-among r [] h f = refl
-put-among r (t ∷ l) h f =
-    go (either (ahead t r)) (put-among r l (ordered-tail t l h) (λ m. f (there m)))
-  where
-    go : (ahead t r ≡ true) ⊎ (ahead t r ≡ false) → ordered (put r l) ≡ true → ordered (choose (ahead t r) (t ∷ put r l) (r ∷ t ∷ l)) ≡ true
-    go (inl a) o =
-        rw a (ordered-cons t (put r l) (λ j m. ⊎-elim (λ (q : j ≡ r). subst (λ (u : Justification). ahead t u ≡ true) (sym q) a) (λ n. ordered-head t l h j n) (put-cases r l m)) o)
-    go (inr a) o =
-        rw a (and-intro (⊎-elim (λ (q : t ≡ r). absurd (f (here (sym q)))) (⊎-elim (λ b. clash b a) (λ b. b)) (ahead-total t r)) h)
-
--- a new one put into a list in order leaves it in order
-pub put-ordered : (r : Justification) (l : List Justification) → ordered l ≡ true → someOf (sameJustification r) l ≡ false → ordered (put r l) ≡ true
-put-ordered r l h s = put-among r l h (λ m. clash (mem-same r l m) s)

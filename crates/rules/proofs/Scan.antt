@@ -4,7 +4,6 @@ use mathlib.Core.List.{List, _∷_, map}
 use mathlib.Core.Path.{_∙_, _≡_, ap, ap₂, sym}
 use Prim.Native.Nat.{_+_, _-_, _<_, _≤_, suc, ℕ}
 use native.Mathlib.Decide.{decLt}
-use native.Mathlib.Numerals.{add-one}
 use native.Mathlib.Omega.{arith}
 use lib.Dec.{eqb, leb}
 use lib.ListN.{List·getD-map, drop, drop-of-length-le, getD, length, length-map, take}
@@ -12,13 +11,10 @@ use lib.Seq.{drop-cons, getD-take, length-take-le}
 use borrow.Author.Tests.{eq-eqb, eqb-true, le-leb, leb-true, lt-leb}
 use Rattle.rules.proofs.Steps.{all-first, and-first, beyond, fitting-count}
 use Rattle.rules.specs.Held.{fitting, heldRight, meaning, ordered, saidBy, unusedEntry}
-use Rattle.rules.specs.Placing.{placeOf}
 use Rattle.rules.specs.declared.Entry.{Entry}
 use Rattle.rules.specs.declared.Held.{Held}
-use Rattle.slices.proofs.Laws.{any-hit, any-miss}
 use Rattle.theory.proofs.Lists.{and-left, and-right}
-use Rattle.theory.proofs.Places.{any-end}
-use Rattle.theory.specs.Lists.{allOf, choose, someOf}
+use Rattle.theory.specs.Lists.{allOf}
 use Rattle.theory.specs.Stages.{Justification, ahead}
 
 -- ---- justifications in order
@@ -50,33 +46,6 @@ module _ (entries : List Entry) (n : ℕ) (fits : n ≤ length entries) where
 
   pub said-at : (i : ℕ) → i < n → getD (map meaning (take n entries)) i (meaning beyond) ≡ meaning (getD entries i beyond)
   said-at i h = List·getD-map meaning (take n entries) i beyond ∙ ap meaning (getD-take n entries i beyond h)
-
-  module _ (p : Justification → Bool) (j : ℕ) where
-    pub held-hit : j < n → p (meaning (getD entries j beyond)) ≡ true → someOf p (from j) ≡ true
-    held-hit h t = any-hit p (map meaning (take n entries)) j (meaning beyond) (omega (arith, said-length)) (ap p (said-at j h) ∙ t)
-
-    pub held-miss : j < n → p (meaning (getD entries j beyond)) ≡ false → someOf p (from j) ≡ someOf p (from (j + 1))
-    held-miss h t = any-miss p (map meaning (take n entries)) j (meaning beyond) (omega (arith, said-length)) (ap p (said-at j h) ∙ t)
-
-    pub held-end : n ≤ j → someOf p (from j) ≡ false
-    held-end h = any-end p (map meaning (take n entries)) j (omega (arith, said-length))
-
-  module _ (r : Justification) (j : ℕ) where
-    place-step : j < n → placeOf r (from j) ≡ choose (ahead (meaning (getD entries j beyond)) r) (suc (placeOf r (from (j + 1)))) 0
-    unfolding placeOf
-    place-step h =
-        ap (placeOf r) (drop-cons (map meaning (take n entries)) j (meaning beyond) (omega (arith, said-length)))
-        ∙ ap₂ (λ (t : Justification) (i : ℕ). choose (ahead t r) (suc (placeOf r (from i))) 0) (said-at j h) (sym (add-one j))
-
-    pub place-more : j < n → ahead (meaning (getD entries j beyond)) r ≡ true → j + placeOf r (from j) ≡ j + 1 + placeOf r (from (j + 1))
-    place-more h t = omega (arith, place-step h ∙ ap (λ (b : Bool). choose b (suc (placeOf r (from (j + 1)))) 0) t)
-
-    pub place-here : j < n → ahead (meaning (getD entries j beyond)) r ≡ false → j + placeOf r (from j) ≡ j
-    place-here h t = omega (arith, place-step h ∙ ap (λ (b : Bool). choose b (suc (placeOf r (from (j + 1)))) 0) t)
-
-    pub place-end : n ≤ j → j + placeOf r (from j) ≡ j
-    unfolding placeOf
-    place-end h = omega (arith, ap (placeOf r) (drop-of-length-le (map meaning (take n entries)) {i = j} (omega (arith, said-length))))
 
   module _ (j : ℕ) (low : 1 ≤ j) where
     order-step : j < n → ordered (from (j - 1)) ≡ ahead (meaning (getD entries (j - 1) beyond)) (meaning (getD entries j beyond)) && ordered (from j)

@@ -1,25 +1,21 @@
 -- The steps of the loops and the branches of the code, over plain variables. Assumes nothing.
-use mathlib.Core.Bool.{Bool, _&&_, _||_, false, not, true}
+use mathlib.Core.Bool.{Bool, _&&_, false, not, true}
 use mathlib.Core.List.{List, [], _∷_, map}
 use mathlib.Core.Path.{_∙_, _≡_, ap, ap₂, refl, sym}
-use Prim.Native.Nat.{_%_, _*_, _+_, _-_, _<_, _^_, _≤_, suc, zero, ℕ}
+use Prim.Native.Nat.{_%_, _*_, _+_, _<_, _^_, _≤_, suc, zero, ℕ}
 use native.Mathlib.Nat.{le-of-suc-le-suc, not-suc-le-zero}
 use native.Mathlib.Decide.{decLe}
 use native.Mathlib.Numerals.{add-one}
 use native.Mathlib.Omega.{arith}
 use lib.Dec.{eqb, leb, ltb}
 use lib.ListN.{drop, drop-of-length-le, getD, length, length-map, length-take, take}
-use lib.Seq.{drop-cons, getD-take, length-take-le}
+use lib.Seq.{drop-cons, getD-take}
 use borrow.Author.Tests.{eq-eqb, eqb-true, le-leb, le-ltb, leb-true, lt-leb, lt-ltb, ltb-true, ne-eqb}
-use borrow.Rule.Slice.PartAt.{part-to-end}
-use Rattle.rules.specs.Held.{climbs, fitting, meaning}
-use Rattle.rules.specs.Items.{sameJustification}
+use Rattle.rules.specs.Held.{climbs, fitting}
 use Rattle.rules.specs.declared.Entry.{Entry}
-use Rattle.slices.proofs.Laws.{any-hit, any-miss, same-length}
+use Rattle.slices.proofs.Laws.{any-hit, any-miss}
 use Rattle.theory.proofs.Lists.{and-intro, and-left, and-right, clash, same-test}
-use Rattle.theory.specs.Judge.{sameSets}
 use Rattle.theory.specs.Lists.{allOf, someOf}
-use Rattle.theory.specs.Stages.{Justification, ahead, lesser}
 
 -- what is read past the last place
 abbrev pub beyond : Entry
@@ -43,10 +39,6 @@ all-places p (x ∷ l) z f = and-intro (f 0 (omega arith)) (all-places p l z (λ
 
 pub all-first : {X : Type 0} (p : X → Bool) (l : List X) (n i : ℕ) (z : X) → n ≤ length l → allOf p (take n l) ≡ true → i < n → p (getD l i z) ≡ true
 all-first p l n i z f h k = ap p (sym (getD-take n l i z k)) ∙ all-at p (take n l) i z h (omega (arith, length-take n l))
-
--- a part that goes to the end of m places
-pub to-end : {X : Type 0} (l : List X) (n m : ℕ) → length l ≡ m → take (m - n) (drop n l) ≡ drop n l
-to-end l n m e = ap (λ (k : ℕ). take (k - n) (drop n l)) (sym e) ∙ part-to-end l n
 
 -- ---- numbers that rise
 pub and-none : (a : Bool) → a && false ≡ false
@@ -180,92 +172,3 @@ module _ (N : ℕ) (e : Entry) where
 pub fitting-count : (N : ℕ) (e : Entry) → fitting N e ≡ true → e .count ≤ 4
 unfolding fitting
 fitting-count N e h = leb-true (e .count) 4 (and-left (leb (e .count) 4) _ (and-right (leb (e .consequent) N) _ h))
-
--- ---- the order of two lists
-module _ (a b : List ℕ) (i : ℕ) where
-  less-step : i < length a → i < length b
-      → lesser (drop i a) (drop i b) ≡ ltb (getD a i 0) (getD b i 0) || (eqb (getD a i 0) (getD b i 0) && lesser (drop (i + 1) a) (drop (i + 1) b))
-  unfolding lesser
-  less-step h k =
-      ap₂ lesser (drop-cons a i 0 h) (drop-cons b i 0 k)
-      ∙ ap (λ (j : ℕ). ltb (getD a i 0) (getD b i 0) || (eqb (getD a i 0) (getD b i 0) && lesser (drop j a) (drop j b))) (sym (add-one i))
-
-  pub less-yes : i < length a → i < length b → getD a i 0 < getD b i 0 → lesser (drop i a) (drop i b) ≡ true
-  less-yes h k m = less-step h k ∙ rw (lt-ltb (getD a i 0) (getD b i 0) m)
-
-  pub less-no : i < length a → i < length b → getD b i 0 < getD a i 0 → lesser (drop i a) (drop i b) ≡ false
-  less-no h k m =
-      less-step h k ∙ rw (le-ltb (getD a i 0) (getD b i 0) (omega arith), ne-eqb (getD a i 0) (getD b i 0) (λ e. omega arith))
-
-  pub less-more : i < length a → i < length b → getD b i 0 ≤ getD a i 0 → getD a i 0 ≤ getD b i 0 → lesser (drop i a) (drop i b) ≡ lesser (drop (i + 1) a) (drop (i + 1) b)
-  less-more h k m n =
-      less-step h k ∙ rw (le-ltb (getD a i 0) (getD b i 0) m, eq-eqb (getD a i 0) (getD b i 0) (omega arith))
-
-  pub less-end : length b ≤ i → lesser (drop i a) (drop i b) ≡ false
-  unfolding lesser
-  less-end h = ap (lesser (drop i a)) (drop-of-length-le b {i = i} h)
-
--- ---- the order of two justifications
-module _ (r t : Justification) where
-  pub ahead-yes : r .consequent < t .consequent → true ≡ ahead r t
-  unfolding ahead
-  ahead-yes h = rw (lt-ltb (r .consequent) (t .consequent) h)
-
-  pub ahead-no : t .consequent < r .consequent → false ≡ ahead r t
-  unfolding ahead
-  ahead-no h = rw (le-ltb (r .consequent) (t .consequent) (omega arith), ne-eqb (r .consequent) (t .consequent) (λ e. omega arith))
-
-  module _ (e : r .consequent ≡ t .consequent) where
-    pub ahead-fewer : length (r .supports) < length (t .supports) → true ≡ ahead r t
-    unfolding ahead
-    ahead-fewer h = rw (le-ltb (r .consequent) (t .consequent) (omega arith), eq-eqb (r .consequent) (t .consequent) e, lt-ltb (length (r .supports)) (length (t .supports)) h)
-
-    pub ahead-more : length (t .supports) < length (r .supports) → false ≡ ahead r t
-    unfolding ahead
-    ahead-more h =
-        rw (le-ltb (r .consequent) (t .consequent) (omega arith), eq-eqb (r .consequent) (t .consequent) e, le-ltb (length (r .supports)) (length (t .supports)) (omega arith), ne-eqb (length (r .supports)) (length (t .supports)) (λ q. omega arith))
-
-    pub ahead-same : length (r .supports) ≡ length (t .supports) → (b : Bool) → b ≡ lesser (r .supports) (t .supports) → b ≡ ahead r t
-    unfolding ahead
-    ahead-same q b p =
-        rw (le-ltb (r .consequent) (t .consequent) (omega arith), eq-eqb (r .consequent) (t .consequent) e, le-ltb (length (r .supports)) (length (t .supports)) (omega arith), eq-eqb (length (r .supports)) (length (t .supports)) q) p
-
-module _ (r t : Justification) where
-  pub same-head : (r .consequent ≡ t .consequent → ⊥) → false ≡ sameJustification r t
-  unfolding sameJustification
-  same-head h = rw (ne-eqb (r .consequent) (t .consequent) h)
-
-  pub same-many : r .consequent ≡ t .consequent → (length (r .supports) ≡ length (t .supports) → ⊥) → false ≡ sameJustification r t
-  unfolding sameJustification
-  same-many e h = rw (eq-eqb (r .consequent) (t .consequent) e, same-length (r .supports) (t .supports) h)
-
-  pub same-rest : r .consequent ≡ t .consequent → (b : Bool) → b ≡ sameSets (r .supports) (t .supports) → b ≡ sameJustification r t
-  unfolding sameJustification
-  same-rest e b p = rw (eq-eqb (r .consequent) (t .consequent) e) p
-
--- ---- two places
-module _ (s t : Entry) (e : length (s .supports) ≡ 4) (f : length (t .supports) ≡ 4) (p : s .count ≤ 4) (q : t .count ≤ 4) where
-  mine : length (take (s .count) (s .supports)) ≡ s .count
-  mine = length-take-le (s .count) (s .supports) (omega arith)
-
-  theirs : length (take (t .count) (t .supports)) ≡ t .count
-  theirs = length-take-le (t .count) (t .supports) (omega arith)
-
-  pub as-long : length (take (s .count) (s .supports)) ≡ length (take (s .count) (t .supports))
-  as-long = mine ∙ sym (length-take-le (s .count) (t .supports) (omega arith))
-
-  pub comes-fewer : s .consequent ≡ t .consequent → s .count < t .count → true ≡ ahead (meaning s) (meaning t)
-  comes-fewer c h = ahead-fewer (meaning s) (meaning t) c (omega (arith, mine, theirs))
-
-  pub comes-more : s .consequent ≡ t .consequent → t .count < s .count → false ≡ ahead (meaning s) (meaning t)
-  comes-more c h = ahead-more (meaning s) (meaning t) c (omega (arith, mine, theirs))
-
-  pub comes-same : s .consequent ≡ t .consequent → s .count ≡ t .count → (b : Bool) → b ≡ lesser (take (s .count) (s .supports)) (take (s .count) (t .supports)) → b ≡ ahead (meaning s) (meaning t)
-  comes-same c n b h =
-      ahead-same (meaning s) (meaning t) c (mine ∙ n ∙ sym theirs) b (h ∙ ap (λ (k : ℕ). lesser (take (s .count) (s .supports)) (take k (t .supports))) n)
-
-  pub differ-many : s .consequent ≡ t .consequent → (s .count ≡ t .count → ⊥) → false ≡ sameJustification (meaning s) (meaning t)
-  differ-many c h = same-many (meaning s) (meaning t) c (λ w. h (sym mine ∙ w ∙ theirs))
-
-  pub same-all : s .consequent ≡ t .consequent → s .count ≡ t .count → (b : Bool) → b ≡ sameSets (take (s .count) (s .supports)) (take (s .count) (t .supports)) → b ≡ sameJustification (meaning s) (meaning t)
-  same-all c n b h = same-rest (meaning s) (meaning t) c b (h ∙ ap (λ (k : ℕ). sameSets (take (s .count) (s .supports)) (take k (t .supports))) n)

@@ -5,19 +5,17 @@ use replies::Reply;
 use theory::HELD;
 use theory::SUPPORTS;
 ghost use mathlib.Core.Bool.{_&&_, true};
-ghost use mathlib.Core.List.{map};
 ghost use mathlib.Core.Path.{_≡_};
-ghost use Prim.Native.Nat.{_+_, _-_, _<_, _≤_};
+ghost use Prim.Native.Nat.{_+_, _<_, _≤_};
 ghost use lib.Dec.{eqb};
 ghost use lib.ListN.{drop, length, take};
 ghost use Rattle.theory.specs.Limits.{limits};
-ghost use Rattle.theory.specs.Lists.{allOf, someOf};
-ghost use Rattle.theory.specs.Stages.{ahead};
+ghost use Rattle.theory.specs.Lists.{allOf};
 ghost use Rattle.replies.specs.declared.Reply.the-variants.{Done};
-ghost use Rattle.rules.specs.Held.{fitting, heldRight, meaning, ordered, saidBy, top, unusedEntry};
-ghost use Rattle.rules.specs.Items.{faultOf, sameJustification};
-ghost use Rattle.rules.specs.Placing.{Bytes, insertAt, keyOf, partly, placeOf, removeAt, withEntries};
-ghost use Rattle.rules.specs.Promised.{Canonical, Faulted, HoldingNothing, Inserted, IsHeld, IsRight, Removed};
+ghost use Rattle.rules.specs.Held.{fitting, ordered, saidBy, top, unusedEntry};
+ghost use Rattle.rules.specs.Items.{faultOf};
+ghost use Rattle.rules.specs.Placing.{Bytes, keyOf, partly};
+ghost use Rattle.rules.specs.Promised.{Canonical, Faulted, HoldingNothing, IsRight};
 
 // The most supports, as a place counts them.
 const MOST_SUPPORTS: u8 = SUPPORTS as u8;
@@ -133,48 +131,6 @@ impl Entry {
         let word = lists::value(s[0], s[1], s[2], s[3]);
         1099511627776 * (self.consequent as u64) + 4294967296 * (self.count as u64) + word
     }
-
-    // Whether self stands before t.
-    fn comes(self, t: Entry) -> bool
-        requires { ⌜ (self .count ≤ limits .supports) × (t .count ≤ limits .supports) ⌝ }
-        ensures { λ r. ⌜ r ≡ ahead (meaning self) (meaning t) ⌝ }
-    {
-        if self.consequent < t.consequent {
-            return true;
-        }
-        if t.consequent < self.consequent {
-            return false;
-        }
-        if self.count < t.count {
-            return true;
-        }
-        if t.count < self.count {
-            return false;
-        }
-        let count = self.count;
-        let n = count as usize;
-        let mine = self.supports;
-        let theirs = t.supports;
-        lists::less(&mine[..n], &theirs[..n])
-    }
-
-    // Whether the two are one justification.
-    fn same(self, t: Entry) -> bool
-        requires { ⌜ (self .count ≤ limits .supports) × (t .count ≤ limits .supports) ⌝ }
-        ensures { λ r. ⌜ r ≡ sameJustification (meaning self) (meaning t) ⌝ }
-    {
-        if self.consequent != t.consequent {
-            return false;
-        }
-        if self.count != t.count {
-            return false;
-        }
-        let count = self.count;
-        let n = count as usize;
-        let mine = self.supports;
-        let theirs = t.supports;
-        slices::equal(&mine[..n], &theirs[..n])
-    }
 }
 
 impl Held {
@@ -208,41 +164,6 @@ impl Held {
             return self.spare();
         }
         false
-    }
-
-    // Whether the justification is held.
-    pub fn holds(self, entry: Entry) -> bool
-        requires { ⌜ (heldRight self ≡ true) × (entry .count ≤ limits .supports) ⌝ }
-        ensures { λ r. ⌜ IsHeld self entry r ⌝ }
-    {
-        let count = self.count;
-        let mut j = 0;
-        while j < count {
-            let t = self.entries[j];
-            if entry.same(t) {
-                return true;
-            }
-            j += 1;
-        }
-        false
-    }
-
-    // The justification put in its place among those held.
-    pub fn insert(self, entry: Entry) -> Held
-        requires { ⌜ (heldRight self ≡ true) × (self .count < limits .held) × (fitting (top self) entry ≡ true) ⌝ }
-        ensures { λ r. ⌜ Inserted self entry r ⌝ }
-    {
-        let at = self.place(entry);
-        self.moved(at, entry)
-    }
-
-    // What is held without the justification, which is held.
-    pub fn remove(self, entry: Entry) -> Held
-        requires { ⌜ (heldRight self ≡ true) × (entry .count ≤ limits .supports) × (someOf (sameJustification (meaning entry)) (saidBy self) ≡ true) ⌝ }
-        ensures { λ r. ⌜ Removed self entry r ⌝ }
-    {
-        let at = self.place(entry);
-        self.closed(at)
     }
 
     // Whether the places in use are in range, and each stands before the next.
@@ -288,62 +209,5 @@ impl Held {
             j += 1;
         }
         seen == 0
-    }
-
-    // How many held justifications stand before it.
-    fn place(self, entry: Entry) -> usize
-        requires { ⌜ (heldRight self ≡ true) × (entry .count ≤ limits .supports) ⌝ }
-        ensures { λ r. ⌜ r ≡ placeOf (meaning entry) (saidBy self) ⌝ }
-    {
-        let count = self.count;
-        let mut j = 0;
-        while j < count {
-            let t = self.entries[j];
-            if t.comes(entry) {
-                j += 1;
-            } else {
-                return j;
-            }
-        }
-        j
-    }
-
-    // The justification put in at a place; those from there on move up by one.
-    fn moved(mut self, at: usize, entry: Entry) -> Held
-        requires { ⌜ (at ≤ self .count) × (self .count < limits .held) ⌝ }
-        ensures { λ r. ⌜ r ≡ withEntries self (self .count + 1) (insertAt (self .entries) at (self .count) entry) ⌝ }
-    {
-        let count = self.count;
-        let mut i = count;
-        while at < i {
-            let last = self.entries[i - 1];
-            self.entries[i] = last;
-            i -= 1;
-        }
-        self.entries[at] = entry;
-        self.count = count + 1;
-        self
-    }
-
-    // The justification at a place taken out; those after it move down by one, and the last place is vacant.
-    fn closed(mut self, at: usize) -> Held
-        requires { ⌜ (heldRight self ≡ true) × (at < self .count) ⌝ }
-        ensures { λ r. ⌜ r ≡ withEntries self (self .count - 1) (removeAt (self .entries) at) ⌝ }
-    {
-        let last = self.count - 1;
-        let mut i = at;
-        while i < last {
-            let next = self.entries[i + 1];
-            self.entries[i] = next;
-            i += 1;
-        }
-        let vacant = Entry {
-            consequent: 0,
-            count: 0,
-            supports: [0u8; SUPPORTS],
-        };
-        self.entries[last] = vacant;
-        self.count = last;
-        self
     }
 }

@@ -1,13 +1,12 @@
-// The supports of a place: whether they rise, end in zeros, are the lesser; and four bytes as one number.
+// The supports of a place: whether they rise, end in zeros; and four bytes as one number.
 ghost use mathlib.Core.Bool.{_&&_, not, true};
 ghost use mathlib.Core.List.{[], _∷_};
 ghost use mathlib.Core.Path.{_≡_};
 ghost use Prim.Native.Nat.{_<_, _≤_};
 ghost use lib.Dec.{eqb};
-ghost use lib.ListN.{drop, length};
+ghost use lib.ListN.{drop};
 ghost use Rattle.theory.specs.Limits.{limits};
 ghost use Rattle.theory.specs.Lists.{allOf, someOf};
-ghost use Rattle.theory.specs.Stages.{lesser};
 ghost use Rattle.rules.specs.Held.{climbs};
 ghost use Rattle.rules.specs.Placing.{byte, valueFrom};
 
@@ -45,22 +44,4 @@ pub(crate) fn value(a: u8, b: u8, c: u8, d: u8) -> u64
     ensures { λ r. ⌜ (r ≡ valueFrom 0 (a ∷ b ∷ c ∷ d ∷ [])) × (allOf byte (a ∷ b ∷ c ∷ d ∷ []) ≡ true) × (r < 4294967296) ⌝ }
 {
     16777216 * (a as u64) + 65536 * (b as u64) + 256 * (c as u64) + d as u64
-}
-
-// Of two lists of one length, whether a has the smaller number at the first difference.
-pub(crate) fn less(a: &[u8], b: &[u8]) -> bool
-    requires { ⌜ length (now a) ≡ length (now b) ⌝ }
-    ensures { λ r. ⌜ r ≡ lesser (now (a .entry)) (now (b .entry)) ⌝ }
-{
-    let mut i = 0;
-    while i < a.len() {
-        if a[i] < b[i] {
-            return true;
-        }
-        if b[i] < a[i] {
-            return false;
-        }
-        i += 1;
-    }
-    false
 }

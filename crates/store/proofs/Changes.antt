@@ -14,10 +14,11 @@ use Rattle.replies.proofs.Laws.{zero-done}
 use Rattle.replies.specs.Replies.{numberOf}
 use Rattle.replies.specs.declared.Reply.{Reply}
 use Rattle.replies.specs.declared.Reply.the-variants.{Done}
-use Rattle.rules.proofs.Dropping.{dropped-few, dropped-from}
+use Rattle.holding.proofs.Dropping.{dropped-few, dropped-from}
 use Rattle.rules.proofs.Entries.{said-many}
-use Rattle.rules.proofs.Laws.{canonical-fits, dropped-right, fitting-ranged, held-said, put-right, right-range}
-use Rattle.rules.proofs.Putting.{put-cases, put-length}
+use Rattle.rules.proofs.Laws.{canonical-fits, fitting-ranged, held-said, right-range}
+use Rattle.holding.proofs.Laws.{dropped-right, put-right}
+use Rattle.holding.proofs.Putting.{put-cases, put-length}
 use Rattle.rules.proofs.Scan.{right-elim}
 use Rattle.rules.specs.Held.{dropped, entryOf, fitting, heldOf, heldRight, meaning, put, saidBy}
 use Rattle.rules.specs.Items.{faultOf, justificationOf, sameJustification}

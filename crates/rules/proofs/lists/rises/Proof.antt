@@ -1,6 +1,6 @@
 -- `rises` meets its contract. The loop: the list rises and has no n if the last number is at most the top and the rest rises from it and has none. Assumes nothing.
 use mathlib.Core.Bool.{_&&_, not}
-use mathlib.Core.Path.{_∙_, _≡_, refl, sym}
+use mathlib.Core.Path.{_∙_, _≡_, sym}
 use Prim.Native.Nat.{_-_, _<_, _≤_}
 use native.Mathlib.Omega.{arith}
 use lib.Dec.{eqb, leb}

@@ -5,18 +5,19 @@ use Prim.Native.Nat.{_-_, _≤_}
 use native.Mathlib.Omega.{arith}
 use lib.ListN.{drop, take}
 use borrow.Author.Needs.{needs}
-use Rattle.rules.proofs.Scan.{held-end, held-hit, held-miss, right-count, right-elim, right-inside}
+use Rattle.holding.proofs.Steps.{held-end, held-hit, held-miss}
+use Rattle.rules.proofs.Scan.{right-count, right-elim, right-inside}
 use Rattle.rules.specs.Held.{meaning}
 use Rattle.rules.specs.Items.{sameJustification}
 use Rattle.theory.specs.Lists.{someOf}
-use Rattle.rules.proofs.Held.holds.Statement.{statement}
-use Rattle.rules.proofs.Held.holds.Tie as tie
+use Rattle.holding.proofs.holds.Statement.{statement}
+use Rattle.holding.proofs.holds.Tie as tie
 
 abbrev Inv-loop : tie.InvT-loop
-Inv-loop entry self count j₀ j = (j ≤ count) × (someOf (sameJustification (meaning entry)) (map meaning (take count (self .entries))) ≡ someOf (sameJustification (meaning entry)) (drop j (map meaning (take count (self .entries)))))
+Inv-loop entry held count j₀ j = (j ≤ count) × (someOf (sameJustification (meaning entry)) (map meaning (take count (held .entries))) ≡ someOf (sameJustification (meaning entry)) (drop j (map meaning (take count (held .entries)))))
 
 abbrev μ-loop : tie.MeasureT-loop
-μ-loop entry self count j₀ j = count - j
+μ-loop entry held count j₀ j = count - j
 
 mul-t : tie.Need-mul-t Inv-loop μ-loop
 mul-t c = let s = c .before .before in omega (arith, right-elim (s .args .t1) (s .pre .0) .few)

@@ -1,5 +1,5 @@
 -- Places moved down by one after the one taken out, and what is then held. Assumes nothing.
-use mathlib.Core.Bool.{Bool, false, true}
+use mathlib.Core.Bool.{Bool, true}
 use mathlib.Core.List.{List, List·Memᴰ as Mem, [], _∷_, map}
 use mathlib.Core.Logic.{⊎-elim}
 use mathlib.Core.Path.{_∙_, _≡_, ap, ap₂, refl, sym}
@@ -11,16 +11,16 @@ use lib.Dec.{ltb}
 use lib.ListN.{List·getD-eq-default, getD, length, length-set, set}
 use lib.Seq.{getD-set-other, getD-set-same}
 use borrow.Author.Tests.{le-ltb, lt-ltb}
-use Rattle.rules.proofs.Dropping.{dropped-at, dropped-length, place-among}
+use Rattle.holding.proofs.Dropping.{dropped-at, dropped-length, place-among}
 use Rattle.rules.proofs.Entries.{entry-at, nothingSaid, places, said-many, vacant-entry}
 use Rattle.rules.proofs.Order.{same-mem}
 use Rattle.rules.proofs.Scan.{right-elim}
 use Rattle.rules.proofs.Steps.{beyond}
 use Rattle.rules.specs.Held.{dropped, entryOf, heldOf, heldRight, meaning, saidBy, vacant}
 use Rattle.rules.specs.Items.{sameJustification}
-use Rattle.rules.specs.Placing.{placeOf, removeAt, withEntries}
+use Rattle.holding.specs.Placing.{placeOf, removeAt, withEntries}
 use Rattle.rules.specs.declared.Entry.{Entry}
 use Rattle.rules.specs.declared.Held.{Held}
 use Rattle.theory.proofs.Places.{getD-table, is-table, length-table}
 use Rattle.theory.specs.Lists.{choose, someOf}
 use Rattle.theory.specs.Places.{padded, table}

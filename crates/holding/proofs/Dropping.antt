@@ -9,11 +9,11 @@ use native.Mathlib.Omega.{arith}
 use lib.Dec.{ltb}
 use lib.ListN.{getD, length}
 use borrow.Author.Tests.{le-ltb, lt-ltb, not-true}
-use Rattle.rules.proofs.Order.{ahead-irrefl, mem-same, one-same, ordered-cons, ordered-head, ordered-tail, ordered-unique, put-ordered, same-mem, same-one}
-use Rattle.rules.proofs.Putting.{place-le, put-cases, put-high, put-length, put-low, put-new, put-old}
+use Rattle.rules.proofs.Order.{ahead-irrefl, mem-same, one-same, ordered-cons, ordered-head, ordered-tail, ordered-unique, same-mem, same-one}
+use Rattle.holding.proofs.Putting.{put-ordered, place-le, put-cases, put-high, put-length, put-low, put-new, put-old}
 use Rattle.rules.specs.Held.{dropped, ordered, put}
 use Rattle.rules.specs.Items.{sameJustification}
-use Rattle.rules.specs.Placing.{placeOf}
+use Rattle.holding.specs.Placing.{placeOf}
 use Rattle.theory.proofs.Lists.{clash, either, those-elim, those-intro}
 use Rattle.theory.specs.Lists.{choose, keep, someOf, those}
 use Rattle.theory.specs.Stages.{Justification, ahead}

@@ -8,9 +8,9 @@ use native.Mathlib.Nat.{eq-or-lt-of-le}
 use native.Mathlib.Omega.{arith}
 use lib.ListN.{List·getD-append, drop, getD, length, length-append, length-drop, length-set, set, take}
 use lib.Seq.{ext-getD, getD-append-add, getD-drop, getD-set-other, getD-set-same, getD-take, length-take-le}
 use Rattle.rules.proofs.Steps.{beyond}
-use Rattle.rules.specs.Placing.{insertAt}
+use Rattle.holding.specs.Placing.{insertAt}
 use Rattle.rules.specs.declared.Entry.{Entry}
 
 -- ---- places moved up by one, down to place i
 pub record Shifting (l m : List Entry) (i n : ℕ) : Type 0 where

@@ -4,9 +4,10 @@ use native.Mathlib.Omega.{arith}
 use lib.ListN.{length}
 use lib.Seq.{length-take-le}
 use borrow.Author.Needs.{needs}
-use Rattle.rules.proofs.Steps.{ahead-no, ahead-yes, as-long, comes-fewer, comes-more, comes-same}
-use Rattle.rules.proofs.Entry.comes.Statement.{statement}
-use Rattle.rules.proofs.Entry.comes.Tie as tie
+use Rattle.rules.proofs.Order.{ahead-no, ahead-yes}
+use Rattle.holding.proofs.Steps.{as-long, comes-fewer, comes-more, comes-same}
+use Rattle.holding.proofs.order.comes.Statement.{statement}
+use Rattle.holding.proofs.order.comes.Tie as tie
 
 -- The function's entry, from where test 1 failed.
 abbrev entry : tie.Else1 → tie.Start
@@ -33,22 +34,22 @@ returns-2 c = ahead-no _ _ (c .if2 .taken)
 returns-3 : tie.Need-returns-3
 returns-3 c =
     let s = entry (no1 (c .before .before .before)) in
-    let e : length (s .args .self .supports) ≡ 4 = search needs in
+    let e : length (s .args .s .supports) ≡ 4 = search needs in
     let f : length (s .args .t .supports) ≡ 4 = search needs in
-    comes-fewer (s .args .self) (s .args .t) e f (s .pre .0) (s .pre .1) (omega arith) (c .if3 .taken)
+    comes-fewer (s .args .s) (s .args .t) e f (s .pre .0) (s .pre .1) (omega arith) (c .if3 .taken)
 
 returns-4 : tie.Need-returns-4
 returns-4 c =
     let s = entry (no1 (no2 (c .before .before .before))) in
-    let e : length (s .args .self .supports) ≡ 4 = search needs in
+    let e : length (s .args .s .supports) ≡ 4 = search needs in
     let f : length (s .args .t .supports) ≡ 4 = search needs in
-    comes-more (s .args .self) (s .args .t) e f (s .pre .0) (s .pre .1) (omega arith) (c .if4 .taken)
+    comes-more (s .args .s) (s .args .t) e f (s .pre .0) (s .pre .1) (omega arith) (c .if4 .taken)
 
 array-share-prefix-mine : tie.Need-array-share-prefix-mine
-array-share-prefix-mine c = let s = entry (no1 (no2 (no3 (c .before .before)))) in let e : length (s .args .self .supports) ≡ 4 = search needs in omega (arith, s .pre .0)
+array-share-prefix-mine c = let s = entry (no1 (no2 (no3 (c .before .before)))) in let e : length (s .args .s .supports) ≡ 4 = search needs in omega (arith, s .pre .0)
 
 slice-aggregate-less : tie.Need-slice-aggregate-less
-slice-aggregate-less c = let s = entry (no1 (no2 (no3 (c .before .before .before)))) in let e : length (s .args .self .supports) ≡ 4 = search needs in sym (length-take-le _ _ (omega (arith, s .pre .0)))
+slice-aggregate-less c = let s = entry (no1 (no2 (no3 (c .before .before .before)))) in let e : length (s .args .s .supports) ≡ 4 = search needs in sym (length-take-le _ _ (omega (arith, s .pre .0)))
 
 array-share-prefix-theirs : tie.Need-array-share-prefix-theirs
 array-share-prefix-theirs c = let s = entry (no1 (no2 (no3 (c .before .before .before)))) in let e : length (s .args .t .supports) ≡ 4 = search needs in omega (arith, s .pre .0)
@@ -59,16 +60,16 @@ slice-aggregate-less-2 c = let s = entry (no1 (no2 (no3 (c .before .before .befo
 less-requires : tie.Need-less-requires
 less-requires c κs =
     let s = entry (no1 (no2 (no3 (c .before .before .before .before)))) in
-    let e : length (s .args .self .supports) ≡ 4 = search needs in
+    let e : length (s .args .s .supports) ≡ 4 = search needs in
     let f : length (s .args .t .supports) ≡ 4 = search needs in
-    as-long (s .args .self) (s .args .t) e f (s .pre .0) (s .pre .1)
+    as-long (s .args .s) (s .args .t) e f (s .pre .0) (s .pre .1)
 
 returns-5 : tie.Need-returns-5
 returns-5 c =
     let s = entry (no1 (no2 (no3 (c .before .before .before .before .before)))) in
-    let e : length (s .args .self .supports) ≡ 4 = search needs in
+    let e : length (s .args .s .supports) ≡ 4 = search needs in
     let f : length (s .args .t .supports) ≡ 4 = search needs in
-    comes-same (s .args .self) (s .args .t) e f (s .pre .0) (s .pre .1) (omega arith) (omega arith) _ (c .less .ensures)
+    comes-same (s .args .s) (s .args .t) e f (s .pre .0) (s .pre .1) (omega arith) (omega arith) _ (c .less .ensures)
 
 pub comes-spec : {M : Type 1} → statement M
 comes-spec =

@@ -4,20 +4,20 @@ use Prim.Native.Nat.{_+_, _-_, _<_, _≤_, ℕ}
 use native.Mathlib.Omega.{arith}
 use lib.ListN.{getD, length, set}
 use borrow.Author.Needs.{needs}
-use Rattle.rules.proofs.Removing.{Closing, close-end, close-more, close-none, right-vacant}
+use Rattle.holding.proofs.Removing.{Closing, close-end, close-more, close-none, right-vacant}
 use Rattle.rules.proofs.Scan.{right-elim}
 use Rattle.rules.proofs.Steps.{beyond, length-mapped}
 use Rattle.rules.specs.Held.{vacant}
-use Rattle.rules.specs.Placing.{withEntries}
+use Rattle.holding.specs.Placing.{withEntries}
 use Rattle.rules.specs.declared.Held.{Held}
-use Rattle.rules.proofs.Held.closed.Statement.{statement}
-use Rattle.rules.proofs.Held.closed.Tie as tie
+use Rattle.holding.proofs.closed.Statement.{statement}
+use Rattle.holding.proofs.closed.Tie as tie
 
 abbrev Inv-loop : tie.InvT-loop
-Inv-loop at self₀ last i₀ self i = (at ≤ i) × (i ≤ last) × (last < 256) × Closing (self₀ .entries) (self .entries) at i × (self ≡ withEntries self₀ (self₀ .count) (self .entries))
+Inv-loop at held₀ last i₀ held i = (at ≤ i) × (i ≤ last) × (last < 256) × Closing (held₀ .entries) (held .entries) at i × (held ≡ withEntries held₀ (held₀ .count) (held .entries))
 
 abbrev μ-loop : tie.MeasureT-loop
-μ-loop at self₀ last i₀ self i = last - i
+μ-loop at held₀ last i₀ held i = last - i
 
 loop-holds : tie.Need-loop-holds Inv-loop μ-loop
 loop-holds c = (omega arith, omega arith, omega (arith, right-elim (c .args .t1) (c .pre .0) .few), close-none _ _, refl)
@@ -30,8 +30,8 @@ loop-again c =
       omega arith,
       omega arith,
       l .inv .2,
-      close-more (a .t1 .entries) (l .self .entries) (a .at) (l .i) (omega arith) (omega (arith, e, l .inv .2)) (l .inv .3),
-      ap (λ (s : Held). withEntries s (s .count) (set (l .self .entries) (l .i) (getD (l .self .entries) (l .i + 1) beyond))) (l .inv .4),
+      close-more (a .t1 .entries) (l .held .entries) (a .at) (l .i) (omega arith) (omega (arith, e, l .inv .2)) (l .inv .3),
+      ap (λ (s : Held). withEntries s (s .count) (set (l .held .entries) (l .i) (getD (l .held .entries) (l .i + 1) beyond))) (l .inv .4),
     )
 
 mul-vacant : tie.Need-mul-vacant Inv-loop μ-loop
@@ -47,9 +47,9 @@ returns c =
     let r = c .before .before .pre .0 in
     let e : length (a .t1 .entries) ≡ 256 = right-elim (a .t1) r .long in
     let i : l .i ≡ a .t1 .count - 1 = omega arith in
-    ap (λ (s : Held). withEntries s (a .t1 .count - 1) (set (l .self .entries) (a .t1 .count - 1) vacant)) (l .inv .4)
+    ap (λ (s : Held). withEntries s (a .t1 .count - 1) (set (l .held .entries) (a .t1 .count - 1) vacant)) (l .inv .4)
     ∙ ap (withEntries (a .t1) (a .t1 .count - 1))
-    (close-end (a .t1 .entries) (l .self .entries) (a .at) (a .t1 .count - 1) (omega arith) (omega (arith, right-elim (a .t1) r .few)) (subst (λ (n : ℕ). Closing (a .t1 .entries) (l .self .entries) (a .at) n) i (l .inv .3))
+    (close-end (a .t1 .entries) (l .held .entries) (a .at) (a .t1 .count - 1) (omega arith) (omega (arith, right-elim (a .t1) r .few)) (subst (λ (n : ℕ). Closing (a .t1 .entries) (l .held .entries) (a .at) n) i (l .inv .3))
     (λ k p q. right-vacant (a .t1) r k (omega arith) (omega arith)))
 
 pub closed-spec : {M : Type 1} → statement M

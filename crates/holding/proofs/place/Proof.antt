@@ -6,17 +6,18 @@ use native.Mathlib.Nat.{zero-add}
 use native.Mathlib.Omega.{arith}
 use lib.ListN.{drop, take}
 use borrow.Author.Needs.{needs}
-use Rattle.rules.proofs.Scan.{place-end, place-here, place-more, right-count, right-elim, right-inside}
+use Rattle.holding.proofs.Steps.{place-end, place-here, place-more}
+use Rattle.rules.proofs.Scan.{right-count, right-elim, right-inside}
 use Rattle.rules.specs.Held.{meaning}
-use Rattle.rules.specs.Placing.{placeOf}
-use Rattle.rules.proofs.Held.place.Statement.{statement}
-use Rattle.rules.proofs.Held.place.Tie as tie
+use Rattle.holding.specs.Placing.{placeOf}
+use Rattle.holding.proofs.place.Statement.{statement}
+use Rattle.holding.proofs.place.Tie as tie
 
 abbrev Inv-loop : tie.InvT-loop
-Inv-loop entry self count j₀ j = (j ≤ count) × (placeOf (meaning entry) (map meaning (take count (self .entries))) ≡ j + placeOf (meaning entry) (drop j (map meaning (take count (self .entries)))))
+Inv-loop entry held count j₀ j = (j ≤ count) × (placeOf (meaning entry) (map meaning (take count (held .entries))) ≡ j + placeOf (meaning entry) (drop j (map meaning (take count (held .entries)))))
 
 abbrev μ-loop : tie.MeasureT-loop
-μ-loop entry self count j₀ j = count - j
+μ-loop entry held count j₀ j = count - j
 
 loop-holds : tie.Need-loop-holds Inv-loop μ-loop
 loop-holds c = (omega arith, sym (zero-add _))

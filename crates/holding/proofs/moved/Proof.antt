@@ -4,18 +4,18 @@ use Prim.Native.Nat.{_+_, _-_, _≤_, ℕ}
 use native.Mathlib.Omega.{arith}
 use lib.ListN.{getD, length, set}
 use borrow.Author.Needs.{needs}
-use Rattle.rules.proofs.Moving.{Shifting, shift-more, shift-none, shift-put}
+use Rattle.holding.proofs.Moving.{Shifting, shift-more, shift-none, shift-put}
 use Rattle.rules.proofs.Steps.{beyond, length-mapped}
-use Rattle.rules.specs.Placing.{withEntries}
+use Rattle.holding.specs.Placing.{withEntries}
 use Rattle.rules.specs.declared.Held.{Held}
-use Rattle.rules.proofs.Held.moved.Statement.{statement}
-use Rattle.rules.proofs.Held.moved.Tie as tie
+use Rattle.holding.proofs.moved.Statement.{statement}
+use Rattle.holding.proofs.moved.Tie as tie
 
 abbrev Inv-loop : tie.InvT-loop
-Inv-loop at entry self₀ count i₀ self i = (at ≤ i) × (i ≤ count) × Shifting (self₀ .entries) (self .entries) i count × (self ≡ withEntries self₀ count (self .entries))
+Inv-loop at entry held₀ count i₀ held i = (at ≤ i) × (i ≤ count) × Shifting (held₀ .entries) (held .entries) i count × (held ≡ withEntries held₀ count (held .entries))
 
 abbrev μ-loop : tie.MeasureT-loop
-μ-loop at entry self₀ count i₀ self i = i
+μ-loop at entry held₀ count i₀ held i = i
 
 loop-holds : tie.Need-loop-holds Inv-loop μ-loop
 loop-holds c = (omega arith, omega arith, shift-none _ _, refl)
@@ -27,8 +27,8 @@ loop-again c =
     let e : length (a .t1 .entries) ≡ 256 = search (needs, length-mapped) in (
       omega arith,
       omega arith,
-      shift-more (a .t1 .entries) (l .self .entries) (l .i) (a .t1 .count) (omega arith) (omega arith) (omega arith) (l .inv .2),
-      ap (λ (s : Held). withEntries s (s .count) (set (l .self .entries) (l .i) (getD (l .self .entries) (l .i - 1) beyond))) (l .inv .3),
+      shift-more (a .t1 .entries) (l .held .entries) (l .i) (a .t1 .count) (omega arith) (omega arith) (omega arith) (l .inv .2),
+      ap (λ (s : Held). withEntries s (s .count) (set (l .held .entries) (l .i) (getD (l .held .entries) (l .i - 1) beyond))) (l .inv .3),
     )
 
 returns : tie.Need-returns Inv-loop μ-loop
@@ -37,9 +37,9 @@ returns c =
     let a = c .before .before .args in
     let e : length (a .t1 .entries) ≡ 256 = search (needs, length-mapped) in
     let i : l .i ≡ a .at = omega arith in
-    ap (λ (s : Held). withEntries s (a .t1 .count + 1) (set (l .self .entries) (a .at) (a .entry))) (l .inv .3)
+    ap (λ (s : Held). withEntries s (a .t1 .count + 1) (set (l .held .entries) (a .at) (a .entry))) (l .inv .3)
     ∙ ap (withEntries (a .t1) (a .t1 .count + 1))
-    (shift-put (a .t1 .entries) (a .at) (a .t1 .count) (a .entry) (omega arith) (omega arith) (l .self .entries) (subst (λ (n : ℕ). Shifting (a .t1 .entries) (l .self .entries) n (a .t1 .count)) i (l .inv .2)))
+    (shift-put (a .t1 .entries) (a .at) (a .t1 .count) (a .entry) (omega arith) (omega arith) (l .held .entries) (subst (λ (n : ℕ). Shifting (a .t1 .entries) (l .held .entries) n (a .t1 .count)) i (l .inv .2)))
 
 pub moved-spec : {M : Type 1} → statement M
 moved-spec =

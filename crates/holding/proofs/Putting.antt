@@ -1,23 +1,26 @@
--- One more put in its place: what `put` makes of a list, and that the code makes the same of the places. Assumes nothing.
+-- One more put in its place: what `put` makes of a list, also of one in order, and that the code makes the same of the places. Assumes nothing.
 use mathlib.Core.Bool.{Bool, false, true}
 use mathlib.Core.List.{List, List·Memᴰ·cases-cons, List·Memᴰ as Mem, [], _∷_, List·Memᴰ·head as here, map, List·Memᴰ·tail as there}
 use mathlib.Core.Logic.{_⊎_, inl, inr, ⊎-elim}
-use mathlib.Core.Path.{_∙_, _≡_, ap, ap₂, refl, sym}
+use mathlib.Core.Path.{_∙_, _≡_, ap, ap₂, refl, subst, sym}
 use Prim.Native.Nat.{_+_, _-_, _<_, _≤_, suc, zero, ℕ}
 use native.Mathlib.Decide.{decLt}
 use native.Mathlib.Nat.{eq-or-lt-of-le, le-of-suc-le-suc, not-suc-le-zero}
 use native.Mathlib.Omega.{arith}
 use lib.ListN.{List·getD-eq-default, getD, length}
+use Rattle.rules.proofs.Order.{ahead-total, mem-same, ordered-cons, ordered-head, ordered-tail}
+use Rattle.rules.specs.Items.{sameJustification}
+use Rattle.theory.proofs.Lists.{and-intro, clash, either}
 use Rattle.rules.proofs.Entries.{entry-again, entry-at, nothingSaid, places, said-many}
-use Rattle.rules.proofs.Moving.{insert-here, insert-high, insert-length, insert-low, insert-moved}
+use Rattle.holding.proofs.Moving.{insert-here, insert-high, insert-length, insert-low, insert-moved}
 use Rattle.rules.proofs.Scan.{right-elim}
 use Rattle.rules.proofs.Steps.{beyond}
-use Rattle.rules.specs.Held.{entryOf, fitting, heldOf, heldRight, meaning, put, saidBy, vacant}
-use Rattle.rules.specs.Placing.{insertAt, placeOf, withEntries}
+use Rattle.rules.specs.Held.{entryOf, fitting, heldOf, heldRight, meaning, ordered, put, saidBy, vacant}
+use Rattle.holding.specs.Placing.{insertAt, placeOf, withEntries}
 use Rattle.rules.specs.declared.Entry.{Entry}
 use Rattle.rules.specs.declared.Held.{Held}
 use Rattle.theory.proofs.Places.{is-table}
-use Rattle.theory.specs.Lists.{choose}
+use Rattle.theory.specs.Lists.{choose, someOf}
 use Rattle.theory.specs.Places.{padded}
 use Rattle.theory.specs.Stages.{Justification, ahead}
 
@@ -103,6 +106,23 @@ module _ (r : Justification) where
       go true zero h f = absurd (not-suc-le-zero h)
       go true (suc i) h f = f i (le-of-suc-le-suc h)
       go false i h f = refl
+
+-- ---- the order
+put-among : (r : Justification) (l : List Justification) → ordered l ≡ true → (Mem r l → ⊥) → ordered (put r l) ≡ true
+unfolding put ordered
+put-among r [] h f = refl
+put-among r (t ∷ l) h f =
+    go (either (ahead t r)) (put-among r l (ordered-tail t l h) (λ m. f (there m)))
+  where
+    go : (ahead t r ≡ true) ⊎ (ahead t r ≡ false) → ordered (put r l) ≡ true → ordered (choose (ahead t r) (t ∷ put r l) (r ∷ t ∷ l)) ≡ true
+    go (inl a) o =
+        rw a (ordered-cons t (put r l) (λ j m. ⊎-elim (λ (q : j ≡ r). subst (λ (u : Justification). ahead t u ≡ true) (sym q) a) (λ n. ordered-head t l h j n) (put-cases r l m)) o)
+    go (inr a) o =
+        rw a (and-intro (⊎-elim (λ (q : t ≡ r). absurd (f (here (sym q)))) (⊎-elim (λ b. clash b a) (λ b. b)) (ahead-total t r)) h)
+
+-- a new one put into a list in order leaves it in order
+pub put-ordered : (r : Justification) (l : List Justification) → ordered l ≡ true → someOf (sameJustification r) l ≡ false → ordered (put r l) ≡ true
+put-ordered r l h s = put-among r l h (λ m. clash (mem-same r l m) s)
 
 -- ---- the places
 module _ (h : Held) (right : heldRight h ≡ true) (e : Entry) (a : ℕ) (so : a ≡ placeOf (meaning e) (saidBy h)) where

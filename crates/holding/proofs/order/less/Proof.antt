@@ -4,10 +4,10 @@ use Prim.Native.Nat.{_-_, _≤_}
 use native.Mathlib.Omega.{arith}
 use lib.ListN.{drop, length}
 use borrow.Author.Needs.{needs}
-use Rattle.rules.proofs.Steps.{less-end, less-more, less-no, less-yes}
+use Rattle.holding.proofs.Steps.{less-end, less-more, less-no, less-yes}
 use Rattle.theory.specs.Stages.{lesser}
-use Rattle.rules.proofs.lists.less.Statement.{statement}
-use Rattle.rules.proofs.lists.less.Tie as tie
+use Rattle.holding.proofs.order.less.Statement.{statement}
+use Rattle.holding.proofs.order.less.Tie as tie
 
 abbrev Inv-loop : tie.InvT-loop
 Inv-loop a b i₀ i = (i ≤ length a) × (lesser a b ≡ lesser (drop i a) (drop i b))
