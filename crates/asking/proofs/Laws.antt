@@ -19,7 +19,7 @@ use Rattle.asking.specs.declared.Found.the-variants.{Is, Not}
 use Rattle.asking.specs.declared.Shown.{Shown}
 use Rattle.following.proofs.Places.{all-told}
 use Rattle.following.specs.Marks.{allMarks}
-use Rattle.labels.specs.Promised.{firstWithin}
+use Rattle.members.specs.Promised.{firstWithin}
 use Rattle.replies.specs.Replies.{numberOf}
 use Rattle.replies.specs.declared.Reply.{Reply}
 use Rattle.replies.specs.declared.Reply.the-variants.{Done, Number, Place, Shape, Short}

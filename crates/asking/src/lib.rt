@@ -10,7 +10,7 @@ ghost use mathlib.Core.List.{_++_};
 ghost use mathlib.Core.Path.{_≡_};
 ghost use Prim.Native.Nat.{_+_, _≤_, _<_};
 ghost use lib.ListN.{length, take, drop};
-ghost use Rattle.labels.specs.Promised.{firstWithin};
+ghost use Rattle.members.specs.Promised.{firstWithin};
 ghost use Rattle.following.specs.Marks.{allMarks};
 ghost use Rattle.store.specs.Reading.{contradictedIn, unlabelled};
 ghost use Rattle.theory.specs.Limits.{limits};
@@ -48,7 +48,7 @@ fn reach(l: &[Set], from: usize, count: usize, e: Set) -> usize
     ensures { λ r. ⌜ r ≡ firstWithin (take count (drop from (now (l .entry)))) e ⌝ }
 {
     let to = from + count;
-    labels::first_within(&l[from..to], e)
+    members::first_within(&l[from..to], e)
 }
 
 // What the store's lists say of n and e, and why.

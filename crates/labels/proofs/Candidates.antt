@@ -6,8 +6,8 @@ use Prim.Native.Nat.{_+_, _<_, _≤_, zero, ℕ}
 use lib.Dec.{eqb}
 use lib.ListN.{getD, length}
 use borrow.Author.Tests.{eq-eqb, eqb-false, eqb-true, ne-eqb}
-use Rattle.labels.proofs.Pools.{rest-cons, rest-none}
-use Rattle.labels.specs.Layout.{between}
+use Rattle.joining.proofs.Pools.{rest-cons, rest-none}
+use Rattle.labels.specs.Entries.{between}
 use Rattle.rules.specs.Held.{meaning}
 use Rattle.rules.specs.declared.Entry.{Entry}
 use Rattle.theory.specs.Lists.{each, keep, those}

@@ -1,11 +1,4 @@
-pub mod First
-pub mod Pools
 pub mod Selects
-pub mod Lying
-pub mod Refusals
-pub mod Reasons
-pub mod Gathers
-pub mod Loops
 pub mod Candidates
 pub mod Walks
 pub mod Stirring

@@ -9,7 +9,8 @@ use native.Mathlib.Omega.{arith}
 use lib.ListN.{drop, length, length-append, length-take, take, take-append-drop}
 use lib.Seq.{take-append-add}
 use borrow.Author.Tests.{not-true}
-use Rattle.labels.proofs.Selects.{Sound, placed-past, sound-in, sound-take}
+use Rattle.labels.proofs.Selects.{Sound, sound-in, sound-take}
+use Rattle.joining.proofs.Placed.{placed-past}
 use Rattle.theory.proofs.Label.{contains-elim, contains-intro}
 use Rattle.theory.proofs.Lists.{clash, not-so, those-elim, those-intro}
 use Rattle.theory.proofs.Order.{before-asym, before-irrefl, before-trans, sorted-head, sorted-tail, sorted-those, sorted-unique}
@@ -17,8 +18,8 @@ use Rattle.theory.proofs.Select.{Selection, within-before}
 use Rattle.theory.proofs.Sets.{within-antisym, within-trans}
 use Rattle.theory.specs.Lists.{choose, keep, sortedBy, those}
 use Rattle.theory.specs.Sets.{before, contains, within}
-use Rattle.labels.proofs.Refusals.{enters-parts, late-up, refused-all, refused-cases, well-stays}
-use Rattle.labels.specs.Pool.{Filled, Refused, Well, entered, enters, lateBy, offered, offeredAll, placed, purged}
+use Rattle.joining.proofs.Refusals.{enters-parts, late-up, refused-all, refused-cases, well-stays}
+use Rattle.joining.specs.Pool.{Filled, Refused, Well, entered, enters, lateBy, offered, offeredAll, placed, purged}
 
 -- ---- whatever went out, the pool holds only what it may hold
 module _ (room : ℕ) (struck cands : List ℕ) where

@@ -6,10 +6,11 @@ use Prim.Native.Nat.{_+_, _-_, _<_, _≤_, suc, zero, ℕ}
 use native.Mathlib.Omega.{arith}
 use lib.ListN.{drop, getD, length, length-drop, length-take, take}
 use lib.Seq.{getD-drop, getD-take}
-use Rattle.labels.proofs.Selects.{at-mem}
-use Rattle.labels.specs.Layout.{Few, Joinable, Ranged, between, entriesOf, entryAt}
+use Rattle.members.proofs.First.{at-mem}
+use Rattle.labels.specs.Entries.{Few, Joinable, between, entriesOf, entryAt}
+use Rattle.joining.specs.Layout.{Ranged}
 use Rattle.labels.specs.Moved.{Hushed}
-use Rattle.labels.specs.Pool.{Filled}
+use Rattle.joining.specs.Pool.{Filled}
 use Rattle.rules.proofs.Entries.{Fits, fits-elim}
 use Rattle.rules.proofs.Laws.{climbs-between}
 use Rattle.rules.proofs.Scan.{right-elim}

@@ -1,5 +1,4 @@
-pub mod Pool
-pub mod Layout
+pub mod Entries
 pub mod Moved
 pub mod Promised
 pub mod Readings

@@ -6,7 +6,7 @@ use mathlib.Core.Path.{_≡_}
 use Prim.Native.Nat.{_+_, zero, ℕ}
 use lib.Dec.{eqb}
 use lib.ListN.{getD, length}
-use Rattle.labels.specs.Pool.{Filled, Refused}
+use Rattle.joining.specs.Pool.{Filled, Refused}
 use Rattle.theory.specs.Limits.{limits}
 use Rattle.theory.specs.Lists.{someOf}
 use Rattle.theory.specs.Sets.{contains}

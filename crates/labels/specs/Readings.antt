@@ -4,7 +4,7 @@ use mathlib.Core.Option.{none, some}
 use mathlib.Core.Path.{_≡_}
 use Prim.Native.Nat.{ℕ}
 use lib.Count.{ones}
-use Rattle.labels.specs.Pool.{Filled, enters, offeredAll, placed, purged}
+use Rattle.joining.specs.Pool.{Filled, enters, offeredAll, placed, purged}
 use Rattle.theory.specs.Lists.{someOf, those}
 use Rattle.theory.specs.Sets.{before, contains, within}
 use Rattle.theory.specs.Step.{free}

@@ -1,128 +1,29 @@
 // One list of the next stage, in listing order: by a pool of the smallest candidates seen so far, in one walk over the candidates
 // where nothing went out for want of room, else in several, each of which begins with what the one before found.
-mod pool;
-
-use pool::Fill;
-use pool::POOL;
+use joining::MEMBERS;
+use joining::pool::Fill;
+use joining::pool::POOL;
 use rules::Entry;
 use sets::Set;
 use theory::HELD;
-use theory::LABEL;
 use theory::NOGOODS;
 use theory::NUMBERS;
 use theory::SUPPORTS;
-ghost use mathlib.Core.Bool.{false};
 ghost use mathlib.Core.List.{[], _∷_, map};
 ghost use mathlib.Core.Path.{_≡_};
 ghost use Prim.Native.Nat.{_+_, _<_, _≤_};
 ghost use lib.ListN.{length, take};
+ghost use Rattle.joining.specs.Layout.{Layout, Ranged, lying};
+ghost use Rattle.joining.specs.Pool.{Offered, Roomy, filled};
 ghost use Rattle.rules.specs.Held.{meaning};
 ghost use Rattle.theory.specs.Limits.{limits};
-ghost use Rattle.theory.specs.Step.{joins, joinsFor};
-ghost use Rattle.labels.specs.Layout.{Few, Joinable, Layout, Ranged, between, entriesOf, entryAt, lying};
+ghost use Rattle.theory.specs.Step.{joinsFor};
+ghost use Rattle.labels.specs.Entries.{Few, Joinable, between, entriesOf, entryAt};
 ghost use Rattle.labels.specs.Moved.{Hushed, Still, stirs};
-ghost use Rattle.labels.specs.Pool.{Barred, Gathered, Offered, Roomy, boundOf, filled, lateBy};
-ghost use Rattle.labels.specs.Promised.{Build, FirstWithin, builtOf};
-
-// The set of all assumptions that a set can have.
-const ALL: Set = !0;
-
-// Places for the members of all labels.
-pub const MEMBERS: usize = NUMBERS * LABEL;
+ghost use Rattle.labels.specs.Promised.{Build, builtOf};
 
 // Places for all justifications, a byte for each field and support.
 pub const BYTES: usize = HELD * (SUPPORTS + 2);
-
-// The place of the first member that lies within e, or the count of members.
-pub fn first_within(list: &[Set], e: Set) -> usize
-    ensures { λ r. ⌜ FirstWithin (now (list .entry)) e r ⌝ }
-{
-    let count = list.len();
-    let others = sets::without(ALL, e);
-    let mut i = 0;
-    let place = loop {
-        if count <= i {
-            break count;
-        }
-        if sets::meet(list[i], others) == 0 {
-            break i;
-        }
-        i += 1;
-    };
-    place
-}
-
-// Whether a set struck or of the list lies within e, and which.
-enum Bar {
-    Free,
-    By(Set),
-}
-
-// The first set struck that lies within e, else the first of so many of the list.
-fn barred(struck: &[Set], list: &[Set], count: usize, e: Set) -> Bar
-    requires { ⌜ count ≤ length (now list) ⌝ }
-    ensures { λ r. ⌜ Barred (now (struck .entry)) (take count (now (list .entry))) e r ⌝ }
-{
-    let i = first_within(struck, e);
-    if i < struck.len() {
-        return Bar::By(struck[i]);
-    }
-    let k = first_within(&list[..count], e);
-    if k < count {
-        return Bar::By(list[k]);
-    }
-    Bar::Free
-}
-
-// Each join of one member of the label of each support left offered to the pool; what is joined is not late.
-// why: each of these joins contains a set that is refused from now on and lies within why. So a later member whose joined set contains
-// the part within why of an earlier one has only joins that are refused, and is passed over: that part is spent.
-fn gather<'a>(
-    members: &'a [Set; MEMBERS],
-    sizes: &'a [u8; NUMBERS],
-    supports: &[u8],
-    struck: &[Set],
-    joined: Set,
-    pool: &mut [Set; POOL],
-    fill: Fill,
-) -> Fill
-    requires { ⌜ Layout (now members) (now sizes) × Ranged (now supports) × Roomy (now pool) fill × (lateBy (boundOf fill) joined ≡ false) ⌝ }
-    ensures { λ r. ⌜ Gathered (now (struck .entry)) (joins (lying (now (members .entry)) (now (sizes .entry))) joined (now (supports .entry))) (now (pool .entry)) fill (now (pool .exit)) r × (length (now (pool .exit)) ≡ length (now (pool .entry))) ⌝ }
-{
-    let count = fill.count;
-    let bar = barred(struck, pool, count, joined);
-    if let Bar::By(t) = bar {
-        return fill.because(t);
-    }
-    if supports.len() < 1 {
-        return pool::enter(pool, fill, joined);
-    }
-    let i = supports[0] as usize - 1;
-    let size = sizes[i] as usize;
-    let from = LABEL * i;
-    let left = &supports[1..];
-    let mut spent: [Set; LABEL] = [0; LABEL];
-    let mut n = 0;
-    let mut why = 0;
-    let mut now = fill;
-    let mut k = 0;
-    while k < size {
-        let g = sets::union(joined, members[from + k]);
-        k += 1;
-        if pool::late(now, g) {
-            why = sets::union(why, g);
-            continue;
-        }
-        if first_within(&spent[..n], g) < n {
-            continue;
-        }
-        now = gather(members, sizes, left, struck, g, pool, now);
-        why = sets::union(why, now.why);
-        spent[n] = sets::meet(g, now.why);
-        n += 1;
-    }
-    now.because(why)
-}
 
 // Each set of the list offered to the pool.
 fn pour<'a>(
@@ -142,10 +43,10 @@ fn pour<'a>(
     while i < list.len() {
         let e = list[i];
         i += 1;
-        if pool::late(now, e) {
+        if joining::pool::late(now, e) {
             continue;
         }
-        now = gather(members, sizes, &none[..0], struck, e, pool, now);
+        now = joining::gather(members, sizes, &none[..0], struck, e, pool, now);
     }
     now
 }
@@ -191,12 +92,12 @@ fn joined<'a>(
     if !stirred(entry, moved) {
         return fill;
     }
-    if pool::late(fill, 0) {
+    if joining::pool::late(fill, 0) {
         return fill;
     }
     let most = entry.count as usize;
     let supports = entry.supports;
-    gather(members, sizes, &supports[..most], struck, 0, pool, fill)
+    joining::gather(members, sizes, &supports[..most], struck, 0, pool, fill)
 }
 
 // The justification at a place, of those that lie in six bytes each.

@@ -5,7 +5,7 @@ use mathlib.Core.Logic.{_↔_}
 use mathlib.Core.Path.{_∙_, _≡_, ap, ap₂, refl, subst, sym}
 use Prim.Native.Nat.{_+_, _<_, _^_, _≤_, suc, zero, ℕ}
 use native.Mathlib.Omega.{arith}
-use Rattle.labels.specs.Layout.{lying}
+use Rattle.joining.specs.Layout.{lying}
 use Rattle.promises.proofs.Form.{Form, form-a, form-lists, form-ranged, form-said, form-settled}
 use Rattle.promises.proofs.InOrder.{in-order-from, in-order-to}
 use Rattle.promises.proofs.Right.{form-room, form-stage}

@@ -19,8 +19,8 @@ use Rattle.items.proofs.record as record-at
 use Rattle.items.proofs.record.Reads as record-reads
 use Rattle.labels.proofs.build as build-at
 use Rattle.labels.proofs.build.Reads as build-reads
-use Rattle.labels.proofs.first_within as first-within-at
-use Rattle.labels.proofs.first_within.Reads as first-within-reads
+use Rattle.members.proofs.first_within as first-within-at
+use Rattle.members.proofs.first_within.Reads as first-within-reads
 use Rattle.listing.proofs.listing as listing-at
 use Rattle.listing.proofs.listing.Reads as listing-reads
 use Rattle.listing.proofs.printed as printed-at

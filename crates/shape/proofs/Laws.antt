@@ -12,7 +12,7 @@ use lib.ListN.{drop, drop-of-length-le, getD, length, length-drop, length-take, 
 use lib.Pow.{pow-pos}
 use lib.Seq.{drop-cons, getD-drop, getD-take, length-take-le}
 use borrow.Author.Tests.{eq-eqb, eqb-true, le-leb, leb-true, lt-leb, lt-ltb, ltb-true}
-use Rattle.labels.proofs.Selects.{at-mem}
+use Rattle.members.proofs.First.{at-mem}
 use Rattle.shape.proofs.Elim.{Listed, listed-elim, listed-intro}
 use Rattle.shape.proofs.Runs.{mem-place}
 use Rattle.shape.specs.Shape.{apart, labelRight, labelsRight, listed, listsRight, rowRight, standing, unionOf}

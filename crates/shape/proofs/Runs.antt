@@ -10,9 +10,8 @@ use lib.Count.{ones}
 use lib.ListN.{getD, length, take}
 use lib.Seq.{getD-take, length-take-le}
 use borrow.Author.Tests.{le-ltb, lt-ltb}
-use Rattle.labels.proofs.First.{contains-first}
-use Rattle.labels.proofs.Selects.{at-mem}
-use Rattle.labels.specs.Promised.{firstWithin}
+use Rattle.members.proofs.First.{at-mem, contains-first}
+use Rattle.members.specs.Promised.{firstWithin}
 use Rattle.shape.specs.Shape.{apart}
 use Rattle.theory.proofs.Label.{contains-intro}
 use Rattle.theory.proofs.Lists.{and-intro, and-left, and-right, clash, not-so, some-elim}

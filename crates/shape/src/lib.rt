@@ -31,7 +31,7 @@ fn sorted(l: &[Set]) -> bool
             if e <= last {
                 return false;
             }
-            if labels::first_within(&l[..from], e) < from {
+            if members::first_within(&l[..from], e) < from {
                 return false;
             }
             last = e;
@@ -41,7 +41,7 @@ fn sorted(l: &[Set]) -> bool
         if n < ones {
             return false;
         }
-        if labels::first_within(&l[..i], e) < i {
+        if members::first_within(&l[..i], e) < i {
             return false;
         }
         from = i;

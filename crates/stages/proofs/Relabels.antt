@@ -8,7 +8,7 @@ use native.Mathlib.Omega.{arith}
 use lib.Dec.{eqb}
 use lib.ListN.{getD, getD-replicate, length, length-replicate, replicate, set, take}
 use lib.Seq.{paste}
-use Rattle.labels.specs.Layout.{lying}
+use Rattle.joining.specs.Layout.{lying}
 use Rattle.labels.specs.declared.Built.{Built}
 use Rattle.rules.specs.Held.{saidBy}
 use Rattle.rules.specs.declared.Held.{Held}

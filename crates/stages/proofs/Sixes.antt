@@ -6,7 +6,7 @@ use native.Mathlib.Decide.{decLt}
 use native.Mathlib.Omega.{arith}
 use lib.ListN.{getD, length, length-set, set}
 use lib.Seq.{getD-set-other, getD-set-same}
-use Rattle.labels.specs.Layout.{entriesOf, entryAt}
+use Rattle.labels.specs.Entries.{entriesOf, entryAt}
 use Rattle.rules.proofs.Entries.{length-padded, places}
 use Rattle.rules.proofs.Scan.{right-elim}
 use Rattle.rules.proofs.Steps.{beyond, four}

@@ -8,8 +8,8 @@ use native.Mathlib.Omega.{arith}
 use lib.ListN.{List·getD-eq-default, drop, getD, length, replicate, set, take}
 use lib.Seq.{ext-getD}
 use borrow.Author.Tests.{ltb-false}
-use Rattle.labels.proofs.Lying.{lying-at, lying-length}
-use Rattle.labels.specs.Layout.{Layout, lying}
+use Rattle.joining.proofs.Lying.{lying-at, lying-length}
+use Rattle.joining.specs.Layout.{Layout, lying}
 use Rattle.replies.specs.declared.Reply.{Reply}
 use Rattle.rules.proofs.Entries.{length-padded, unpadded}
 use Rattle.stages.proofs.Tables.{replicate-table}

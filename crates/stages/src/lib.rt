@@ -1,7 +1,7 @@
 // The lists of a stage, from one stage to the next, and the walk to the depth.
+use joining::MEMBERS;
 use labels::BYTES;
 use labels::Built;
-use labels::MEMBERS;
 use replies::Reply;
 use rules::Entry;
 use rules::Held;
@@ -20,7 +20,8 @@ ghost use lib.Seq.{paste};
 ghost use Rattle.theory.specs.Limits.{limits};
 ghost use Rattle.theory.specs.Lists.{allOf, choose};
 ghost use Rattle.rules.specs.Held.{meaning, saidBy};
-ghost use Rattle.labels.specs.Layout.{Few, Ranged, entriesOf};
+ghost use Rattle.labels.specs.Entries.{Few, entriesOf};
+ghost use Rattle.joining.specs.Layout.{Ranged};
 ghost use Rattle.labels.specs.Moved.{stirs};
 ghost use Rattle.labels.specs.Promised.{builtOf};
 ghost use Rattle.theory.specs.Judge.{sameSets};
@@ -300,7 +301,7 @@ fn strike(list: &[Set], struck: &[Set]) -> Built
     let mut i = 0;
     while i < list.len() {
         let e = list[i];
-        if labels::first_within(struck, e) == struck.len() {
+        if members::first_within(struck, e) == struck.len() {
             sets[count] = e;
             count += 1;
         }

@@ -6,7 +6,8 @@ use native.Mathlib.Omega.{arith}
 use lib.Seq.{length-take-le}
 use borrow.Author.Tests.{not-false, not-true}
 use Rattle.labels.proofs.Rounds.{Rounding, half-hushed, half-roomy, rounding-done, rounding-full, rounding-more, rounding-none, rounding-on, rounding-roomy}
-use Rattle.labels.specs.Layout.{between, entriesOf, lying}
+use Rattle.labels.specs.Entries.{between, entriesOf}
+use Rattle.joining.specs.Layout.{lying}
 use Rattle.rules.specs.Held.{meaning}
 use Rattle.theory.specs.Step.{candidates, joinsFor}
 use Rattle.labels.proofs.build.Statement.{statement}

@@ -7,7 +7,7 @@ use borrow.Author.Needs.{needs}
 use Rattle.labels.proofs.Candidates.{joins-not, joins-so}
 use Rattle.labels.proofs.Stirring.{hushed-offered}
 use Rattle.labels.proofs.Walks.{all-late, as-offered, none-offered}
-use Rattle.labels.specs.Layout.{lying}
+use Rattle.joining.specs.Layout.{lying}
 use Rattle.rules.specs.Held.{meaning}
 use Rattle.labels.proofs.joined.Statement.{statement}
 use Rattle.labels.proofs.joined.Tie as tie

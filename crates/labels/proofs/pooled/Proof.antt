@@ -8,9 +8,10 @@ use borrow.Author.Needs.{needs}
 use Rattle.labels.proofs.Candidates.{joins-on, joins-over}
 use Rattle.labels.proofs.Ranges.{entries-long, entry-is, part-few, part-hushed, part-ranged}
 use Rattle.labels.proofs.Walks.{Left, left-all, left-end, left-hushed, left-roomy}
-use Rattle.labels.specs.Layout.{Few, Ranged, between, entriesOf, lying}
+use Rattle.labels.specs.Entries.{Few, between, entriesOf}
+use Rattle.joining.specs.Layout.{Ranged, lying}
 use Rattle.labels.specs.Moved.{Hushed}
-use Rattle.labels.specs.Pool.{Offered, filled}
+use Rattle.joining.specs.Pool.{Offered, filled}
 use Rattle.rules.proofs.Steps.{beyond}
 use Rattle.rules.specs.Held.{meaning}
 use Rattle.rules.specs.declared.Entry.{Entry}

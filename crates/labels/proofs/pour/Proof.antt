@@ -5,7 +5,7 @@ use Prim.Native.Nat.{_-_, _≤_}
 use native.Mathlib.Omega.{arith}
 use lib.ListN.{drop, drop-of-length-le, length}
 use borrow.Author.Needs.{needs}
-use Rattle.labels.proofs.Lying.{ranged-none}
+use Rattle.joining.proofs.Lying.{ranged-none}
 use Rattle.labels.proofs.Walks.{Left, alone-offered, late-offered, left-all, left-end, left-roomy, left-turn, list-on}
 use Rattle.labels.proofs.pour.Statement.{statement}
 use Rattle.labels.proofs.pour.Tie as tie

@@ -3,7 +3,7 @@ use mathlib.Core.Path.{_∙_, _≡_, ap, refl}
 use Prim.Native.Nat.{_*_, _-_, _<_, _≤_, ℕ}
 use native.Mathlib.Omega.{arith}
 use lib.ListN.{getD, length}
-use Rattle.labels.specs.Layout.{entryAt}
+use Rattle.labels.specs.Entries.{entryAt}
 use Rattle.rules.proofs.Entries.{length-padded, places}
 use Rattle.rules.proofs.Steps.{beyond, length-mapped}
 use Rattle.rules.specs.declared.Entry.{Entry}

@@ -1,5 +1,5 @@
 -- `stages::marked` meets its contract. Assumes nothing.
-use Rattle.labels.proofs.Pools.{choose-no, choose-yes}
+use Rattle.joining.proofs.Pools.{choose-no, choose-yes}
 use borrow.Author.Needs.{needs}
 use Rattle.stages.proofs.marked.Statement.{statement}
 use Rattle.stages.proofs.marked.Tie as tie

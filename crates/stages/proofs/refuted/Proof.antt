@@ -6,7 +6,7 @@ use native.Mathlib.Omega.{arith}
 use lib.ListN.{take}
 use lib.Seq.{length-take-le}
 use borrow.Author.Needs.{needs}
-use Rattle.labels.specs.Layout.{between}
+use Rattle.labels.specs.Entries.{between}
 use Rattle.labels.specs.Promised.{Build}
 use Rattle.rules.specs.Held.{meaning}
 use mathlib.Core.List.{map}
