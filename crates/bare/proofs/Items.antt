@@ -21,6 +21,7 @@ use Rattle.replies.specs.declared.Reply.the-variants.{Done}
 use Rattle.rules.proofs.Laws.{Ranged, faultless-ranged}
 use Rattle.store.specs.Calls.{isDone}
 use Rattle.theory.proofs.Lists.{clash}
+use Rattle.theory.specs.Limits.{limits}
 use Rattle.theory.specs.Lists.{choose}
 use Rattle.theory.specs.Stages.{Justification}
 
@@ -72,7 +73,7 @@ module _ (N : ℕ) where
       let c = done-cases (faultOfItem N x) (faultsOf N l) d in
       ⊎-elim (λ (e : j ≡ justOf N x). subst (Ranged N) (sym e) (faultless-ranged N (x .consequent) (suppliedBy x) (c .0))) (λ k. faultless-all l (c .1) j k) (List·Memᴰ·cases-cons m)
 
-  pub bare-placed : N ≤ 128 → (l : List Handed) → faultsOf N l ≡ Done → Placed (barely N l)
+  pub bare-placed : N ≤ limits .numbers → (l : List Handed) → faultsOf N l ≡ Done → Placed (barely N l)
   bare-placed h l d = record {
     consequents = λ j m. omega (arith, h, faultless-all l d j m .low);
     supports = λ j m s i. omega (arith, h, faultless-all l d j m .between s i .1);

@@ -8,11 +8,12 @@ use lib.Seq.{take-all}
 use borrow.Author.Tests.{le-ltb}
 use Rattle.handed.specs.Supplied.{suppliedBy}
 use Rattle.handed.specs.declared.Handed.{Handed}
+use Rattle.theory.specs.Limits.{limits}
 
--- an item of four supports or fewer
-pub supplied-few : (h : Handed) → h .count ≤ 4 → take (h .count) (h .supports) ≡ suppliedBy h
+-- an item of no more supports than the limit
+pub supplied-few : (h : Handed) → h .count ≤ limits .supports → take (h .count) (h .supports) ≡ suppliedBy h
 unfolding suppliedBy
-supplied-few h p = rw (le-ltb 4 (h .count) p)
+supplied-few h p = rw (le-ltb (limits .supports) (h .count) p)
 
 -- the first n of a list of m are all, where n is more
 pub taken-all : (l : List Handed) (m n : ℕ) → length l ≡ m → m < n → take m l ≡ take n l

@@ -24,6 +24,7 @@ use Rattle.store.specs.Calls.{addOf, answer}
 use Rattle.store.specs.Shape.{rightShape}
 use Rattle.store.specs.declared.Outcome.{Outcome}
 use Rattle.store.specs.declared.Store.{Store}
+use Rattle.theory.specs.Limits.{limits}
 
 -- no item
 abbrev pub noItem : Handed
@@ -76,12 +77,12 @@ all-right s (h ∷ l) t = all-right (giveOf s h .store) l (add-right s t (h .con
 
 -- ---- what is handed over
 
-pub supplied-five : (h : Handed) → 4 < h .count → 0 ∷ 0 ∷ 0 ∷ 0 ∷ 0 ∷ [] ≡ suppliedBy h
+pub supplied-five : (h : Handed) → limits .supports < h .count → 0 ∷ 0 ∷ 0 ∷ 0 ∷ 0 ∷ [] ≡ suppliedBy h
 unfolding suppliedBy
-supplied-five h p = rw (lt-ltb 4 (h .count) p)
+supplied-five h p = rw (lt-ltb (limits .supports) (h .count) p)
 
--- more than four: 6, whatever they are
-pub give-many : (s : Store) (h : Handed) → rightShape s ≡ true → 4 < h .count → answer Supports s ≡ giveOf s h
+-- more than the limit: 6, whatever they are
+pub give-many : (s : Store) (h : Handed) → rightShape s ≡ true → limits .supports < h .count → answer Supports s ≡ giveOf s h
 unfolding faultOf
 give-many s h t p = add-fault s (h .consequent) (0 ∷ 0 ∷ 0 ∷ 0 ∷ 0 ∷ []) t (λ (z : _≡_ {A = ℕ} 6 0). omega arith) ∙ ap (addOf s (h .consequent)) (supplied-five h p)
 

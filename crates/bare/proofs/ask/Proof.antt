@@ -86,6 +86,7 @@ use Rattle.bare.proofs.ask as all
 use Rattle.bare.proofs.ask.Statement as stated
 use Rattle.bare.proofs.ask.Code as code
 use Rattle.bare.proofs.ask.Code.Mir as mir′
+use Rattle.theory.specs.Limits.{limits}
 
 abbrev R : RattleType
 R = T.the-row
@@ -263,7 +264,7 @@ module _ {M : Type 1} (𝓤 : URA M) (H : Heap 𝓤) (A : Atoms 𝓤) (W : Given
   abbrev Lent : Chase → List (Item 𝓤)
   Lent c = ‵ (flft κ′ q₁) ∷ ‵ (chaseOwn c) ∷ ‵ askOwn ∷ ‵ MutOwn ∷ []
 
-  goes-finish : (c : Chase) → (c .assumptions ≤ 32) × (c .top ≤ 128) → ent 𝓤 (⋆ 𝓤 H A (Lent c)) (Finish 𝓤 H A mem run .pre (to-finish c))
+  goes-finish : (c : Chase) → (c .assumptions ≤ limits .assumptions) × (c .top ≤ limits .numbers) → ent 𝓤 (⋆ 𝓤 H A (Lent c)) (Finish 𝓤 H A mem run .pre (to-finish c))
   goes-finish c ok =
       qed W (Lent c) ∵ says ! ok $ nothing ! $ move ! (1 ∷ 0 ∷ []) $ join ! $ frame ! $
       nothing ! $ move ! (3 ∷ 0 ∷ []) $ fjoin ! $ move ! (2 ∷ 0 ∷ []) $ fjoin ! $ move ! (1 ∷ 0 ∷ []) $ fjoin ! $ done !
