@@ -10,7 +10,7 @@ use lib.Dec.{eqb, ltb}
 use lib.ListN.{drop, getD, length, length-drop, length-take, set, take}
 use lib.Seq.{drop-cons, getD-drop, getD-take, length-take-le, set-at}
 use borrow.Author.Tests.{le-leb, le-ltb, lt-leb, lt-ltb, ne-eqb}
-use Rattle.asking.specs.Asking.{Left, Room, byteOf, contextBytes, contextOf, contextReply, firstIn, left, memberAt, memberOf, questionOf, reasoned, standing}
+use Rattle.asking.specs.Asking.{Left, Room, byteOf, contextReply, firstIn, left, memberAt, memberOf, questionOf, reasoned, standing}
 use Rattle.asking.specs.declared.Answer.{Answer}
 use Rattle.asking.specs.declared.Answer.the-variants.{Inconsistent, Refused, Supported, Unsupported}
 use Rattle.asking.specs.declared.Asked.{Asked}
@@ -22,7 +22,7 @@ use Rattle.following.specs.Marks.{allMarks}
 use Rattle.labels.specs.Promised.{firstWithin}
 use Rattle.replies.specs.Replies.{numberOf}
 use Rattle.replies.specs.declared.Reply.{Reply}
-use Rattle.replies.specs.declared.Reply.the-variants.{Done, Number, Place, Shape, Short}
+use Rattle.replies.specs.declared.Reply.the-variants.{Done, Place, Short}
 use Rattle.shape.proofs.Elim.{label-few, lists-elim}
 use Rattle.stages.specs.declared.Lists.{Lists}
 use Rattle.store.proofs.Reading.{Readable, refused, refused-number, refused-set}
@@ -36,7 +36,7 @@ use Rattle.theory.specs.Cases.{from}
 use Rattle.theory.specs.Limits.{limits}
 use Rattle.theory.specs.Lists.{choose}
 use Rattle.theory.specs.Places.{table}
-use Rattle.theory.specs.Sets.{inRange, within}
+use Rattle.theory.specs.Sets.{within}
 
 -- ---- a part of a list
 part-length : (l : List ℕ) (from count : ℕ) → from + count ≤ length l → length (take count (drop from l)) ≡ count

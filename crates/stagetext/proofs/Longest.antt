@@ -2,8 +2,8 @@
 use mathlib.Core.Bool.{Bool, _&&_, false, true}
 use mathlib.Core.List.{List, [], _∷_}
 use mathlib.Core.Logic.{⊎-elim}
-use mathlib.Core.Path.{_∙_, _≡_, ap, refl, subst, sym}
-use Prim.Native.Nat.{_*_, _+_, _<_, _≤_, suc, zero, ℕ}
+use mathlib.Core.Path.{_≡_, ap, refl, subst}
+use Prim.Native.Nat.{_+_, _<_, _≤_, suc, zero, ℕ}
 use native.Mathlib.Numerals.{add-one}
 use native.Mathlib.Omega.{arith}
 use lib.Dec.{ltb}
@@ -15,7 +15,7 @@ use Rattle.following.specs.First.{sinceOf, upTo}
 use Rattle.following.specs.Marks.{marked}
 use Rattle.stagetext.proofs.Laws.{row-length, text-is}
 use Rattle.stagetext.proofs.Upto.{upto, upto-few, upto-le, upto-length, upto-none}
-use Rattle.stagetext.specs.Stagetext.{bodyOf, latest, longest, partOf, rowOf, rowsIn, rowsOf, stageText}
+use Rattle.stagetext.specs.Stagetext.{bodyOf, latest, longest, partOf, rowOf, rowsOf, stageText}
 use Rattle.text.proofs.Digits.{digits-most}
 use Rattle.text.specs.Texts.{digits, digitsIn, field, word}
 use Rattle.theory.proofs.Lists.{either}

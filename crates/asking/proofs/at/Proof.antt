@@ -9,8 +9,6 @@ use Rattle.asking.specs.Asking.{memberAt}
 use Rattle.theory.specs.Limits.{limits}
 use Rattle.asking.proofs.at.Statement.{statement}
 use Rattle.asking.proofs.at.Tie as tie
-use Rattle.asking.proofs.at.Reads as reads
-use Rattle.asking.proofs.at.Lts as lts
 
 returns : tie.Need-returns
 returns c =
