@@ -11,7 +11,7 @@ use lib.Dec.{ltb}
 use lib.ListN.{getD, length, replicate, set, take}
 use lib.Seq.{set-getD, take-all}
 use borrow.Author.Tests.{ltb-false, ltb-true}
-use Rattle.bare.proofs.Items.{bare-placed, faults-at, faults-next, is-done, itemAt, pass-next}
+use Rattle.bare.proofs.Items.{bare-placed, faults-at, faults-next, is-done, pass-next}
 use Rattle.bare.proofs.Steps.{counts-low}
 use Rattle.bare.specs.Bare.{barely, faultOfItem, faultsOf, justOf}
 use Rattle.bare.specs.Chasing.{Going, againOf, begunOf, followOf, haltOf, newsOf, onwardOf, startOf, stepOf}
@@ -21,6 +21,7 @@ use Rattle.following.proofs.First.{pass-plus, pass-still, since-last, sown-at}
 use Rattle.following.proofs.Staging.{Placed}
 use Rattle.following.specs.First.{sinceOf, upTo}
 use Rattle.following.specs.Marks.{givenBy, markBy, marked, passOver, sown}
+use Rattle.handed.proofs.Supplied.{itemAt}
 use Rattle.handed.specs.declared.Handed.{Handed}
 use Rattle.replies.specs.declared.Reply.{Reply}
 use Rattle.replies.specs.declared.Reply.the-variants.{Counts, Done}

@@ -6,11 +6,12 @@ use mathlib.Core.Path.{_∙_, _≡_, ap, ap₂, refl, subst, sym}
 use Prim.Native.Nat.{_<_, _≤_, suc, zero, ℕ}
 use native.Mathlib.Nat.{le-of-suc-le-suc, not-suc-le-zero}
 use native.Mathlib.Omega.{arith}
-use lib.ListN.{getD, length, take}
+use lib.ListN.{length, take}
 use borrow.Author.Tests.{eqb-true}
 use Rattle.bare.specs.Bare.{barely, faultOfItem, faultsOf, justOf}
 use Rattle.following.proofs.Staging.{Placed}
 use Rattle.following.specs.Marks.{givenBy, passOver}
+use Rattle.handed.proofs.Supplied.{itemAt}
 use Rattle.handed.specs.Supplied.{suppliedBy}
 use Rattle.handed.specs.declared.Handed.{Handed}
 use Rattle.replies.proofs.Laws.{zero-done}
@@ -23,13 +24,6 @@ use Rattle.theory.proofs.Lists.{clash}
 use Rattle.theory.specs.Limits.{limits}
 use Rattle.theory.specs.Lists.{choose}
 use Rattle.theory.specs.Stages.{Justification}
-
--- no item
-abbrev pub noItem : Handed
-noItem = record { consequent = 0; count = 0; supports = [] }
-
-abbrev pub itemAt : List Handed → ℕ → Handed
-itemAt l i = getD l i noItem
 
 -- ---- faults
 

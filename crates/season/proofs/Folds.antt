@@ -7,7 +7,7 @@ use native.Mathlib.Decide.{decLt}
 use native.Mathlib.Numerals.{add-one}
 use native.Mathlib.Omega.{arith}
 use native.Mathlib.Nat.{not-suc-le-zero, le-of-suc-le-suc}
-use lib.ListN.{drop, getD, length, set, take}
+use lib.ListN.{drop, length, set, take}
 use lib.Seq.{take-length}
 use borrow.Author.Tests.{le-ltb, lt-ltb}
 use Rattle.replies.specs.Replies.{numberOf}
@@ -16,6 +16,7 @@ use Rattle.rules.specs.Items.{faultOf}
 use Rattle.season.specs.Season.{addedAll, addAllOf, begunOf, bytesAfter, giveOf, numberedBy, repliesOf}
 use Rattle.season.specs.declared.Begun.{Begun}
 use Rattle.season.specs.declared.Numbered.{Numbered}
+use Rattle.handed.proofs.Supplied.{itemAt}
 use Rattle.handed.specs.Supplied.{suppliedBy}
 use Rattle.handed.specs.declared.Handed.{Handed}
 use Rattle.store.proofs.Judging.{add-fault}
@@ -25,13 +26,6 @@ use Rattle.store.specs.Shape.{rightShape}
 use Rattle.store.specs.declared.Outcome.{Outcome}
 use Rattle.store.specs.declared.Store.{Store}
 use Rattle.theory.specs.Limits.{limits}
-
--- no item
-abbrev pub noItem : Handed
-noItem = record { consequent = 0; count = 0; supports = [] }
-
-abbrev pub itemAt : List Handed → ℕ → Handed
-itemAt l i = getD l i noItem
 
 -- i items are done
 pub store-turn : (i : ℕ) (s : Store) (l : List Handed) → i < length l → addedAll s (take (suc i) l) ≡ giveOf (addedAll s (take i l)) (itemAt l i) .store
