@@ -10,7 +10,7 @@ use lib.Dec.{eqb, ltb}
 use lib.ListN.{drop, getD, length, length-drop, length-take, set, take}
 use lib.Seq.{drop-cons, getD-drop, getD-take, length-take-le, set-at}
 use borrow.Author.Tests.{le-leb, le-ltb, lt-leb, lt-ltb, ne-eqb}
-use Rattle.asking.specs.Asking.{Left, Room, byteOf, contextBytes, contextOf, contextReply, firstIn, left, memberAt, memberOf, questionOf, reasoned, standing}
+use Rattle.asking.specs.Asking.{Left, Room, byteOf, contextReply, firstIn, left, memberAt, memberOf, questionOf, reasoned, standing}
 use Rattle.asking.specs.declared.Answer.{Answer}
 use Rattle.asking.specs.declared.Answer.the-variants.{Inconsistent, Refused, Supported, Unsupported}
 use Rattle.asking.specs.declared.Asked.{Asked}
@@ -22,7 +22,7 @@ use Rattle.following.specs.Marks.{allMarks}
 use Rattle.members.specs.Promised.{firstWithin}
 use Rattle.replies.specs.Replies.{numberOf}
 use Rattle.replies.specs.declared.Reply.{Reply}
-use Rattle.replies.specs.declared.Reply.the-variants.{Done, Number, Place, Shape, Short}
+use Rattle.replies.specs.declared.Reply.the-variants.{Done, Place, Short}
 use Rattle.shape.proofs.Elim.{label-few, lists-elim}
 use Rattle.stages.specs.declared.Lists.{Lists}
 use Rattle.store.proofs.Reading.{Readable, refused, refused-number, refused-set}
@@ -33,9 +33,10 @@ use Rattle.store.specs.Shape.{rightShape, top}
 use Rattle.store.specs.declared.Store.{Store}
 use Rattle.theory.proofs.Places.{getD-table, is-table, length-table}
 use Rattle.theory.specs.Cases.{from}
+use Rattle.theory.specs.Limits.{limits}
 use Rattle.theory.specs.Lists.{choose}
 use Rattle.theory.specs.Places.{table}
-use Rattle.theory.specs.Sets.{inRange, within}
+use Rattle.theory.specs.Sets.{within}
 
 -- ---- a part of a list
 part-length : (l : List ℕ) (from count : ℕ) → from + count ≤ length l → length (take count (drop from l)) ≡ count
@@ -90,17 +91,17 @@ module _ (l : Lists) (E : ℕ) (struck : ℕ) (found : struck ≡ firstWithin (n
     unfolding standing firstIn
     stands-falsity = sym (ap (λ (x : Option ℕ). reasoned x none) no-nogood)
 
-    module _ (i : ℕ) (fits : 12 * i + getD (l .sizes) i 0 ≤ length (l .members)) (place : ℕ) (at : place ≡ firstWithin (labelHeld l (suc i)) E) where
+    module _ (i : ℕ) (fits : limits .label * i + getD (l .sizes) i 0 ≤ length (l .members)) (place : ℕ) (at : place ≡ firstWithin (labelHeld l (suc i)) E) where
       label-many : length (labelHeld l (suc i)) ≡ getD (l .sizes) i 0
-      label-many = part-length (l .members) (12 * i) (getD (l .sizes) i 0) fits
+      label-many = part-length (l .members) (limits .label * i) (getD (l .sizes) i 0) fits
 
-      pub stands-yes : place < getD (l .sizes) i 0 → Supported (getD (l .members) (12 * i + place) 0) ≡ standing l (suc i) E
+      pub stands-yes : place < getD (l .sizes) i 0 → Supported (getD (l .members) (limits .label * i + place) 0) ≡ standing l (suc i) E
       unfolding standing
       stands-yes h =
           sym
           (ap₂ reasoned no-nogood
           (named-at (labelHeld l (suc i)) E place at (omega (arith, label-many))
-          ∙ ap some (getD-take (getD (l .sizes) i 0) (drop (12 * i) (l .members)) place 0 h ∙ getD-drop (12 * i) (l .members) place 0)))
+          ∙ ap some (getD-take (getD (l .sizes) i 0) (drop (limits .label * i) (l .members)) place 0 h ∙ getD-drop (limits .label * i) (l .members) place 0)))
 
       pub stands-no : getD (l .sizes) i 0 ≤ place → Unsupported ≡ standing l (suc i) E
       unfolding standing
@@ -124,19 +125,19 @@ module _ (l : Lists) (place : ℕ) where
   member-nogood k h =
       rw (lt-leb (length (nogoodsHeld l)) place (omega (arith, nogoods-length k))) (ap Is (sym (getD-take (l .count) (l .nogoods) place 0 h)))
 
-  module _ (i : ℕ) (fits : 12 * i + getD (l .sizes) i 0 ≤ length (l .members)) where
+  module _ (i : ℕ) (fits : limits .label * i + getD (l .sizes) i 0 ≤ length (l .members)) where
     label-length : length (labelHeld l (suc i)) ≡ getD (l .sizes) i 0
-    label-length = part-length (l .members) (12 * i) (getD (l .sizes) i 0) fits
+    label-length = part-length (l .members) (limits .label * i) (getD (l .sizes) i 0) fits
 
     pub member-none : getD (l .sizes) i 0 ≤ place → Not Place ≡ memberAt l (suc i) place
     unfolding memberAt
     member-none h = rw (le-leb (length (labelHeld l (suc i))) place (omega (arith, label-length)))
 
-    pub member-is : place < getD (l .sizes) i 0 → Is (getD (l .members) (12 * i + place) 0) ≡ memberAt l (suc i) place
+    pub member-is : place < getD (l .sizes) i 0 → Is (getD (l .members) (limits .label * i + place) 0) ≡ memberAt l (suc i) place
     unfolding memberAt
     member-is h =
         rw (lt-leb (length (labelHeld l (suc i))) place (omega (arith, label-length)))
-        (ap Is (sym (getD-take (getD (l .sizes) i 0) (drop (12 * i) (l .members)) place 0 h ∙ getD-drop (12 * i) (l .members) place 0)))
+        (ap Is (sym (getD-take (getD (l .sizes) i 0) (drop (limits .label * i) (l .members)) place 0 h ∙ getD-drop (limits .label * i) (l .members) place 0)))
 
 -- ---- the bytes of a context
 pub fill-none : (f : ℕ → ℕ) (out : List ℕ) → out ≡ table 0 f ++ drop 0 out
@@ -163,7 +164,7 @@ fill-more f out i v h e =
 abbrev pub byteAt : Lists → List ℕ → ℕ → ℕ → ℕ
 byteAt l marks E n = byteOf (unlabelled l n && eqb (getD marks n 0) 0) (standing l n E)
 
-pub bytes-told : (s : Store) (marks : List ℕ) (E end : ℕ) → marks ≡ allMarks (s .held) → end ≤ 129
+pub bytes-told : (s : Store) (marks : List ℕ) (E end : ℕ) → marks ≡ allMarks (s .held) → end ≤ limits .numbers + 1
     → table end (byteAt (s .lists) marks E) ≡ table end (λ n. byteOf (contradictedIn s n) (standing (s .lists) n E))
 bytes-told s marks E end e h =
     is-table (table end (byteAt (s .lists) marks E)) end (λ n. byteOf (contradictedIn s n) (standing (s .lists) n E)) 0 (length-table end (byteAt (s .lists) marks E))
@@ -172,7 +173,7 @@ bytes-told s marks E end e h =
 
 -- ---- the calls
 module _ (s : Store) where
-  pub shape-room : rightShape s ≡ true → length (s .lists .nogoods) ≡ 32 → Room (s .lists)
+  pub shape-room : rightShape s ≡ true → length (s .lists .nogoods) ≡ limits .nogoods → Room (s .lists)
   shape-room t e =
       let r = shape-elim s t in
       let l = lists-elim (s .lists) (s .held .assumptions) (top (s .held)) (r .1) in

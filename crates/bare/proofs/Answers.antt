@@ -29,14 +29,14 @@ use Rattle.replies.specs.declared.Reply.the-variants.{Counts, Done, Number, Sho
 use Rattle.stagetext.proofs.Laws.{put-within, text-is}
 use Rattle.stagetext.specs.Stagetext.{rowsIn}
 use Rattle.store.specs.Calls.{isDone}
-use Rattle.theory.specs.Limits.{overCounts}
+use Rattle.theory.specs.Limits.{limits, overCounts}
 use Rattle.theory.specs.Lists.{choose}
 use Rattle.theory.specs.Places.{table}
 use Rattle.theory.specs.Sets.{inRange}
 use Rattle.theory.specs.Stages.{Justification}
 
 -- the marks of the first stages tell what follows
-module _ (N : ℕ) (low : N ≤ 128) (J : List Justification) (w : Placed J) (E : ℕ) (m : List ℕ) (e : m ≡ table 129 (sinceOf J E)) where
+module _ (N : ℕ) (low : N ≤ limits .numbers) (J : List Justification) (w : Placed J) (E : ℕ) (m : List ℕ) (e : m ≡ table (limits .numbers + 1) (sinceOf J E)) where
   word-plain : (n : ℕ) (b : Bool) → ltb N n ≡ b → choose b (Refused Number) (readFrom m n) ≡ choose b (Refused Number) (plainBy J E n)
   word-plain n true t = refl
   word-plain n false t = read-plain J w E m e n (omega (arith, low, ltb-false N n t))
@@ -89,8 +89,8 @@ module _ (q : Query) (l : List Handed) (out : List ℕ) where
         go : (b : Bool) → inRange (q .assumptions) (q .set) ≡ b → choose (not b) (refusal Number) (toldIn (c .marks) N (q .what) out) ≡ unlessSet b
         go true t =
             let start : startOf q ≡ q .set = ap (λ (x : Bool). choose x (q .set) 0) t in
-            let low : N ≤ 128 = omega (arith, s .top, e .top) in
-            told-plain N low (barely N l) (bare-placed N low l (e .sound)) (q .set) (c .marks) (e .marks ∙ ap (λ (x : ℕ). table 129 (sinceOf (barely N l) x)) start) (q .what) out
+            let low : N ≤ limits .numbers = omega (arith, s .top, e .top) in
+            told-plain N low (barely N l) (bare-placed N low l (e .sound)) (q .set) (c .marks) (e .marks ∙ ap (λ (x : ℕ). table (limits .numbers + 1) (sinceOf (barely N l) x)) start) (q .what) out
         go false t = refl
 
     pub finish-answers : length l ≤ c .at → finishOf c q out ≡ askOf q l out

@@ -11,7 +11,8 @@ use lib.Dec.{ltb}
 use lib.ListN.{getD, length, replicate, set, take}
 use lib.Seq.{set-getD, take-all}
 use borrow.Author.Tests.{ltb-false, ltb-true}
-use Rattle.bare.proofs.Items.{bare-placed, faults-at, faults-next, is-done, itemAt, pass-next}
+use Rattle.bare.proofs.Items.{bare-placed, faults-at, faults-next, is-done, pass-next}
+use Rattle.bare.proofs.Steps.{counts-low}
 use Rattle.bare.specs.Bare.{barely, faultOfItem, faultsOf, justOf}
 use Rattle.bare.specs.Chasing.{Going, againOf, begunOf, followOf, haltOf, newsOf, onwardOf, startOf, stepOf}
 use Rattle.bare.specs.declared.Query.{Query}
@@ -20,12 +21,13 @@ use Rattle.following.proofs.First.{pass-plus, pass-still, since-last, sown-at}
 use Rattle.following.proofs.Staging.{Placed}
 use Rattle.following.specs.First.{sinceOf, upTo}
 use Rattle.following.specs.Marks.{givenBy, markBy, marked, passOver, sown}
+use Rattle.handed.proofs.Supplied.{itemAt}
 use Rattle.handed.specs.declared.Handed.{Handed}
 use Rattle.replies.specs.declared.Reply.{Reply}
 use Rattle.replies.specs.declared.Reply.the-variants.{Counts, Done}
 use Rattle.store.specs.Calls.{isDone}
 use Rattle.theory.proofs.Lists.{clash}
-use Rattle.theory.specs.Limits.{overCounts}
+use Rattle.theory.specs.Limits.{limits, overCounts}
 use Rattle.theory.specs.Lists.{allOf, choose}
 use Rattle.theory.specs.Places.{table}
 use Rattle.theory.specs.Stages.{Justification}
@@ -55,7 +57,7 @@ module _ (q : Query) (l : List Handed) where
   n = length l
 
   abbrev Mark : ℕ → List ℕ
-  Mark k = table 129 (upTo J E k)
+  Mark k = table (limits .numbers + 1) (upTo J E k)
 
   -- in the middle of a stage
   pub record Runs (c : Chase) : Type 0 where
@@ -76,7 +78,7 @@ module _ (q : Query) (l : List Handed) where
     pub assumptions : c .assumptions ≡ q .assumptions
     pub top : c .top ≡ N
     pub sound : faultsOf N l ≡ Done
-    pub marks : c .marks ≡ table 129 (sinceOf J E)
+    pub marks : c .marks ≡ table (limits .numbers + 1) (sinceOf J E)
 
   pub data Stand (c : Chase) : Type 0 where
     over : overCounts (q .assumptions) (q .claims) ≡ true → c .reply ≡ Counts → c .at ≡ n → Stand c
@@ -87,35 +89,27 @@ module _ (q : Query) (l : List Handed) where
   pub record Stands (c : Chase) : Type 0 where
     pub count : c .count ≡ n
     pub within : c .at ≤ n
-    pub low : c .stage < 129
-    pub top : c .top ≤ 128
-    pub few : c .assumptions ≤ 32
+    pub low : c .stage < limits .numbers + 1
+    pub top : c .top ≤ limits .numbers
+    pub few : c .assumptions ≤ limits .assumptions
     pub stand : Stand c
 
   -- how many turns are left, at most
   abbrev pub left : Chase → ℕ
-  left c = suc n * (129 - c .stage) - c .at
+  left c = suc n * ((limits .numbers + 1) - c .stage) - c .at
 
   -- ---- the limits
 
-  counts-low : overCounts (q .assumptions) (q .claims) ≡ false → (q .assumptions ≤ 32) × (q .claims ≤ 96)
-  counts-low e = go (ltb 32 (q .assumptions)) (ltb 96 (q .claims)) refl refl e
+  turns : (k : ℕ) → k < limits .numbers + 1 → suc n * ((limits .numbers + 1) - k) ≡ suc n * (limits .numbers - k) + suc n
+  turns k h = ap (λ (x : ℕ). suc n * x) one ∙ mul-suc (suc n) (limits .numbers - k)
     where
-      go : (a b : Bool) → ltb 32 (q .assumptions) ≡ a → ltb 96 (q .claims) ≡ b → a || b ≡ false → (q .assumptions ≤ 32) × (q .claims ≤ 96)
-      go true b s t f = clash refl f
-      go false true s t f = clash refl f
-      go false false s t f = (ltb-false 32 (q .assumptions) s, ltb-false 96 (q .claims) t)
-
-  turns : (k : ℕ) → k < 129 → suc n * (129 - k) ≡ suc n * (128 - k) + suc n
-  turns k h = ap (λ (x : ℕ). suc n * x) one ∙ mul-suc (suc n) (128 - k)
-    where
-      one : 129 - k ≡ suc (128 - k)
+      one : (limits .numbers + 1) - k ≡ suc (limits .numbers - k)
       one = omega (arith, h)
 
   -- ---- before the first item
 
   abbrev refused : Chase
-  refused = record { reply = Counts; assumptions = 0; top = 0; count = n; at = n; stage = 0; new = false; marks = replicate 129 255 }
+  refused = record { reply = Counts; assumptions = 0; top = 0; count = n; at = n; stage = 0; new = false; marks = replicate (limits .numbers + 1) 255 }
 
   abbrev first : Chase
   first = record { reply = Done; assumptions = q .assumptions; top = N; count = n; at = 0; stage = 0; new = false; marks = sown E }
@@ -129,7 +123,7 @@ module _ (q : Query) (l : List Handed) where
         assumptions = refl;
         top = refl;
         sound = ap (faultsOf N) e;
-        marks = sown-at J E ∙ ap (λ (x : List Handed). table 129 (upTo (barely N x) E 0)) e ∙ sym (ap (λ (x : List Handed). table 129 (sinceOf (barely N x) E)) e);
+        marks = sown-at J E ∙ ap (λ (x : List Handed). table (limits .numbers + 1) (upTo (barely N x) E 0)) e ∙ sym (ap (λ (x : List Handed). table (limits .numbers + 1) (sinceOf (barely N x) E)) e);
       }) (sym (ap length e))
   first-stand f (h ∷ m) e =
       runs (record {
@@ -146,7 +140,7 @@ module _ (q : Query) (l : List Handed) where
 
   first-stands : overCounts (q .assumptions) (q .claims) ≡ false → Stands first
   first-stands f =
-      let c = counts-low f in
+      let c = counts-low q f in
       record { count = refl; within = omega arith; low = omega arith; top = omega (arith, c .0, c .1); few = c .0; stand = first-stand f l refl }
 
   refused-stands : overCounts (q .assumptions) (q .claims) ≡ true → Stands refused
@@ -244,7 +238,7 @@ module _ (q : Query) (l : List Handed) where
         at-next : m ≡ Mark (k + 1)
         at-next = passed ∙ pass-plus J placed E k (s .low)
 
-        next-ended : m ≡ table 129 (sinceOf J E) → Stands next
+        next-ended : m ≡ table (limits .numbers + 1) (sinceOf J E) → Stands next
         next-ended e = record {
           count = s .count;
           within = omega (arith, is-last);
@@ -257,10 +251,10 @@ module _ (q : Query) (l : List Handed) where
         same-ended : fresh ≡ false → Stands next
         same-ended f = let e : m ≡ Mark k = still-next f in next-ended (e ∙ pass-still J placed E k (s .low) (sym passed ∙ e))
 
-        last-ended : 128 ≤ k → Stands next
+        last-ended : limits .numbers ≤ k → Stands next
         last-ended p = next-ended (at-next ∙ since-last J placed E (k + 1) (omega arith))
 
-        later-runs : k < 128 → Stands later
+        later-runs : k < limits .numbers → Stands later
         unfolding faultsOf passOver
         later-runs p = record {
           count = s .count;
@@ -283,13 +277,13 @@ module _ (q : Query) (l : List Handed) where
 
       onward-stands : Stands (onwardOf c m fresh)
       unfolding onwardOf
-      onward-stands = go (ltb (i + 1) (c .count)) fresh (ltb k 128) refl refl refl
+      onward-stands = go (ltb (i + 1) (c .count)) fresh (ltb k (limits .numbers)) refl refl refl
         where
-          go : (a b d : Bool) → ltb (i + 1) (c .count) ≡ a → fresh ≡ b → ltb k 128 ≡ d → Stands (choose (not a && (b && d)) later next)
+          go : (a b d : Bool) → ltb (i + 1) (c .count) ≡ a → fresh ≡ b → ltb k (limits .numbers) ≡ d → Stands (choose (not a && (b && d)) later next)
           go true b d p x y = next-runs (omega (arith, ltb-true (i + 1) (c .count) p, s .count))
           go false false d p x y = same-ended (omega (arith, ltb-false (i + 1) (c .count) p, s .count)) x
-          go false true true p x y = later-runs (omega (arith, ltb-false (i + 1) (c .count) p, s .count)) (ltb-true k 128 y)
-          go false true false p x y = last-ended (omega (arith, ltb-false (i + 1) (c .count) p, s .count)) (ltb-false k 128 y)
+          go false true true p x y = later-runs (omega (arith, ltb-false (i + 1) (c .count) p, s .count)) (ltb-true k (limits .numbers) y)
+          go false true false p x y = last-ended (omega (arith, ltb-false (i + 1) (c .count) p, s .count)) (ltb-false k (limits .numbers) y)
 
     stepped : Stands (stepOf c h)
     unfolding stepOf followOf
@@ -301,7 +295,7 @@ module _ (q : Query) (l : List Handed) where
 
     -- ---- a turn less is left
 
-    enough : i < suc n * (129 - k)
+    enough : i < suc n * ((limits .numbers + 1) - k)
     enough = omega (arith, turns k (s .low), s .within)
 
     halt-less : (x : Reply) → left (haltOf c x) < left c
@@ -313,7 +307,7 @@ module _ (q : Query) (l : List Handed) where
     later-less : left later < left c
     later-less = omega (arith, turns k (s .low), fewer, s .within)
       where
-        fewer : suc n * (129 - (k + 1)) ≡ suc n * (128 - k)
+        fewer : suc n * ((limits .numbers + 1) - (k + 1)) ≡ suc n * (limits .numbers - k)
         fewer = ap (λ (x : ℕ). suc n * x) (omega arith)
 
     step-less : left (stepOf c h) < left c

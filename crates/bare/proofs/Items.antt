@@ -6,12 +6,12 @@ use mathlib.Core.Path.{_∙_, _≡_, ap, ap₂, refl, subst, sym}
 use Prim.Native.Nat.{_<_, _≤_, suc, zero, ℕ}
 use native.Mathlib.Nat.{le-of-suc-le-suc, not-suc-le-zero}
 use native.Mathlib.Omega.{arith}
-use lib.Dec.{eqb, ltb}
-use lib.ListN.{getD, length, take}
+use lib.ListN.{length, take}
 use borrow.Author.Tests.{eqb-true}
 use Rattle.bare.specs.Bare.{barely, faultOfItem, faultsOf, justOf}
 use Rattle.following.proofs.Staging.{Placed}
 use Rattle.following.specs.Marks.{givenBy, passOver}
+use Rattle.handed.proofs.Supplied.{itemAt}
 use Rattle.handed.specs.Supplied.{suppliedBy}
 use Rattle.handed.specs.declared.Handed.{Handed}
 use Rattle.replies.proofs.Laws.{zero-done}
@@ -21,15 +21,9 @@ use Rattle.replies.specs.declared.Reply.the-variants.{Done}
 use Rattle.rules.proofs.Laws.{Ranged, faultless-ranged}
 use Rattle.store.specs.Calls.{isDone}
 use Rattle.theory.proofs.Lists.{clash}
+use Rattle.theory.specs.Limits.{limits}
 use Rattle.theory.specs.Lists.{choose}
 use Rattle.theory.specs.Stages.{Justification}
-
--- no item
-abbrev pub noItem : Handed
-noItem = record { consequent = 0; count = 0; supports = [] }
-
-abbrev pub itemAt : List Handed → ℕ → Handed
-itemAt l i = getD l i noItem
 
 -- ---- faults
 
@@ -72,7 +66,7 @@ module _ (N : ℕ) where
       let c = done-cases (faultOfItem N x) (faultsOf N l) d in
       ⊎-elim (λ (e : j ≡ justOf N x). subst (Ranged N) (sym e) (faultless-ranged N (x .consequent) (suppliedBy x) (c .0))) (λ k. faultless-all l (c .1) j k) (List·Memᴰ·cases-cons m)
 
-  pub bare-placed : N ≤ 128 → (l : List Handed) → faultsOf N l ≡ Done → Placed (barely N l)
+  pub bare-placed : N ≤ limits .numbers → (l : List Handed) → faultsOf N l ≡ Done → Placed (barely N l)
   bare-placed h l d = record {
     consequents = λ j m. omega (arith, h, faultless-all l d j m .low);
     supports = λ j m s i. omega (arith, h, faultless-all l d j m .between s i .1);

@@ -35,7 +35,7 @@ use Rattle.rules.specs.Items.{faultOf, justificationOf}
 use Rattle.rules.specs.declared.Entry.{Entry}
 use Rattle.stagetext.specs.Stagetext.{putOf}
 use Rattle.theory.proofs.Lists.{all-intro, clash}
-use Rattle.theory.specs.Limits.{overCounts}
+use Rattle.theory.specs.Limits.{limits, overCounts}
 use Rattle.theory.specs.Lists.{allOf, choose}
 use Rattle.theory.specs.Sets.{inRange}
 use Rattle.theory.specs.Stages.{Justification}
@@ -43,21 +43,21 @@ use Rattle.theory.specs.Stages.{Justification}
 -- ---- before the first item
 
 module _ (q : Query) where
-  pub over-yes : 32 < q .assumptions → true ≡ overCounts (q .assumptions) (q .claims)
-  over-yes h = sym (ap (λ (b : Bool). b || ltb 96 (q .claims)) (lt-ltb 32 (q .assumptions) h))
+  pub over-yes : limits .assumptions < q .assumptions → true ≡ overCounts (q .assumptions) (q .claims)
+  over-yes h = sym (ap (λ (b : Bool). b || ltb (limits .claims) (q .claims)) (lt-ltb (limits .assumptions) (q .assumptions) h))
 
-  pub over-rest : q .assumptions ≤ 32 → ltb 96 (q .claims) ≡ overCounts (q .assumptions) (q .claims)
-  over-rest h = sym (ap (λ (b : Bool). b || ltb 96 (q .claims)) (le-ltb 32 (q .assumptions) h))
+  pub over-rest : q .assumptions ≤ limits .assumptions → ltb (limits .claims) (q .claims) ≡ overCounts (q .assumptions) (q .claims)
+  over-rest h = sym (ap (λ (b : Bool). b || ltb (limits .claims) (q .claims)) (le-ltb (limits .assumptions) (q .assumptions) h))
 
-  pub within : overCounts (q .assumptions) (q .claims) ≡ false → (q .assumptions ≤ 32) × (q .claims ≤ 96)
-  within e = go (ltb 32 (q .assumptions)) (ltb 96 (q .claims)) refl refl e
+  pub counts-low : overCounts (q .assumptions) (q .claims) ≡ false → (q .assumptions ≤ limits .assumptions) × (q .claims ≤ limits .claims)
+  counts-low e = go (ltb (limits .assumptions) (q .assumptions)) (ltb (limits .claims) (q .claims)) refl refl e
     where
-      go : (a b : Bool) → ltb 32 (q .assumptions) ≡ a → ltb 96 (q .claims) ≡ b → a || b ≡ false → (q .assumptions ≤ 32) × (q .claims ≤ 96)
+      go : (a b : Bool) → ltb (limits .assumptions) (q .assumptions) ≡ a → ltb (limits .claims) (q .claims) ≡ b → a || b ≡ false → (q .assumptions ≤ limits .assumptions) × (q .claims ≤ limits .claims)
       go true b s t f = clash refl f
       go false true s t f = clash refl f
-      go false false s t f = (ltb-false 32 (q .assumptions) s, ltb-false 96 (q .claims) t)
+      go false false s t f = (ltb-false (limits .assumptions) (q .assumptions) s, ltb-false (limits .claims) (q .claims) t)
 
-  pub begun-over : (items : ℕ) → overCounts (q .assumptions) (q .claims) ≡ true → record { reply = Counts; assumptions = 0; top = 0; count = items; at = items; stage = 0; new = false; marks = replicate 129 255 } ≡ begunOf items q
+  pub begun-over : (items : ℕ) → overCounts (q .assumptions) (q .claims) ≡ true → record { reply = Counts; assumptions = 0; top = 0; count = items; at = items; stage = 0; new = false; marks = replicate (limits .numbers + 1) 255 } ≡ begunOf items q
   unfolding begunOf
   begun-over items e = rw e
 
@@ -71,21 +71,21 @@ module _ (q : Query) where
       first x = record { reply = Done; assumptions = q .assumptions; top = q .assumptions + q .claims; count = items; at = 0; stage = 0; new = false; marks = x }
 
       refused : Chase
-      refused = record { reply = Counts; assumptions = 0; top = 0; count = items; at = items; stage = 0; new = false; marks = replicate 129 255 }
+      refused = record { reply = Counts; assumptions = 0; top = 0; count = items; at = items; stage = 0; new = false; marks = replicate (limits .numbers + 1) 255 }
 
 -- ---- one item
 
 module _ (N : ℕ) (h : Handed) where
-  pub fault-five : 4 < h .count → Supports ≡ faultOfItem N h
+  pub fault-five : limits .supports < h .count → Supports ≡ faultOfItem N h
   unfolding suppliedBy faultOf
-  fault-five p = sym (ap (λ (b : Bool). faultOf N (h .consequent) (choose b (0 ∷ 0 ∷ 0 ∷ 0 ∷ 0 ∷ []) (take (h .count) (h .supports)))) (lt-ltb 4 (h .count) p))
+  fault-five p = sym (ap (λ (b : Bool). faultOf N (h .consequent) (choose b (0 ∷ 0 ∷ 0 ∷ 0 ∷ 0 ∷ []) (take (h .count) (h .supports)))) (lt-ltb (limits .supports) (h .count) p))
 
-  pub fault-few : h .count ≤ 4 → faultOf N (h .consequent) (take (h .count) (h .supports)) ≡ faultOfItem N h
+  pub fault-few : h .count ≤ limits .supports → faultOf N (h .consequent) (take (h .count) (h .supports)) ≡ faultOfItem N h
   fault-few p = ap (faultOf N (h .consequent)) (supplied-few h p)
 
   module _ (d : faultOfItem N h ≡ Done) where
-    pub few : h .count ≤ 4
-    few = elim (decLt 4 (h .count)) [
+    pub few : h .count ≤ limits .supports
+    few = elim (decLt (limits .supports) (h .count)) [
       | yes p ↦ absurd (six (ap numberOf (fault-five p ∙ d)))
       | no p ↦ omega (arith, p)
     ]
@@ -106,24 +106,24 @@ module _ (N : ℕ) (h : Handed) where
       pub means : meaning e ≡ justOf N h
       means = ap meaning q ∙ canonical-fits N (h .consequent) (take (h .count) (h .supports)) sound .1 ∙ ap (justificationOf N (h .consequent)) (supplied-few h few)
 
-      pub entry-fits : N ≤ 128 → (e .count ≤ 4) × (e .consequent ≤ 128) × (allOf (λ s. leb s 128) (meaning e .supports) ≡ true)
+      pub entry-fits : N ≤ limits .numbers → (e .count ≤ limits .supports) × (e .consequent ≤ limits .numbers) × (allOf (λ s. leb s (limits .numbers)) (meaning e .supports) ≡ true)
       entry-fits p =
           let r = faultless-ranged N (h .consequent) (take (h .count) (h .supports)) sound in
           let m : meaning e ≡ just = ap meaning q ∙ canonical-fits N (h .consequent) (take (h .count) (h .supports)) sound .1 in
           let c : e .count ≡ length (just .supports) = ap (λ (x : Entry). x .count) q in
           let k : e .consequent ≡ h .consequent = ap (λ (x : Entry). x .consequent) q in
-          (omega (arith, c, r .few), omega (arith, k, r .low, p), ap (λ (x : Justification). allOf (λ s. leb s 128) (x .supports)) m ∙ all-intro (λ s. leb s 128) (just .supports) (λ s i. le-leb s 128 (omega (arith, p, r .between s i .1))))
+          (omega (arith, c, r .few), omega (arith, k, r .low, p), ap (λ (x : Justification). allOf (λ s. leb s (limits .numbers)) (x .supports)) m ∙ all-intro (λ s. leb s (limits .numbers)) (just .supports) (λ s i. le-leb s (limits .numbers) (omega (arith, p, r .between s i .1))))
 
 module _ (c : Chase) where
   module _ (at : ℕ) (new : Bool) where
     pub again-more : at < c .count → false ≡ againOf c at new
-    again-more h = sym (ap (λ (b : Bool). not b && (new && ltb (c .stage) 128)) (lt-ltb at (c .count) h))
+    again-more h = sym (ap (λ (b : Bool). not b && (new && ltb (c .stage) (limits .numbers))) (lt-ltb at (c .count) h))
 
-    pub again-new : c .count ≤ at → new ≡ true → ltb (c .stage) 128 ≡ againOf c at new
-    again-new h e = sym (ap₂ (λ (b n : Bool). not b && (n && ltb (c .stage) 128)) (le-ltb at (c .count) h) e)
+    pub again-new : c .count ≤ at → new ≡ true → ltb (c .stage) (limits .numbers) ≡ againOf c at new
+    again-new h e = sym (ap₂ (λ (b n : Bool). not b && (n && ltb (c .stage) (limits .numbers))) (le-ltb at (c .count) h) e)
 
     pub again-none : c .count ≤ at → new ≡ false → false ≡ againOf c at new
-    again-none h e = sym (ap₂ (λ (b n : Bool). not b && (n && ltb (c .stage) 128)) (le-ltb at (c .count) h) e)
+    again-none h e = sym (ap₂ (λ (b n : Bool). not b && (n && ltb (c .stage) (limits .numbers))) (le-ltb at (c .count) h) e)
 
   module _ (m : List ℕ) (new : Bool) where
     pub onward-later : againOf c (c .at + 1) new ≡ true

@@ -1,5 +1,5 @@
 -- Question, context and lines from a bare list of justifications, as document 02 has them. Assumes nothing.
-use mathlib.Core.Bool.{Bool, not}
+use mathlib.Core.Bool.{not}
 use mathlib.Core.List.{List, [], _++_, _∷_, map}
 use mathlib.Core.Path.{_≡_}
 use Prim.Native.Nat.{_+_, ℕ}
@@ -15,7 +15,6 @@ use Rattle.handed.specs.declared.Handed.{Handed}
 use Rattle.lent.specs.Lent.{Wrote, fitted, writtenNumber}
 use Rattle.lent.specs.declared.Written.the-variants.{Refused as Unwritten}
 use Rattle.plain.specs.Plainly.{byteOf, plainBy, plainNumber}
-use Rattle.plain.specs.declared.Plain.{Plain}
 use Rattle.plain.specs.declared.Plain.the-variants.{Refused}
 use Rattle.replies.specs.Replies.{numberOf}
 use Rattle.replies.specs.declared.Reply.{Reply}

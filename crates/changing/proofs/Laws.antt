@@ -1,9 +1,8 @@
 -- One justification more or less, test by test. Assumes nothing.
-use mathlib.Core.Bool.{Bool, false, true}
+use mathlib.Core.Bool.{false, true}
 use mathlib.Core.List.{List}
-use mathlib.Core.Path.{_∙_, _≡_, ap, subst, sym}
+use mathlib.Core.Path.{_∙_, _≡_, ap, sym}
 use Prim.Native.Nat.{_+_, _<_, _≤_, ℕ}
-use native.Mathlib.Omega.{arith}
 use borrow.Author.Tests.{eq-eqb, le-leb, lt-leb, ne-eqb}
 use Rattle.changing.specs.Changing.{changed, excluded, included, lessOf, moreOf, sifted}
 use Rattle.changing.specs.declared.Changed.{Changed}

@@ -1,1 +1,3 @@
 pub mod Supplied
+pub mod Walked
+pub mod First

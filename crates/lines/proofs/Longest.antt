@@ -21,6 +21,7 @@ use Rattle.text.proofs.Lengths.{heading-length, refusal-length, row-length}
 use Rattle.text.specs.Texts.{word}
 use Rattle.wording.proofs.Bounds.{bounded}
 use Rattle.wording.specs.Wording.{lineWith, wordOf}
+use Rattle.theory.specs.Limits.{limits}
 
 -- ---- how long a line can be
 
@@ -35,8 +36,8 @@ nogood-length : (l : List ℕ) (c : Bool) → length (wordOf 0 l c) ≡ 7
 unfolding wordOf word
 nogood-length l c = refl
 
--- `0 nogood` and 32 sets, or a number of three digits, a word and 12 sets
-pub line-length : (s : Store) (n : ℕ) (c : Bool) → rightShape s ≡ true → length (s .lists .nogoods) ≤ 32 → n ≤ 128 → length (lineWith (s .lists) n c) ≤ longest
+-- `0 nogood` and all nogoods, or a number of three digits, a word and a full label
+pub line-length : (s : Store) (n : ℕ) (c : Bool) → rightShape s ≡ true → length (s .lists .nogoods) ≤ limits .nogoods → n ≤ limits .numbers → length (lineWith (s .lists) n c) ≤ longest
 unfolding lineWith
 line-length s zero c t e h =
     let l : List ℕ = listHeld (s .lists) 0 in
@@ -45,7 +46,7 @@ line-length s zero c t e h =
 line-length s (suc i) c t e h =
     let l : List ℕ = listHeld (s .lists) (suc i) in
     let k : suc i < 1000 = omega arith in
-    omega (arith, row-length (suc i) (wordOf (suc i) l c) l, digits-most 2 (suc i) k, word-length (suc i) l c, bounded s t .sizes i h, length-take (getD (s .lists .sizes) i 0) (drop (12 * i) (s .lists .members)))
+    omega (arith, row-length (suc i) (wordOf (suc i) l c) l, digits-most 2 (suc i) k, word-length (suc i) l c, bounded s t .sizes i h, length-take (getD (s .lists .sizes) i 0) (drop (limits .label * i) (s .lists .members)))
 
 pub case-length : (s : Store) → rightShape s ≡ true → length (caseText s) ≤ 19
 unfolding caseText
@@ -64,11 +65,11 @@ unfolding fitted
 fits t out h = rw (le-ltb (length out) (length t) h)
 
 module _ (s : Store) (right : rightShape s ≡ true) (out : List ℕ) (room : longest ≤ length out) where
-  pub line-fits : length (s .lists .nogoods) ≤ 32 → (n : ℕ) → n ≤ top (s .held) → lineOf s n out .answer ≡ Length (length (lineText s n))
+  pub line-fits : length (s .lists .nogoods) ≤ limits .nogoods → (n : ℕ) → n ≤ top (s .held) → lineOf s n out .answer ≡ Length (length (lineText s n))
   unfolding lineOf lineText
   line-fits e n h =
       let b = bounded s right in
-      let l : n ≤ 128 = omega arith in
+      let l : n ≤ limits .numbers = omega arith in
       let k : length (lineText s n) ≤ longest = line-length s n (heldFromAll s n) right e l in
       rw (right, le-ltb (top (s .held)) n h) (fits (lineText s n) out (omega arith))
 

@@ -29,7 +29,7 @@ use Rattle.store.specs.declared.Store.{Store}
 use Rattle.theory.proofs.Lists.{either}
 use Rattle.theory.specs.Limits.{limits}
 
--- ---- no fault names a record above 256
+-- ---- no fault names a record above the limit
 
 Low : {X : Type 0} → ℕ → Reading X → Type 0
 Low b (whole x) = 0 ≤ b

@@ -36,6 +36,7 @@ use Rattle.store.specs.declared.Store.{Store}
 use Rattle.theory.proofs.Lists.{either, not-so}
 use Rattle.theory.proofs.Places.{getD-table}
 use Rattle.theory.specs.Demands.{carries, contradicts}
+use Rattle.theory.specs.Limits.{limits}
 use Rattle.theory.specs.Lists.{choose}
 use Rattle.theory.specs.Places.{table}
 use Rattle.theory.specs.Sets.{among, inRange}
@@ -47,19 +48,19 @@ use Rattle.theory.specs.Stages.{Justification, follows}
 pub sowing : ℕ → ℕ → ℕ → ℕ
 sowing E k n = choose (ltb n k && among E n) 0 255
 
-pub sow-start : (E : ℕ) → replicate 129 255 ≡ table 129 (sowing E 1)
+pub sow-start : (E : ℕ) → replicate (limits .numbers + 1) 255 ≡ table (limits .numbers + 1) (sowing E 1)
 unfolding sowing among
-sow-start E = replicate-table 129 255 ∙ table-same 129 (λ n. 255) (sowing E 1) 255 go
+sow-start E = replicate-table (limits .numbers + 1) 255 ∙ table-same (limits .numbers + 1) (λ n. 255) (sowing E 1) 255 go
   where
-    go : (n : ℕ) → n < 129 → 255 ≡ sowing E 1 n
+    go : (n : ℕ) → n < limits .numbers + 1 → 255 ≡ sowing E 1 n
     go zero h = refl
     go (suc i) h = ap (λ (b : Bool). choose (b && among E (suc i)) 0 255) (sym (le-ltb (suc i) 1 (omega arith)))
 
-pub sow-turn : (E k v : ℕ) (m : List ℕ) → k < 129 → m ≡ table 129 (sowing E k) → v ≡ choose (among E k) 0 255 → set m k v ≡ table 129 (sowing E (k + 1))
+pub sow-turn : (E k v : ℕ) (m : List ℕ) → k < limits .numbers + 1 → m ≡ table (limits .numbers + 1) (sowing E k) → v ≡ choose (among E k) 0 255 → set m k v ≡ table (limits .numbers + 1) (sowing E (k + 1))
 unfolding sowing
 sow-turn E k v m h e q =
     ap (λ (l : List ℕ). set l k v) e
-    ∙ set-table 129 (sowing E k) (sowing E (k + 1)) k v 255 h (ap (λ (b : Bool). choose (b && among E k) 0 255) (lt-ltb k (k + 1) (omega arith)) ∙ sym q)
+    ∙ set-table (limits .numbers + 1) (sowing E k) (sowing E (k + 1)) k v 255 h (ap (λ (b : Bool). choose (b && among E k) 0 255) (lt-ltb k (k + 1) (omega arith)) ∙ sym q)
     (λ n ne. ap (λ (b : Bool). choose (b && among E n) 0 255)
     (⊎-elim (λ (t : ltb n k ≡ true). t ∙ sym (lt-ltb n (k + 1) (omega (arith, ltb-true n k t))))
     (λ (t : ltb n k ≡ false). let l : k ≤ n = ltb-false n k t in t ∙ sym (le-ltb n (k + 1) (above n k l ne)))
@@ -68,9 +69,9 @@ sow-turn E k v m h e q =
     above : (n k : ℕ) → k ≤ n → (n ≡ k → ⊥) → k + 1 ≤ n
     above n k l ne = omega arith
 
-pub sow-end : (E a k : ℕ) (m : List ℕ) → a < k → inRange a E ≡ true → m ≡ table 129 (sowing E k) → m ≡ sown E
+pub sow-end : (E a k : ℕ) (m : List ℕ) → a < k → inRange a E ≡ true → m ≡ table (limits .numbers + 1) (sowing E k) → m ≡ sown E
 unfolding sowing marksOf
-sow-end E a k m h r e = e ∙ table-same 129 (sowing E k) (λ n. choose (among E n) 0 255) 255 (λ n l.
+sow-end E a k m h r e = e ∙ table-same (limits .numbers + 1) (sowing E k) (λ n. choose (among E n) 0 255) 255 (λ n l.
     ⊎-elim (λ (t : ltb n k ≡ true). ap (λ (b : Bool). choose (b && among E n) 0 255) t)
     (λ (t : ltb n k ≡ false).
     let none : among E n ≡ false = not-so (among E n) (λ i. absurd (omega (arith, range-members a E .0 r n i, ltb-false n k t))) in
@@ -78,12 +79,12 @@ sow-end E a k m h r e = e ∙ table-same 129 (sowing E k) (λ n. choose (among E
     (either (ltb n k)))
 
 -- ---- what the marks say
-module _ (m : List ℕ) (long : length m ≡ 129) where
+module _ (m : List ℕ) (long : length m ≡ limits .numbers + 1) where
   pub read-struck : (n : ℕ) → getD m 0 0 < 255 → Inconsistent ≡ readFrom m n
   unfolding readFrom
   read-struck n h = sym (ap (λ (b : Bool). choose b Inconsistent (choose (ltb (getD m n 255) 255) Supported Unsupported)) (lt-ltb (getD m 0 255) 255 (omega (arith, getD-any m 0 0 255 (omega arith)))))
 
-  module _ (n : ℕ) (low : n ≤ 128) (no : 255 ≤ getD m 0 0) where
+  module _ (n : ℕ) (low : n ≤ limits .numbers) (no : 255 ≤ getD m 0 0) where
     free : ltb (getD m 0 255) 255 ≡ false
     free = le-ltb (getD m 0 255) 255 (omega (arith, getD-any m 0 0 255 (omega arith)))
 
@@ -95,7 +96,7 @@ module _ (m : List ℕ) (long : length m ≡ 129) where
     unfolding readFrom
     read-no h = sym (ap₂ (λ (b c : Bool). choose b Inconsistent (choose c Supported Unsupported)) free (le-ltb (getD m n 255) 255 (omega (arith, getD-any m n 0 255 (omega arith)))))
 
-  pub read-above : (n : ℕ) → 255 ≤ getD m 0 0 → 128 < n → Unsupported ≡ readFrom m n
+  pub read-above : (n : ℕ) → 255 ≤ getD m 0 0 → limits .numbers < n → Unsupported ≡ readFrom m n
   unfolding readFrom
   read-above n f h =
       sym
@@ -103,19 +104,19 @@ module _ (m : List ℕ) (long : length m ≡ 129) where
       (le-ltb (getD m n 255) 255 (omega (arith, List·getD-eq-default m 255 {n = n} (omega arith)))))
 
 -- the marks of the first stages give the answers
-module _ (J : List Justification) (w : Placed J) (E : ℕ) (m : List ℕ) (e : m ≡ table 129 (sinceOf J E)) where
-  pub read-plain : (n : ℕ) → n ≤ 128 → readFrom m n ≡ plainBy J E n
+module _ (J : List Justification) (w : Placed J) (E : ℕ) (m : List ℕ) (e : m ≡ table (limits .numbers + 1) (sinceOf J E)) where
+  pub read-plain : (n : ℕ) → n ≤ limits .numbers → readFrom m n ≡ plainBy J E n
   unfolding readFrom plainBy carries contradicts
   read-plain n l =
-      let at : (i : ℕ) → i ≤ 128 → ltb (getD m i 255) 255 ≡ follows J (length J) E i =
-      λ i p. ap (λ (x : List ℕ). ltb (getD x i 255) 255) e ∙ ap (λ (x : ℕ). ltb x 255) (getD-table 129 (sinceOf J E) i 255 (omega arith)) ∙ since-ever J E i w in
+      let at : (i : ℕ) → i ≤ limits .numbers → ltb (getD m i 255) 255 ≡ follows J (length J) E i =
+      λ i p. ap (λ (x : List ℕ). ltb (getD x i 255) 255) e ∙ ap (λ (x : ℕ). ltb x 255) (getD-table (limits .numbers + 1) (sinceOf J E) i 255 (omega arith)) ∙ since-ever J E i w in
       ap₂ (λ (b c : Bool). choose b Inconsistent (choose c Supported Unsupported)) (at 0 (omega arith)) (at n l) ∙ go (follows J (length J) E 0) (follows J (length J) E n)
     where
       go : (b c : Bool) → choose b Inconsistent (choose c Supported Unsupported) ≡ choose b Inconsistent (choose (not b && c) Supported Unsupported)
       go true c = refl
       go false c = refl
 
-  pub bytes-plain : (end : ℕ) → end ≤ 129 → table end (λ n. byteOf (readFrom m n)) ≡ table end (λ n. byteOf (plainBy J E n))
+  pub bytes-plain : (end : ℕ) → end ≤ limits .numbers + 1 → table end (λ n. byteOf (readFrom m n)) ≡ table end (λ n. byteOf (plainBy J E n))
   bytes-plain end l = table-same end (λ n. byteOf (readFrom m n)) (λ n. byteOf (plainBy J E n)) 0 (λ n q. ap byteOf (read-plain n (omega arith)))
 
 pub word-over : (m : List ℕ) (N n : ℕ) → N < n → Refused Number ≡ wordIn m N n
@@ -150,24 +151,24 @@ module _ (s : Store) where
   told a = record { answer = a; store = s }
 
   abbrev marks : ℕ → List ℕ
-  marks E = table 129 (sinceOf (saidBy (s .held)) E)
+  marks E = table (limits .numbers + 1) (sinceOf (saidBy (s .held)) E)
 
   abbrev both : Reply → List ℕ → Followed
   both r m = record { reply = r; marks = m }
 
   module _ (n E : ℕ) where
     module _ (r : Reply) (e : r ≡ refusalOf s n E) where
-      pub followed-refused : (numberOf r ≡ 0 → ⊥) → both r (replicate 129 255) ≡ followedOf s n E
+      pub followed-refused : (numberOf r ≡ 0 → ⊥) → both r (replicate (limits .numbers + 1) 255) ≡ followedOf s n E
       unfolding followedOf
       followed-refused d =
-          ap (λ (b : Bool). both r (choose b (marks E) (replicate 129 255))) (sym (ne-eqb (numberOf r) 0 d))
-          ∙ ap (λ (t : Reply). both t (choose (isDone t) (marks E) (replicate 129 255))) e
+          ap (λ (b : Bool). both r (choose b (marks E) (replicate (limits .numbers + 1) 255))) (sym (ne-eqb (numberOf r) 0 d))
+          ∙ ap (λ (t : Reply). both t (choose (isDone t) (marks E) (replicate (limits .numbers + 1) 255))) e
 
       pub followed-done : numberOf r ≡ 0 → (m : List ℕ) → m ≡ marks E → both r m ≡ followedOf s n E
       unfolding followedOf
       followed-done z m q =
-          ap (both r) q ∙ ap (λ (b : Bool). both r (choose b (marks E) (replicate 129 255))) (sym (eq-eqb (numberOf r) 0 z))
-          ∙ ap (λ (t : Reply). both t (choose (isDone t) (marks E) (replicate 129 255))) e
+          ap (both r) q ∙ ap (λ (b : Bool). both r (choose b (marks E) (replicate (limits .numbers + 1) 255))) (sym (eq-eqb (numberOf r) 0 z))
+          ∙ ap (λ (t : Reply). both t (choose (isDone t) (marks E) (replicate (limits .numbers + 1) 255))) e
 
     -- what a call that followed knows
     module _ (f : Followed) (e : f ≡ followedOf s n E) where
@@ -179,7 +180,7 @@ module _ (s : Store) where
       unfolding followedOf
       followed-marks z =
           ap (λ (x : Followed). x .marks) e
-          ∙ ap (λ (b : Bool). choose b (marks E) (replicate 129 255)) (eq-eqb (numberOf (refusalOf s n E)) 0 (ap numberOf (sym followed-reply) ∙ z))
+          ∙ ap (λ (b : Bool). choose b (marks E) (replicate (limits .numbers + 1) 255)) (eq-eqb (numberOf (refusalOf s n E)) 0 (ap numberOf (sym followed-reply) ∙ z))
 
     pub question-refused : (r : Reply) → r ≡ refusalOf s n E → (numberOf r ≡ 0 → ⊥) → told (Refused r) ≡ told (plainOf s n E)
     unfolding plainOf

@@ -21,7 +21,6 @@ use Rattle.store.specs.Shape.{rightShape, top}
 use Rattle.store.specs.declared.Outcome.{Outcome}
 use Rattle.store.specs.declared.Store.{Store}
 use Rattle.theory.specs.Demands.{carries, contradicts}
-use Rattle.theory.specs.Limits.{limits}
 use Rattle.theory.specs.Lists.{choose}
 use Rattle.theory.specs.Places.{table}
 use Rattle.theory.specs.Sets.{inRange}

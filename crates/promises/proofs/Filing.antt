@@ -33,8 +33,8 @@ use Rattle.rules.specs.Held.{heldOf}
 use Rattle.rules.specs.Items.{faultOf, justificationOf}
 use Rattle.store.specs.Calls.{noStore, storeOf}
 use Rattle.theory.proofs.Lists.{clash}
-use Rattle.theory.specs.Judge.{Verdict, judge, limits}
-use Rattle.theory.specs.Limits.{overCounts}
+use Rattle.theory.specs.Judge.{Verdict, judge}
+use Rattle.theory.specs.Limits.{limits, overCounts}
 use Rattle.theory.specs.Lists.{choose, someOf}
 use Rattle.theory.specs.Stages.{Justification}
 

@@ -41,8 +41,8 @@ use Rattle.store.specs.Shape.{heldFits, rightShape}
 use Rattle.store.specs.declared.Outcome.{Outcome}
 use Rattle.store.specs.declared.Store.{Store}
 use Rattle.theory.proofs.Lists.{clash}
-use Rattle.theory.specs.Judge.{Stage, Verdict, judge, labelOver, limits, nogoodsOver, settled}
-use Rattle.theory.specs.Limits.{overCounts}
+use Rattle.theory.specs.Judge.{Stage, Verdict, judge, labelOver, nogoodsOver, settled}
+use Rattle.theory.specs.Limits.{limits, overCounts}
 use Rattle.theory.specs.Lists.{choose, someOf}
 use Rattle.theory.specs.Stages.{Justification}
 

@@ -17,7 +17,8 @@ use Rattle.stages.specs.Steps.{Room}
 use Rattle.theory.proofs.Judgement.{AllPassed, Told, judge-told, long-some, settled-later, settled-told, stage-label, stage-length, stage-nogoods}
 use Rattle.theory.proofs.Lasting.{Upto}
 use Rattle.theory.proofs.Sameness.{same-label, same-nogoods}
-use Rattle.theory.specs.Judge.{Stage, Verdict, consequents, judge, labelLong, labelOver, limits, nogoodsLong, nogoodsOver, settled, stageAt}
+use Rattle.theory.specs.Judge.{Stage, Verdict, consequents, judge, labelLong, labelOver, nogoodsLong, nogoodsOver, settled, stageAt}
+use Rattle.theory.specs.Limits.{limits}
 use Rattle.theory.specs.Stages.{Justification, labelAt, nogoodsAt}
 
 -- two numbers: one is less, or they are the same

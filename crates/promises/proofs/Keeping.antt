@@ -31,8 +31,8 @@ use Rattle.store.specs.Calls.{addOf, answer, isDone, joinedBy, judgedOf, noStor
 use Rattle.store.specs.Shape.{heldFits, rightShape, top}
 use Rattle.store.specs.declared.Outcome.{Outcome}
 use Rattle.store.specs.declared.Store.{Store}
-use Rattle.theory.specs.Judge.{Verdict, judge, labelOver, limits, nogoodsOver, settled}
-use Rattle.theory.specs.Limits.{overCounts}
+use Rattle.theory.specs.Judge.{Verdict, judge, labelOver, nogoodsOver, settled}
+use Rattle.theory.specs.Limits.{limits, overCounts}
 use Rattle.theory.specs.Lists.{choose, someOf}
 use Rattle.theory.specs.Places.{table}
 use Rattle.theory.specs.Sets.{inRange}

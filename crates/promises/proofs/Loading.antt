@@ -16,7 +16,8 @@ use Rattle.promises.specs.Room.{StagesSay}
 use Rattle.replies.specs.declared.Reply.{Reply}
 use Rattle.rules.specs.Held.{heldOf}
 use Rattle.store.specs.Calls.{noStore, storeOf}
-use Rattle.theory.specs.Judge.{judge, limits}
+use Rattle.theory.specs.Judge.{judge}
+use Rattle.theory.specs.Limits.{limits}
 
 -- the stages of what a case without fault puts in
 module _ (c : Case) (sound : Sound c) where

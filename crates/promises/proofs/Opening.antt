@@ -9,7 +9,8 @@ use lib.Dec.{ltb}
 use lib.ListN.{getD, length}
 use Rattle.theory.proofs.Judgement.{long-some, stage-label, stage-length, stage-nogoods}
 use Rattle.theory.proofs.Start.{label-zero, label-zero-above, nogoods-zero}
-use Rattle.theory.specs.Judge.{Stage, consequents, course, judge, labelLong, limits, nogoodsLong, settled, stageAt}
+use Rattle.theory.specs.Judge.{Stage, consequents, course, judge, labelLong, nogoodsLong, settled, stageAt}
+use Rattle.theory.specs.Limits.{limits}
 
 module _ (A N : ℕ) where
   none-few : nogoodsLong limits (stageAt A N [] 0) ≡ false

@@ -23,7 +23,8 @@ use Rattle.store.specs.declared.Store.{Store}
 use Rattle.theory.proofs.Depth.{consequents-few}
 use Rattle.theory.proofs.Judgement.{settled-stage, settled-told}
 use Rattle.theory.proofs.Lists.{and-intro, clash, not-so, some-intro}
-use Rattle.theory.specs.Judge.{limits, stageAt}
+use Rattle.theory.specs.Judge.{stageAt}
+use Rattle.theory.specs.Limits.{limits}
 use Rattle.theory.specs.Stages.{Justification}
 
 module _ {A M : ℕ} {H : List Justification} {s : Store} (f : Form A M H s) where

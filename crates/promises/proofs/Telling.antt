@@ -26,7 +26,8 @@ use Rattle.theory.proofs.Lists.{same-test}
 use Rattle.theory.proofs.Sameness.{Covered, same-follows, same-label, same-nogoods, same-stage}
 use Rattle.theory.proofs.Sets.{within-antisym, within-refl, within-trans}
 use Rattle.theory.specs.Demands.{carries, contradicts, fromAll}
-use Rattle.theory.specs.Judge.{Stage, judge, limits, settled, stageAt}
+use Rattle.theory.specs.Judge.{Stage, judge, settled, stageAt}
+use Rattle.theory.specs.Limits.{limits}
 use Rattle.theory.specs.Sets.{contains, within}
 use Rattle.theory.specs.Stages.{Justification, follows, labelAt, nogoodsAt}
 use Rattle.theory.specs.Step.{labelIn}

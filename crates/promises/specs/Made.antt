@@ -19,7 +19,8 @@ use Rattle.stages.specs.Lists.{listsOf}
 use Rattle.store.specs.Calls.{answer, noStore, storeOf}
 use Rattle.store.specs.Shape.{rightShape}
 use Rattle.store.specs.declared.Store.{Store}
-use Rattle.theory.specs.Judge.{Stage, judge, limits, settled}
+use Rattle.theory.specs.Judge.{Stage, judge, settled}
+use Rattle.theory.specs.Limits.{limits}
 use Rattle.theory.specs.Lists.{choose, someOf}
 use Rattle.theory.specs.Stages.{Justification}
 

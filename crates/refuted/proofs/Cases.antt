@@ -40,7 +40,8 @@ use Rattle.theory.proofs.Judgement.{stage-length, stage-nogoods}
 use Rattle.theory.proofs.Listing.{below-elim}
 use Rattle.theory.specs.Cases.{at, from, verdict, worked}
 use Rattle.theory.specs.Demands.{carries, contradicts, fromAll}
-use Rattle.theory.specs.Judge.{Stage, Verdict, judge, labelOver, limits, nogoodsOver, settled, stageAt, stageOf}
+use Rattle.theory.specs.Judge.{Stage, Verdict, judge, labelOver, nogoodsOver, settled, stageAt, stageOf}
+use Rattle.theory.specs.Limits.{limits}
 use Rattle.theory.specs.Lists.{allOf, each, numbersBelow, numbersTo, someOf, those}
 use Rattle.theory.specs.Sets.{among, digit, together}
 use Rattle.theory.specs.Stages.{Justification, ahead, follows, gives, labelAt, lesser}

@@ -22,7 +22,8 @@ use Rattle.stages.specs.declared.Lists.{Lists}
 use Rattle.store.specs.Calls.{isDone}
 use Rattle.store.specs.Shape.{top}
 use Rattle.store.specs.declared.Store.{Store}
-use Rattle.theory.specs.Judge.{Stage, judge, limits, settled}
+use Rattle.theory.specs.Judge.{Stage, judge, settled}
+use Rattle.theory.specs.Limits.{limits}
 use Rattle.theory.specs.Lists.{choose}
 use Rattle.theory.specs.Stages.{Justification}
 

@@ -51,7 +51,8 @@ use Rattle.store.specs.declared.Store.{Store}
 use Rattle.text.specs.Texts.{braced, digits, digitsIn, field, heading, joined, refusal, row, spaced, word}
 use Rattle.theory.specs.Cases.{at, from, verdict}
 use Rattle.theory.specs.Demands.{carries, contradicts, fromAll}
-use Rattle.theory.specs.Judge.{judge, limits, sameSets}
+use Rattle.theory.specs.Judge.{judge, sameSets}
+use Rattle.theory.specs.Limits.{limits}
 use Rattle.theory.specs.Lists.{alike, allOf, choose, each, numbersBelow, numbersTo, someOf, those}
 use Rattle.theory.specs.Places.{table}
 use Rattle.theory.specs.Sets.{among, bySize, contains, digit, inRange, listing, together, within}

@@ -19,7 +19,8 @@ use Rattle.rules.specs.Items.{faultOf, justificationOf, sameJustification, setO
 use Rattle.store.specs.Calls.{isDone, noStore, ofVerdict, storeOf}
 use Rattle.theory.proofs.Lists.{clash}
 use Rattle.theory.specs.Cases.{at, verdict}
-use Rattle.theory.specs.Judge.{Verdict, judge, labelOver, limits}
+use Rattle.theory.specs.Judge.{Verdict, judge, labelOver}
+use Rattle.theory.specs.Limits.{limits}
 use Rattle.theory.specs.Lists.{choose}
 use Rattle.theory.specs.Stages.{Justification, ahead, lesser}
 

@@ -32,7 +32,8 @@ use Rattle.store.specs.declared.Store.{Store}
 use Rattle.theory.proofs.Lists.{clash}
 use Rattle.theory.specs.Cases.{at, from, verdict, worked}
 use Rattle.theory.specs.Demands.{carries, contradicts}
-use Rattle.theory.specs.Judge.{Stage, agree, judge, limits, sameSets, settled, stageAt, stageOf}
+use Rattle.theory.specs.Judge.{Stage, agree, judge, sameSets, settled, stageAt, stageOf}
+use Rattle.theory.specs.Limits.{limits}
 use Rattle.theory.specs.Lists.{alike, allOf, choose, each, numbersBelow, numbersTo, someOf, sortedBy, those}
 use Rattle.theory.specs.Places.{table}
 use Rattle.theory.specs.Sets.{among, before, bySize, contains, digit, listing, within}

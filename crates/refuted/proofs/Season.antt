@@ -32,7 +32,8 @@ use Rattle.store.specs.declared.Outcome.{Outcome}
 use Rattle.store.specs.declared.Store.{Store}
 use Rattle.theory.proofs.Lists.{and-intro, and-left, and-right}
 use Rattle.theory.specs.Cases.{at, verdict}
-use Rattle.theory.specs.Judge.{Verdict, judge, labelOver, limits, sameSets}
+use Rattle.theory.specs.Judge.{Verdict, judge, labelOver, sameSets}
+use Rattle.theory.specs.Limits.{limits}
 use Rattle.theory.specs.Lists.{alike, allOf, choose, numbersBelow, someOf, those}
 use Rattle.theory.specs.Stages.{Justification, ahead, lesser}
 

@@ -31,7 +31,8 @@ use Rattle.text.specs.Texts.{digits, digitsIn, row, spaced, word}
 use Rattle.theory.proofs.Lists.{clash}
 use Rattle.theory.specs.Cases.{at, from, verdict}
 use Rattle.theory.specs.Demands.{carries, contradicts, fromAll}
-use Rattle.theory.specs.Judge.{judge, limits, sameSets}
+use Rattle.theory.specs.Judge.{judge, sameSets}
+use Rattle.theory.specs.Limits.{limits}
 use Rattle.theory.specs.Lists.{alike, allOf, each, numbersBelow, numbersTo, someOf, those}
 use Rattle.theory.specs.Sets.{among, bySize, digit, listing, together}
 use Rattle.theory.specs.Stages.{Justification, ahead, follows, gives, lesser}

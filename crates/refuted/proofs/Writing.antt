@@ -30,7 +30,8 @@ use Rattle.store.specs.Reading.{labelHeld}
 use Rattle.store.specs.Shape.{rightShape, top}
 use Rattle.store.specs.declared.Store.{Store}
 use Rattle.theory.specs.Cases.{at, verdict}
-use Rattle.theory.specs.Judge.{judge, limits, sameSets}
+use Rattle.theory.specs.Judge.{judge, sameSets}
+use Rattle.theory.specs.Limits.{limits}
 use Rattle.theory.specs.Lists.{alike, choose, each, numbersBelow, numbersTo, someOf, those}
 use Rattle.theory.specs.Stages.{Justification, ahead, lesser}
 use Rattle.writing.specs.Writing.{bytesOf, fileOf, recordFor}

@@ -63,7 +63,8 @@ use Rattle.theory.proofs.Lists.{and-intro, and-left, and-right, clash}
 use Rattle.theory.proofs.Sets.{within-le}
 use Rattle.theory.specs.Cases.{from}
 use Rattle.theory.specs.Demands.{carries, contradicts}
-use Rattle.theory.specs.Judge.{consequents, judge, limits, sameSets}
+use Rattle.theory.specs.Judge.{consequents, judge, sameSets}
+use Rattle.theory.specs.Limits.{limits}
 use Rattle.theory.specs.Lists.{alike, allOf, choose, numbersBelow, numbersTo, someOf, those}
 use Rattle.theory.specs.Places.{table}
 use Rattle.theory.specs.Sets.{among, bySize, digit, listing, within}

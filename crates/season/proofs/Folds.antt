@@ -7,7 +7,7 @@ use native.Mathlib.Decide.{decLt}
 use native.Mathlib.Numerals.{add-one}
 use native.Mathlib.Omega.{arith}
 use native.Mathlib.Nat.{not-suc-le-zero, le-of-suc-le-suc}
-use lib.ListN.{drop, getD, length, set, take}
+use lib.ListN.{drop, length, set, take}
 use lib.Seq.{take-length}
 use borrow.Author.Tests.{le-ltb, lt-ltb}
 use Rattle.replies.specs.Replies.{numberOf}
@@ -16,6 +16,7 @@ use Rattle.rules.specs.Items.{faultOf}
 use Rattle.season.specs.Season.{addedAll, addAllOf, begunOf, bytesAfter, giveOf, numberedBy, repliesOf}
 use Rattle.season.specs.declared.Begun.{Begun}
 use Rattle.season.specs.declared.Numbered.{Numbered}
+use Rattle.handed.proofs.Supplied.{itemAt}
 use Rattle.handed.specs.Supplied.{suppliedBy}
 use Rattle.handed.specs.declared.Handed.{Handed}
 use Rattle.store.proofs.Judging.{add-fault}
@@ -24,13 +25,7 @@ use Rattle.store.specs.Calls.{addOf, answer}
 use Rattle.store.specs.Shape.{rightShape}
 use Rattle.store.specs.declared.Outcome.{Outcome}
 use Rattle.store.specs.declared.Store.{Store}
-
--- no item
-abbrev pub noItem : Handed
-noItem = record { consequent = 0; count = 0; supports = [] }
-
-abbrev pub itemAt : List Handed → ℕ → Handed
-itemAt l i = getD l i noItem
+use Rattle.theory.specs.Limits.{limits}
 
 -- i items are done
 pub store-turn : (i : ℕ) (s : Store) (l : List Handed) → i < length l → addedAll s (take (suc i) l) ≡ giveOf (addedAll s (take i l)) (itemAt l i) .store
@@ -76,12 +71,12 @@ all-right s (h ∷ l) t = all-right (giveOf s h .store) l (add-right s t (h .con
 
 -- ---- what is handed over
 
-pub supplied-five : (h : Handed) → 4 < h .count → 0 ∷ 0 ∷ 0 ∷ 0 ∷ 0 ∷ [] ≡ suppliedBy h
+pub supplied-five : (h : Handed) → limits .supports < h .count → 0 ∷ 0 ∷ 0 ∷ 0 ∷ 0 ∷ [] ≡ suppliedBy h
 unfolding suppliedBy
-supplied-five h p = rw (lt-ltb 4 (h .count) p)
+supplied-five h p = rw (lt-ltb (limits .supports) (h .count) p)
 
--- more than four: 6, whatever they are
-pub give-many : (s : Store) (h : Handed) → rightShape s ≡ true → 4 < h .count → answer Supports s ≡ giveOf s h
+-- more than the limit: 6, whatever they are
+pub give-many : (s : Store) (h : Handed) → rightShape s ≡ true → limits .supports < h .count → answer Supports s ≡ giveOf s h
 unfolding faultOf
 give-many s h t p = add-fault s (h .consequent) (0 ∷ 0 ∷ 0 ∷ 0 ∷ 0 ∷ []) t (λ (z : _≡_ {A = ℕ} 6 0). omega arith) ∙ ap (addOf s (h .consequent)) (supplied-five h p)
 

@@ -28,7 +28,8 @@ use Rattle.stages.specs.declared.Judged.{Judged}
 use Rattle.stages.specs.declared.Lists.{Lists}
 use Rattle.theory.proofs.Lasting.{Upto, candidates-same}
 use Rattle.theory.proofs.Picks.{next-label, next-nogoods}
-use Rattle.theory.specs.Judge.{Stage, labelLong, limits, lowestLong, nogoodsLong, stageAt}
+use Rattle.theory.specs.Judge.{Stage, labelLong, lowestLong, nogoodsLong, stageAt}
+use Rattle.theory.specs.Limits.{limits}
 use Rattle.theory.specs.Lists.{choose}
 use Rattle.theory.specs.Places.{padded}
 use Rattle.theory.specs.Step.{candidates, labelIn, picks}

@@ -27,7 +27,8 @@ use Rattle.theory.proofs.Depth.{consequents-few}
 use Rattle.theory.proofs.Judgement.{agree-at-last, agree-elim, course-turn, stage-label, stage-length, stage-nogoods}
 use Rattle.theory.proofs.Lists.{clash, either}
 use Rattle.theory.proofs.Start.{label-zero, label-zero-above, nogoods-zero}
-use Rattle.theory.specs.Judge.{Stage, Verdict, agree, consequents, course, judge, labelLong, labelOver, limits, nogoodsLong, nogoodsOver, settled}
+use Rattle.theory.specs.Judge.{Stage, Verdict, agree, consequents, course, judge, labelLong, labelOver, nogoodsLong, nogoodsOver, settled}
+use Rattle.theory.specs.Limits.{limits}
 use Rattle.theory.specs.Lists.{choose}
 use Rattle.theory.specs.Stages.{labelAt}
 

@@ -9,7 +9,8 @@ use Rattle.rules.specs.declared.Held.{Held}
 use Rattle.stages.specs.Lists.{firstStage, listsOf, noLists}
 use Rattle.stages.specs.declared.Judged.{Judged}
 use Rattle.stages.specs.declared.Lists.{Lists}
-use Rattle.theory.specs.Judge.{Verdict, judge, labelOver, limits, nogoodsOver, settled}
+use Rattle.theory.specs.Judge.{Verdict, judge, labelOver, nogoodsOver, settled}
+use Rattle.theory.specs.Limits.{limits}
 
 -- a refusal comes with no lists
 abbrev pub refusal : Reply → Judged

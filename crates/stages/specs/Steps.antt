@@ -18,12 +18,13 @@ use Rattle.stages.specs.Lists.{listsOf, noLists}
 use Rattle.stages.specs.declared.Judged.{Judged}
 use Rattle.stages.specs.declared.Lists.{Lists}
 use Rattle.stages.specs.declared.Turn.{Turn}
+use Rattle.theory.specs.Limits.{limits}
 use Rattle.theory.specs.Lists.{choose, those}
 use Rattle.theory.specs.Places.{padded, table}
 use Rattle.theory.specs.Sets.{contains}
 use Rattle.theory.specs.Stages.{Justification}
 use Rattle.theory.specs.Step.{labelIn}
-use Rattle.theory.specs.Judge.{Stage, agree, labelLong, limits, nogoodsLong, sameSets, stageAt}
+use Rattle.theory.specs.Judge.{Stage, agree, labelLong, nogoodsLong, sameSets, stageAt}
 
 -- stage k of the justifications held
 abbrev pub stageBy : Held → ℕ → Stage

@@ -36,6 +36,7 @@ use Rattle.text.specs.Writing.{Put, Room}
 use Rattle.theory.proofs.Listing.{below-elim}
 use Rattle.theory.proofs.Lists.{each-same, those-same}
 use Rattle.theory.proofs.Places.{getD-table}
+use Rattle.theory.specs.Limits.{limits}
 use Rattle.theory.specs.Lists.{choose, each, keep, numbersBelow, those}
 use Rattle.theory.specs.Places.{table}
 use Rattle.theory.specs.Stages.{Justification, follows}
@@ -50,7 +51,7 @@ digits-three n h k =
     digits-more n (omega arith) ∙ ap (λ (t : List ℕ). t ++ ((48 + n % 10) ∷ [])) (digits-two (n / 10) (omega arith) (omega arith)) ∙ ap (λ (d : ℕ). (48 + d) ∷ (48 + n / 10 % 10) ∷ (48 + n % 10) ∷ []) e
 
 -- ---- a part
-module _ (m : List ℕ) (k n : ℕ) (long : length m ≡ 129) (low : n ≤ 128) where
+module _ (m : List ℕ) (k n : ℕ) (long : length m ≡ limits .numbers + 1) (low : n ≤ limits .numbers) where
   pub part-none : k < getD m n 0 → partOf m k n ≡ []
   unfolding partOf
   part-none h = ap (λ (b : Bool). choose b (field n) []) (marked-no k m n (omega arith) h)
@@ -63,7 +64,7 @@ module _ (m : List ℕ) (k n : ℕ) (long : length m ≡ 129) (low : n ≤ 128) 
   unfolding field word
   part-wide h = ap length (part-some h) ∙ omega arith
 
-part-few : (m : List ℕ) (k n : ℕ) → n < 129 → length (partOf m k n) ≤ 4
+part-few : (m : List ℕ) (k n : ℕ) → n < limits .numbers + 1 → length (partOf m k n) ≤ 4
 unfolding partOf field word
 part-few m k n h = go (marked k m n)
   where
@@ -71,9 +72,9 @@ part-few m k n h = go (marked k m n)
     go true = omega (arith, digits-most 2 n (omega arith))
     go false = omega arith
 
-pub body-few : (m : List ℕ) (k end : ℕ) → end ≤ 129 → length (bodyOf end m k) ≤ 4 * end
+pub body-few : (m : List ℕ) (k end : ℕ) → end ≤ limits .numbers + 1 → length (bodyOf end m k) ≤ 4 * end
 unfolding bodyOf
-body-few m k end h = upto-few (partOf m k) 4 129 (part-few m k) end h
+body-few m k end h = upto-few (partOf m k) 4 (limits .numbers + 1) (part-few m k) end h
 
 pub body-next : (m : List ℕ) (k n : ℕ) → length (bodyOf (n + 1) m k) ≡ length (bodyOf n m k) + length (partOf m k n)
 unfolding bodyOf
@@ -83,9 +84,9 @@ pub row-length : (m : List ℕ) (end k : ℕ) → length (rowOf end m k) ≡ len
 unfolding rowOf word
 row-length m end k = omega (arith, length-append (digits k) (bodyOf end m k ++ (10 ∷ [])), length-append (bodyOf end m k) (10 ∷ []))
 
-pub rows-few : (m : List ℕ) (end : ℕ) → end ≤ 129 → (k : ℕ) → k ≤ 256 → length (rowsOf end m k) ≤ 520 * k
+pub rows-few : (m : List ℕ) (end : ℕ) → end ≤ limits .numbers + 1 → (k : ℕ) → k ≤ 256 → length (rowsOf end m k) ≤ (3 + 4 * (limits .numbers + 1) + 1) * k
 unfolding rowsOf
-rows-few m end h k l = upto-few (rowOf end m) 520 256 (λ i p. omega (arith, row-length m end i, body-few m i end h, digits-most 2 i (omega arith))) k l
+rows-few m end h k l = upto-few (rowOf end m) (3 + 4 * (limits .numbers + 1) + 1) 256 (λ i p. omega (arith, row-length m end i, body-few m i end h, digits-most 2 i (omega arith))) k l
 
 pub rows-next : (m : List ℕ) (end k : ℕ) → length (rowsOf end m (k + 1)) ≡ length (rowsOf end m k) + length (rowOf end m k)
 unfolding rowsOf
@@ -131,9 +132,9 @@ each-parts p (n ∷ l) = go (p n) (each-parts p l)
     go true e = ap (λ (t : List ℕ). field n ++ t) e
     go false e = e
 
-module _ (J : List Justification) (w : Placed J) (E N : ℕ) (low : N ≤ 128) where
+module _ (J : List Justification) (w : Placed J) (E N : ℕ) (low : N ≤ limits .numbers) where
   abbrev M : List ℕ
-  M = table 129 (sinceOf J E)
+  M = table (limits .numbers + 1) (sinceOf J E)
 
   row-is : (k : ℕ) → k < 255 → rowOf (N + 1) M k ≡ stageLine N J E k
   unfolding rowOf stageLine bodyOf partOf marked
@@ -141,22 +142,22 @@ module _ (J : List Justification) (w : Placed J) (E N : ℕ) (low : N ≤ 128) w
       ap (λ (x : List ℕ). digits k ++ (x ++ word "\n"))
       (each-parts (marked k M) (numbersBelow (N + 1))
       ∙ ap (each field) (those-same (marked k M) (follows J k E) (numbersBelow (N + 1))
-      (λ n m. ap (λ (x : ℕ). leb x k) (getD-table 129 (sinceOf J E) n 255 (omega (arith, below-elim (N + 1) m))) ∙ since-by J E n w k b)))
+      (λ n m. ap (λ (x : ℕ). leb x k) (getD-table (limits .numbers + 1) (sinceOf J E) n 255 (omega (arith, below-elim (N + 1) m))) ∙ since-by J E n w k b)))
 
   pub text-is : rowsIn (N + 1) M ≡ stageText N J E
   unfolding rowsOf stageText lastStage
   text-is = each-same (rowOf (N + 1) M) (stageLine N J E) (numbersBelow (latest 0 M + 1)) (λ k m. row-is k (omega (arith, below-elim (latest 0 M + 1) m, latest-low M 0 (omega arith))))
 
 -- ---- the rows into lent bytes
-pub put-above : (m : List ℕ) (N : ℕ) (out : List ℕ) → 128 < N → kept Number out ≡ putOf m N out
+pub put-above : (m : List ℕ) (N : ℕ) (out : List ℕ) → limits .numbers < N → kept Number out ≡ putOf m N out
 unfolding putOf
-put-above m N out h = rw (lt-ltb 128 N h)
+put-above m N out h = rw (lt-ltb (limits .numbers) N h)
 
-pub put-within : (m : List ℕ) (N : ℕ) (out : List ℕ) → N ≤ 128 → fitted (rowsIn (N + 1) m) out ≡ putOf m N out
+pub put-within : (m : List ℕ) (N : ℕ) (out : List ℕ) → N ≤ limits .numbers → fitted (rowsIn (N + 1) m) out ≡ putOf m N out
 unfolding putOf
-put-within m N out h = rw (le-ltb 128 N h)
+put-within m N out h = rw (le-ltb (limits .numbers) N h)
 
-module _ (m : List ℕ) (N count : ℕ) (out : List ℕ) (low : N ≤ 128) (c : count ≡ latest 0 m + 1) where
+module _ (m : List ℕ) (N count : ℕ) (out : List ℕ) (low : N ≤ limits .numbers) (c : count ≡ latest 0 m + 1) where
   counted : rowsOf (N + 1) m count ≡ rowsIn (N + 1) m
   counted = ap (rowsOf (N + 1) m) c
 
@@ -176,12 +177,12 @@ module _ (s : Store) (E : ℕ) (out : List ℕ) where
   unfolding stagesOf
   lines-refused r e d = hands s (refused-set s E r e d (λ x. kept x out) (fitted (stageText (top (s .held)) (saidBy (s .held)) E) out))
 
-  pub lines-put : Readable s 0 E → (m : List ℕ) → m ≡ table 129 (sinceOf (saidBy (s .held)) E) → (r : Written) (after : List ℕ) → record { answer = r; bytes = after } ≡ putOf m (top (s .held)) out
+  pub lines-put : Readable s 0 E → (m : List ℕ) → m ≡ table (limits .numbers + 1) (sinceOf (saidBy (s .held)) E) → (r : Written) (after : List ℕ) → record { answer = r; bytes = after } ≡ putOf m (top (s .held)) out
       → StagesLined s E out (record { answer = r; store = s }) after
   unfolding stagesOf
   lines-put k m e r after p =
       let N : ℕ = top (s .held) in
-      let low : N ≤ 128 = omega (arith, k .fit .few, k .fit .claims) in
+      let low : N ≤ limits .numbers = omega (arith, k .fit .few, k .fit .claims) in
       hands s
       (p ∙ sym (put-within m N out low) ∙ ap (λ (t : List ℕ). fitted t out) (ap (rowsIn (N + 1)) e ∙ text-is (saidBy (s .held)) (placed s (k .fit)) E N low) ∙ rw (k .right, k .set))
 

@@ -72,6 +72,6 @@ rowsOf end m c = each (rowOf end m) (numbersBelow c)
 abbrev pub rowsIn : ℕ → List ℕ → List ℕ
 rowsIn end m = rowsOf end m (latest 0 m + 1)
 
--- .. into lent bytes; 4 where N is above 128, and no number
+-- .. into lent bytes; 4 where N is above the limit, and no number
 unfoldable pub putOf : List ℕ → ℕ → List ℕ → Wrote
-putOf m N out = choose (ltb 128 N) (kept Number out) (fitted (rowsIn (N + 1) m) out)
+putOf m N out = choose (ltb (limits .numbers) N) (kept Number out) (fitted (rowsIn (N + 1) m) out)

@@ -22,7 +22,8 @@ use Rattle.store.specs.Calls.{addOf, answer, checkedOf, elseKept, joined
 use Rattle.store.specs.Shape.{heldFits, rightShape, top}
 use Rattle.store.specs.declared.Outcome.{Outcome}
 use Rattle.store.specs.declared.Store.{Store}
-use Rattle.theory.specs.Judge.{Verdict, judge, labelOver, limits, nogoodsOver, settled}
+use Rattle.theory.specs.Judge.{Verdict, judge, labelOver, nogoodsOver, settled}
+use Rattle.theory.specs.Limits.{limits}
 use Rattle.theory.specs.Stages.{Justification}
 
 -- ---- what is held is the right shape of what it says

@@ -18,7 +18,8 @@ use Rattle.store.specs.Calls.{addOf, answer, isDone, joinedBy, ofVerdict
 use Rattle.store.specs.Shape.{rightShape}
 use Rattle.store.specs.declared.Outcome.{Outcome}
 use Rattle.store.specs.declared.Store.{Store}
-use Rattle.theory.specs.Judge.{Verdict, judge, labelOver, limits, nogoodsOver, settled}
+use Rattle.theory.specs.Judge.{Verdict, judge, labelOver, nogoodsOver, settled}
+use Rattle.theory.specs.Limits.{limits}
 use Rattle.theory.specs.Lists.{choose, someOf}
 use Rattle.theory.specs.Stages.{Justification}
 

@@ -21,7 +21,8 @@ use Rattle.store.specs.declared.Store.{Store}
 use Rattle.theory.proofs.Depth.{Within, consequents-few}
 use Rattle.theory.proofs.Judgement.{settled-stage, settled-told}
 use Rattle.theory.proofs.Lists.{and-intro}
-use Rattle.theory.specs.Judge.{Stage, Verdict, judge, labelOver, limits, nogoodsOver, settled, stageAt}
+use Rattle.theory.specs.Judge.{Stage, Verdict, judge, labelOver, nogoodsOver, settled, stageAt}
+use Rattle.theory.specs.Limits.{limits}
 use Rattle.theory.specs.Stages.{Justification}
 
 -- right shape, and 32 places for nogoods

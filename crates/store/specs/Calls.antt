@@ -15,8 +15,8 @@ use Rattle.stages.specs.Lists.{listsOf}
 use Rattle.store.specs.Shape.{heldFits, rightShape, top}
 use Rattle.store.specs.declared.Outcome.{Outcome}
 use Rattle.store.specs.declared.Store.{Store}
-use Rattle.theory.specs.Judge.{Verdict, judge, labelOver, limits, nogoodsOver, settled, stageAt}
-use Rattle.theory.specs.Limits.{overCounts}
+use Rattle.theory.specs.Judge.{Verdict, judge, labelOver, nogoodsOver, settled, stageAt}
+use Rattle.theory.specs.Limits.{limits, overCounts}
 use Rattle.theory.specs.Lists.{choose, someOf}
 use Rattle.theory.specs.Stages.{Justification}
 

@@ -9,6 +9,7 @@ use lib.ListN.{drop, getD, length, take}
 use Rattle.wording.specs.Wording.{lineWith, wordOf}
 use Rattle.stages.specs.declared.Lists.{Lists}
 use Rattle.text.specs.Texts.{row, word}
+use Rattle.theory.specs.Limits.{limits}
 use Rattle.theory.specs.Lists.{choose}
 
 -- ---- the word
@@ -39,17 +40,17 @@ word-told (suc i) (E ∷ l) c h = refl
 -- ---- the list
 
 module _ (t : Lists) where
-  pub text-nogoods : (n : ℕ) (c : Bool) → n ≡ 0 → lineWith t n c ≡ row 32 n (wordOf n (take (t .count) (t .nogoods)) c) (take (t .count) (t .nogoods))
+  pub text-nogoods : (n : ℕ) (c : Bool) → n ≡ 0 → lineWith t n c ≡ row (limits .assumptions) n (wordOf n (take (t .count) (t .nogoods)) c) (take (t .count) (t .nogoods))
   unfolding lineWith
   text-nogoods n c e = rw e
 
   abbrev pub labelOf : ℕ → List ℕ
-  labelOf i = take (12 * i + getD (t .sizes) i 0 - 12 * i) (drop (12 * i) (t .members))
+  labelOf i = take (limits .label * i + getD (t .sizes) i 0 - limits .label * i) (drop (limits .label * i) (t .members))
 
-  pub text-label : (n : ℕ) (c : Bool) → (n ≡ 0 → ⊥) → lineWith t n c ≡ row 32 n (wordOf n (labelOf (n - 1)) c) (labelOf (n - 1))
+  pub text-label : (n : ℕ) (c : Bool) → (n ≡ 0 → ⊥) → lineWith t n c ≡ row (limits .assumptions) n (wordOf n (labelOf (n - 1)) c) (labelOf (n - 1))
   unfolding lineWith
   text-label zero c h = absurd (h refl)
   text-label (suc i) c h =
       let e : suc i - 1 ≡ i = omega arith in
-      let f : 12 * i + getD (t .sizes) i 0 - 12 * i ≡ getD (t .sizes) i 0 = omega arith in
+      let f : limits .label * i + getD (t .sizes) i 0 - limits .label * i ≡ getD (t .sizes) i 0 = omega arith in
       rw (e, f)

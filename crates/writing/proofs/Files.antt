@@ -95,7 +95,7 @@ numbers-rise N p (x ∷ l) n h =
     (either (ltb x 128))
 
 -- a consequent 128 is not among its supports
-record-length : (N : ℕ) (j : Justification) → N ≤ limits .numbers → Ranged N j → length (recordBytes j) ≤ 7
+record-length : (N : ℕ) (j : Justification) → N ≤ limits .numbers → Ranged N j → length (recordBytes j) ≤ limits .supports + 3
 unfolding recordFor each
 record-length N j n r =
     let c : ℕ = j .consequent in
@@ -161,13 +161,13 @@ module _ (h : Held) (fits : heldFits h ≡ true) where
   low : A + M ≤ limits .numbers
   low = omega (arith, fine .few, fine .claims)
 
-  records-length : (J : List Justification) → ((j : Justification) → Mem j J → Ranged (A + M) j) → length (each recordBytes J) ≤ 7 * length J
+  records-length : (J : List Justification) → ((j : Justification) → Mem j J → Ranged (A + M) j) → length (each recordBytes J) ≤ (limits .supports + 3) * length J
   unfolding each
   records-length [] f = omega arith
   records-length (j ∷ J) f = omega (arith, record-length (A + M) j low (f j (here refl)), length-append (recordBytes j) (each recordBytes J), records-length J (λ i m. f i (there m)))
 
-  -- 4 bytes before the records, a full store of records of 7
-  pub file-length : length (fileOf h) ≤ 1796
+  -- 4 bytes before the records, a full store of records, each of its supports and 3
+  pub file-length : length (fileOf h) ≤ limits .held * (limits .supports + 3) + 4
   file-length =
       let R : List ℕ = each recordBytes (saidBy h) in
       omega (

@@ -1,32 +1,31 @@
 -- `asking::at` meets its contract: a nogood for the number 0, else a set of the label, else the refusal. Assumes nothing.
 use mathlib.Core.Path.{_∙_, _≡_, ap, sym}
-use Prim.Native.Nat.{_-_, ℕ}
+use Prim.Native.Nat.{_*_, _-_, ℕ}
 use native.Mathlib.Omega.{arith}
 use lib.ListN.{length}
 use borrow.Author.Needs.{needs}
 use Rattle.asking.proofs.Laws.{member-is, member-nogood, member-nogood-none, member-none, number-of}
 use Rattle.asking.specs.Asking.{memberAt}
+use Rattle.theory.specs.Limits.{limits}
 use Rattle.asking.proofs.at.Statement.{statement}
 use Rattle.asking.proofs.at.Tie as tie
-use Rattle.asking.proofs.at.Reads as reads
-use Rattle.asking.proofs.at.Lts as lts
 
 returns : tie.Need-returns
 returns c =
     let a = c .before .before .args in
-    let nogoods-length : length (a .t1 .nogoods) ≡ 32 = search needs in
+    let nogoods-length : length (a .t1 .nogoods) ≡ limits .nogoods = search needs in
     member-nogood-none (a .t1) (a .place) (omega (arith, c .before .before .pre .0 .nogoods, nogoods-length)) (c .if2 .taken) ∙ ap (λ (n : ℕ). memberAt (a .t1) n (a .place)) (sym (c .before .if1 .taken))
 
 returns-2 : tie.Need-returns-2
 returns-2 c =
     let a = c .before .before .before .args in
-    let nogoods-length : length (a .t1 .nogoods) ≡ 32 = search needs in
+    let nogoods-length : length (a .t1 .nogoods) ≡ limits .nogoods = search needs in
     member-nogood (a .t1) (a .place) (omega (arith, c .before .before .before .pre .0 .nogoods, nogoods-length)) (omega arith) ∙ ap (λ (n : ℕ). memberAt (a .t1) n (a .place)) (sym (c .before .before .if1 .taken))
 
 returns-3 : tie.Need-returns-3
 returns-3 c =
     let a = c .before .before .before .args in
-    let members-length : length (a .t1 .members) ≡ 1536 = search needs in
+    let members-length : length (a .t1 .members) ≡ limits .numbers * limits .label = search needs in
     member-none (a .t1) (a .place) (a .n - 1) (omega (arith, c .before .before .before .pre .0 .labels (a .n - 1) (omega arith), members-length)) (omega arith)
     ∙ ap (λ (n : ℕ). memberAt (a .t1) n (a .place)) (number-of (a .n) (c .before .before .if1 .left))
 
@@ -42,7 +41,7 @@ element-copy-out-t23 c = let a = c .before .before .before .args in omega (arith
 returns-4 : tie.Need-returns-4
 returns-4 c =
     let a = c .before .before .before .before .args in
-    let members-length : length (a .t1 .members) ≡ 1536 = search needs in
+    let members-length : length (a .t1 .members) ≡ limits .numbers * limits .label = search needs in
     member-is (a .t1) (a .place) (a .n - 1) (omega (arith, c .before .before .before .before .pre .0 .labels (a .n - 1) (omega arith), members-length)) (omega arith)
     ∙ ap (λ (n : ℕ). memberAt (a .t1) n (a .place)) (number-of (a .n) (c .before .before .before .if1 .left))
 

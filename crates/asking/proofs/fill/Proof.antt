@@ -1,7 +1,7 @@
 -- `asking::fill` meets its contract. The invariant: the bytes so far. Assumes nothing.
 use mathlib.Core.List.{List, _++_}
 use mathlib.Core.Path.{_∙_, _≡_, ap, refl}
-use Prim.Native.Nat.{_-_, _≤_, ℕ}
+use Prim.Native.Nat.{_+_, _-_, _≤_, ℕ}
 use native.Mathlib.Omega.{arith}
 use lib.ListN.{drop, length, length-set, set}
 use borrow.Author.Needs.{needs}
@@ -9,6 +9,7 @@ use Rattle.asking.proofs.Laws.{byteAt, bytes-told, fill-more, fill-none
 use Rattle.following.proofs.Sowing.{marks-long}
 use Rattle.rules.specs.Held.{saidBy}
 use Rattle.theory.specs.Demands.{fromAll}
+use Rattle.theory.specs.Limits.{limits}
 use Rattle.theory.specs.Places.{table}
 use Rattle.asking.proofs.fill.Statement.{statement}
 use Rattle.asking.proofs.fill.Tie as tie
@@ -23,7 +24,7 @@ abbrev μ-loop : tie.MeasureT-loop
 abbrev entry : tie.At-loop Inv-loop μ-loop → tie.Start Inv-loop μ-loop
 entry c = c .before .before .before .before
 
-long : (s : tie.Start Inv-loop μ-loop) → length (s .args .marks .now) ≡ 129
+long : (s : tie.Start Inv-loop μ-loop) → length (s .args .marks .now) ≡ limits .numbers + 1
 long s = ap length (s .pre .1) ∙ marks-long (fromAll (s .args .store .held .assumptions) (saidBy (s .args .store .held)))
 
 loop-holds : tie.Need-loop-holds Inv-loop μ-loop

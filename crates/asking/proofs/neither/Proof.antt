@@ -1,17 +1,18 @@
 -- `asking::neither` meets its contract. Assumes nothing.
 use mathlib.Core.Bool.{Bool, _&&_}
-use mathlib.Core.Path.{_∙_, _≡_, ap, ap₂, sym}
-use Prim.Native.Nat.{ℕ}
+use mathlib.Core.Path.{_≡_, ap, ap₂, sym}
+use Prim.Native.Nat.{_*_, ℕ}
 use native.Mathlib.Omega.{arith}
 use borrow.Author.Needs.{needs}
 use lib.ListN.{length}
 use Rattle.store.proofs.Reading.{unlabelled-no, unlabelled-yes}
 use Rattle.store.specs.Reading.{unlabelled}
+use Rattle.theory.specs.Limits.{limits}
 use Rattle.theory.specs.Lists.{choose}
 use Rattle.asking.proofs.neither.Statement.{statement}
 use Rattle.asking.proofs.neither.Tie as tie
 
-long : (s : tie.Start) → length (s .args .t1 .members) ≡ 1536
+long : (s : tie.Start) → length (s .args .t1 .members) ≡ limits .numbers * limits .label
 long s = search needs
 
 returns : tie.Need-returns

@@ -1,11 +1,12 @@
 -- `stands` meets its contract: the nogoods are asked first, then the label, each by the place of the first set within. Assumes nothing.
 use mathlib.Core.Path.{_∙_, _≡_, ap, sym}
-use Prim.Native.Nat.{_-_, ℕ}
+use Prim.Native.Nat.{_*_, _-_, ℕ}
 use native.Mathlib.Omega.{arith}
 use lib.ListN.{length}
 use borrow.Author.Needs.{needs}
 use Rattle.asking.proofs.Laws.{number-of, stands-falsity, stands-no, stands-struck, stands-yes}
 use Rattle.asking.specs.Asking.{standing}
+use Rattle.theory.specs.Limits.{limits}
 use Rattle.asking.proofs.stands.Statement.{statement}
 use Rattle.asking.proofs.stands.Tie as tie
 
@@ -24,13 +25,13 @@ no2 c = c .before .before .before .before .before
 returns : tie.Need-returns
 returns c =
     let a = entry (c .before .before) .args in
-    let e : length (a .t1 .nogoods) ≡ 32 = search needs in
+    let e : length (a .t1 .nogoods) ≡ limits .nogoods = search needs in
     stands-struck (a .t1) (a .e) (c .before .before .reach .result) (c .before .before .reach .ensures) (omega (arith, e, entry (c .before .before) .pre .0 .nogoods)) (a .n) (c .before .if1 .taken)
 
 returns-2 : tie.Need-returns-2
 returns-2 c =
     let a = entry (c .before .before) .args in
-    let e : length (a .t1 .nogoods) ≡ 32 = search needs in
+    let e : length (a .t1 .nogoods) ≡ limits .nogoods = search needs in
     stands-falsity (a .t1) (a .e) (c .before .before .reach .result) (c .before .before .reach .ensures) (omega (arith, e, entry (c .before .before) .pre .0 .nogoods)) (c .before .if1 .left)
     ∙ ap (λ (n : ℕ). standing (a .t1) n (a .e)) (sym (c .if2 .taken))
 
@@ -49,8 +50,8 @@ element-copy-out-t28 c = let a = entry (after-reach (no2 (c .before))) .args in 
 returns-3 : tie.Need-returns-3
 returns-3 c =
     let a = entry (after-reach (no2 (c .before .before))) .args in
-    let e : length (a .t1 .nogoods) ≡ 32 = search needs in
-    let m : length (a .t1 .members) ≡ 1536 = search needs in
+    let e : length (a .t1 .nogoods) ≡ limits .nogoods = search needs in
+    let m : length (a .t1 .members) ≡ limits .numbers * limits .label = search needs in
     let w = entry (after-reach (no2 (c .before .before))) .pre .0 .labels (a .n - 1) (omega arith) in
     stands-yes (a .t1) (a .e) (after-reach (no2 (c .before .before)) .reach .result) (after-reach (no2 (c .before .before)) .reach .ensures) (omega (arith, e, entry (after-reach (no2 (c .before .before))) .pre .0 .nogoods)) (no2 (c .before .before) .before .if1 .left) (a .n - 1) (omega (arith, m, w)) (c .before .before .reach2 .result) (c .before .before .reach2 .ensures) (c .before .if3 .taken)
     ∙ ap (λ (n : ℕ). standing (a .t1) n (a .e)) (number-of (a .n) (no2 (c .before .before) .if2 .left))
@@ -58,8 +59,8 @@ returns-3 c =
 returns-4 : tie.Need-returns-4
 returns-4 c =
     let a = entry (after-reach (no2 (c .before))) .args in
-    let e : length (a .t1 .nogoods) ≡ 32 = search needs in
-    let m : length (a .t1 .members) ≡ 1536 = search needs in
+    let e : length (a .t1 .nogoods) ≡ limits .nogoods = search needs in
+    let m : length (a .t1 .members) ≡ limits .numbers * limits .label = search needs in
     let w = entry (after-reach (no2 (c .before))) .pre .0 .labels (a .n - 1) (omega arith) in
     stands-no (a .t1) (a .e) (after-reach (no2 (c .before)) .reach .result) (after-reach (no2 (c .before)) .reach .ensures) (omega (arith, e, entry (after-reach (no2 (c .before))) .pre .0 .nogoods)) (no2 (c .before) .before .if1 .left) (a .n - 1) (omega (arith, m, w)) (c .before .reach2 .result) (c .before .reach2 .ensures) (c .if3 .left)
     ∙ ap (λ (n : ℕ). standing (a .t1) n (a .e)) (number-of (a .n) (no2 (c .before) .if2 .left))

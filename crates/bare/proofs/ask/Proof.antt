@@ -4,11 +4,10 @@
 --     I z              the context at the loop's head, in the state z: the loop's invariant.        ≺      the measure: how many turns are left
 --     more, ends       a turn that does one item, and the turn that leaves the loop, with the rest of the body
 -- Assumes nothing.
-use mathlib.Core.Path.{_≡_, refl, sym, ap, _∙_, subst}
-use Prim.Native.Nat.{ℕ, _+_, _-_, _*_, _<_, _≤_, _^_}
+use mathlib.Core.Path.{_≡_, refl, sym, ap, _∙_}
+use Prim.Native.Nat.{ℕ, _<_, _≤_, _^_}
 use native.Mathlib.Omega.{arith}
-use native.Mathlib.Nat.{lt-irrefl}
-use mathlib.Core.Bool.{Bool, true, false}
+use mathlib.Core.Bool.{Bool}
 use mathlib.Core.List.{List, [], _∷_}
 use mathlib.Core.WellFounded.{InvImage·wf}
 use lib.Dec.{T as Holds, ltb, lt→ltb, ltb→lt}
@@ -32,7 +31,7 @@ use types.Run.{look, look-raw, store, init, forget, stop, hop, fld, from, load, 
 use types.Share.{arr-parts}
 use sound.Loop.{loop-rule}
 use sound.WpLaws.{fmOf, WpFn-mono}
-use denote.RattleType.{RattleType, owns}
+use denote.RattleType.{owns}
 use denote.Laws.{Is, shows}
 use denote.Memory.{shares, pointee}
 use denote.Plain.{uint-makes}
@@ -60,13 +59,14 @@ use Rattle.bare.specs.declared.Told.{Told}
 use Rattle.handed.specs.declared.Handed.{Handed}
 use Rattle.bare.proofs.Answers.{finish-answers}
 use Rattle.bare.proofs.Chased.{Stands, begun-stands, going, left, step-left, step-stands}
-use Rattle.bare.proofs.Items.{itemAt, noItem}
 use Rattle.bare.proofs.Query as Q
 use Rattle.bare.proofs.Query.Laws as Q′
 use Rattle.bare.proofs.Chase as K
 use Rattle.bare.proofs.Chase.Laws as K′
 use Rattle.bare.proofs.Told as E
 use Rattle.bare.proofs.Told.Laws as E′
+use Rattle.handed.proofs.Supplied.{itemAt, noItem}
+use Rattle.handed.proofs.Walked.{R, by-test, fails, holds, itemVal, scaled}
 use Rattle.handed.proofs.Handed as T
 use Rattle.handed.proofs.Handed.Laws as T′
 use Rattle.bare.proofs.begin as begin
@@ -86,42 +86,14 @@ use Rattle.bare.proofs.ask as all
 use Rattle.bare.proofs.ask.Statement as stated
 use Rattle.bare.proofs.ask.Code as code
 use Rattle.bare.proofs.ask.Code.Mir as mir′
-
-abbrev R : RattleType
-R = T.the-row
+use Rattle.theory.specs.Limits.{limits}
 
 abbrev stayed : Stays (all.ended .signature .params) (all.ended .kept)
 stayed = (stay-none (λ _. Q.the-row) yes, (stay-none-slice (0 ∷ []) tt (plain (λ _. R)) yes, (gave-slice (1 ∷ []) tt (plain (λ _. u8)), tt)))
 
--- ---- truth values and numbers
-holds : (t : Bool) → Holds t → t ≡ true
-holds true _ = refl
-holds false a = absurd a
-
-fails : (t : Bool) → (Holds t → ⊥) → t ≡ false
-fails true f = absurd (f tt)
-fails false _ = refl
-
-scaled : (i n : ℕ) → i < n → n * 32 < 2 ^ 63 → i * 32 < 2 ^ 64
-scaled i n l g = omega (arith, l, g)
-
--- a test on whether i is below n, with what each outcome says
-by-test : (i n : ℕ) {P : Type 1} → (i < n → P) → (n ≤ i → P) → P
-by-test i n {P} yes′ no′ = go (ltb i n) refl
-  where
-    go : (t : Bool) → ltb i n ≡ t → P
-    go true e = yes′ (ltb→lt i n (subst Holds (sym e) tt))
-    go false e = no′ (omega (arith, not-below))
-      where
-        not-below : i < n → ⊥
-        not-below l = subst Holds e (lt→ltb i n l)
-
 -- ---- the machine values
 abbrev askVal : Query → Val
 askVal q = LL.tuple-val Q.the-type Q′.the-laws (Q.the-type .to q)
-
-abbrev itemVal : Handed → Val
-itemVal r = LL.tuple-val T.the-type T′.the-laws (T.the-type .to r)
 
 abbrev chaseVal : Chase → Val
 chaseVal c = LL.tuple-val K.the-type K′.the-laws (K.the-type .to c)
@@ -263,7 +235,7 @@ module _ {M : Type 1} (𝓤 : URA M) (H : Heap 𝓤) (A : Atoms 𝓤) (W : Given
   abbrev Lent : Chase → List (Item 𝓤)
   Lent c = ‵ (flft κ′ q₁) ∷ ‵ (chaseOwn c) ∷ ‵ askOwn ∷ ‵ MutOwn ∷ []
 
-  goes-finish : (c : Chase) → (c .assumptions ≤ 32) × (c .top ≤ 128) → ent 𝓤 (⋆ 𝓤 H A (Lent c)) (Finish 𝓤 H A mem run .pre (to-finish c))
+  goes-finish : (c : Chase) → (c .assumptions ≤ limits .assumptions) × (c .top ≤ limits .numbers) → ent 𝓤 (⋆ 𝓤 H A (Lent c)) (Finish 𝓤 H A mem run .pre (to-finish c))
   goes-finish c ok =
       qed W (Lent c) ∵ says ! ok $ nothing ! $ move ! (1 ∷ 0 ∷ []) $ join ! $ frame ! $
       nothing ! $ move ! (3 ∷ 0 ∷ []) $ fjoin ! $ move ! (2 ∷ 0 ∷ []) $ fjoin ! $ move ! (1 ∷ 0 ∷ []) $ fjoin ! $ done !

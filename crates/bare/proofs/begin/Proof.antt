@@ -3,7 +3,8 @@ use mathlib.Core.Path.{_∙_, sym}
 use Prim.Native.Nat.{_≤_}
 use native.Mathlib.Omega.{arith}
 use borrow.Author.Needs.{needs}
-use Rattle.bare.proofs.Steps.{begun-first, begun-over, within}
+use Rattle.bare.proofs.Steps.{begun-first, begun-over, counts-low}
+use Rattle.theory.specs.Limits.{limits}
 use Rattle.bare.proofs.begin.Statement.{statement}
 use Rattle.bare.proofs.begin.Tie as tie
 
@@ -11,8 +12,8 @@ use Rattle.bare.proofs.begin.Tie as tie
 abbrev entry : tie.Else1 → tie.Start
 entry c = c .before .before
 
-few : (c : tie.Else1) → (c .before .before .args .ask .assumptions ≤ 32) × (c .before .before .args .ask .claims ≤ 96)
-few c = within (c .before .before .args .ask) (sym (c .before .over .ensures) ∙ c .if1 .left)
+few : (c : tie.Else1) → (c .before .before .args .ask .assumptions ≤ limits .assumptions) × (c .before .before .args .ask .claims ≤ limits .claims)
+few c = counts-low (c .before .before .args .ask) (sym (c .before .over .ensures) ∙ c .if1 .left)
 
 returns : tie.Need-returns
 returns c = begun-over (c .before .before .args .ask) (c .before .before .args .items) (sym (c .before .over .ensures) ∙ c .if1 .taken)

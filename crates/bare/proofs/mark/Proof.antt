@@ -7,14 +7,15 @@ use lib.Seq.{length-take-le}
 use Rattle.bare.proofs.Steps.{entry-fits, few, means, sound}
 use Rattle.following.specs.Marks.{markBy}
 use borrow.Author.Needs.{needs}
+use Rattle.theory.specs.Limits.{limits}
 use Rattle.bare.proofs.mark.Statement.{statement}
 use Rattle.bare.proofs.mark.Tie as tie
 
 array-share-prefix-supports : tie.Need-array-share-prefix-supports
-array-share-prefix-supports c = let a = c .before .args in let e : length (a .item .supports) ≡ 4 = search needs in omega (arith, e, few (a .top) (a .item) (c .before .pre .2))
+array-share-prefix-supports c = let a = c .before .args in let e : length (a .item .supports) ≡ limits .supports = search needs in omega (arith, e, few (a .top) (a .item) (c .before .pre .2))
 
 slice-aggregate-canonical : tie.Need-slice-aggregate-canonical
-slice-aggregate-canonical c = let a = c .before .before .args in let e : length (a .item .supports) ≡ 4 = search needs in sym (length-take-le _ _ (omega (arith, e, few (a .top) (a .item) (c .before .before .pre .2))))
+slice-aggregate-canonical c = let a = c .before .before .args in let e : length (a .item .supports) ≡ limits .supports = search needs in sym (length-take-le _ _ (omega (arith, e, few (a .top) (a .item) (c .before .before .pre .2))))
 
 canonical-requires : tie.Need-canonical-requires
 canonical-requires c κs = (c .before .before .pre .0, sound (c .before .before .args .top) (c .before .before .args .item) (c .before .before .pre .2))

@@ -1,5 +1,5 @@
 -- `bare::step` meets its contract. Assumes nothing.
-use mathlib.Core.Path.{_∙_, ap, sym}
+use mathlib.Core.Path.{_∙_, sym}
 use Rattle.bare.proofs.Items.{is-zero}
 use Rattle.bare.proofs.Steps.{step-follow, step-halt}
 use borrow.Author.Needs.{needs}

@@ -1,18 +1,19 @@
 -- `lines::contradicted` meets its contract. Assumes nothing.
 use mathlib.Core.Bool.{Bool, _&&_}
-use mathlib.Core.Path.{_∙_, _≡_, ap, ap₂, sym}
-use Prim.Native.Nat.{ℕ}
+use mathlib.Core.Path.{_∙_, _≡_, ap, sym}
+use Prim.Native.Nat.{_*_}
 use native.Mathlib.Omega.{arith}
 use borrow.Author.Needs.{needs}
 use lib.ListN.{getD, length}
 use Rattle.following.proofs.Places.{all-told}
 use Rattle.lines.proofs.Follows.{followable}
 use Rattle.store.proofs.Reading.{unlabelled-no, unlabelled-yes}
-use Rattle.store.specs.Reading.{contradictedIn, heldFromAll, unlabelled}
+use Rattle.store.specs.Reading.{contradictedIn, heldFromAll}
+use Rattle.theory.specs.Limits.{limits}
 use Rattle.lines.proofs.contradicted.Statement.{statement}
 use Rattle.lines.proofs.contradicted.Tie as tie
 
-long : (s : tie.Start) → length (s .args .store .lists .members) ≡ 1536
+long : (s : tie.Start) → length (s .args .store .lists .members) ≡ limits .numbers * limits .label
 long s = search needs
 
 returns : tie.Need-returns

@@ -8,9 +8,11 @@ use borrow.Author.Needs.{needs}
 use Rattle.lines.proofs.Fits.{line-refused, line-rest}
 use Rattle.lines.proofs.Longest.{line-length}
 use Rattle.lines.proofs.Told.{text-told}
+use Rattle.lines.specs.Lines.{longest}
 use Rattle.store.proofs.Reading.{Readable, readable}
 use Rattle.text.proofs.Writing.{blank-room, front-room, front-taken}
 use Rattle.wording.specs.Wording.{lineWith}
+use Rattle.theory.specs.Limits.{limits}
 use Rattle.lines.proofs.line.Statement.{statement}
 use Rattle.lines.proofs.line.Tie as tie
 
@@ -30,11 +32,11 @@ after-lined c = c .before .before .before .before .before
 known : (c : tie.Else1) → Readable (entry c .args .store) (entry c .args .n) 0
 known c = readable (entry c .args .store) (entry c .args .n) 0 _ (c .before .before .refusal .ensures) (sym (c .before .number .ensures) ∙ c .if1 .left)
 
-low : (c : tie.Else1) → (entry c) .args .n ≤ 128
+low : (c : tie.Else1) → (entry c) .args .n ≤ limits .numbers
 low c = let k = known c in omega (arith, k .number, k .fit .few, k .fit .claims)
 
-nogoods : (s : tie.Start) → length (s .args .store .lists .nogoods) ≤ 32
-nogoods s = let e : length (s .args .store .lists .nogoods) ≡ 32 = search needs in omega arith
+nogoods : (s : tie.Start) → length (s .args .store .lists .nogoods) ≤ limits .nogoods
+nogoods s = let e : length (s .args .store .lists .nogoods) ≡ limits .nogoods = search needs in omega arith
 
 returns : tie.Need-returns
 returns c = let a = c .before .before .before .before .args in line-refused (a .store) _ (a .n) _ (c .before .before .refusal .ensures) (λ z. c .if1 .taken (c .before .number .ensures ∙ z))
@@ -46,7 +48,7 @@ lined-requires : tie.Need-lined-requires
 lined-requires c κs =
     let s = entry (c .before .before) in
     let k = known (c .before .before) .right in
-    (k, low (c .before .before), blank-room 2857 (lineWith (s .args .store .lists) (s .args .n) (c .before .contradicted .result)) (line-length (s .args .store) (s .args .n) _ k (nogoods s) (low (c .before .before))))
+    (k, low (c .before .before), blank-room longest (lineWith (s .args .store .lists) (s .args .n) (c .before .contradicted .result)) (line-length (s .args .store) (s .args .n) _ k (nogoods s) (low (c .before .before))))
 
 array-share-prefix-text : tie.Need-array-share-prefix-text
 array-share-prefix-text c = front-room (c .before .lined .ensures)

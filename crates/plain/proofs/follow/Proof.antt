@@ -1,11 +1,13 @@
 -- `plain::follow` meets its contract: the refusals, then the stages. Assumes nothing.
 use mathlib.Core.Path.{_∙_, ap, sym}
+use Prim.Native.Nat.{_+_}
 use borrow.Author.Needs.{needs}
 use Rattle.following.proofs.First.{stages-since}
 use Rattle.following.specs.First.{stagesFrom}
 use Rattle.plain.proofs.Laws.{followable, followed-done, followed-refused, placed}
 use Rattle.rules.specs.Held.{saidBy}
 use Rattle.store.proofs.Reading.{Readable, readable}
+use Rattle.theory.specs.Limits.{limits}
 use Rattle.plain.proofs.follow.Statement.{statement}
 use Rattle.plain.proofs.follow.Tie as tie
 
@@ -24,7 +26,7 @@ returns-2 c =
     let a = c .before .before .before .before .before .args in
     let J = saidBy (a .store .held) in
     followed-done (a .store) (a .n) (a .e) _ (c .before .before .before .before .refusal .ensures) (sym (c .before .before .before .number .ensures) ∙ c .before .before .if1 .left) (c .stages .result)
-    (c .stages .ensures ∙ ap (stagesFrom J 129 0) (c .before .sown .ensures) ∙ stages-since J (placed (a .store) (known (c .before .before) .fit)) (a .e))
+    (c .stages .ensures ∙ ap (stagesFrom J (limits .numbers + 1) 0) (c .before .sown .ensures) ∙ stages-since J (placed (a .store) (known (c .before .before) .fit)) (a .e))
 
 pub follow-spec : {M : Type 1} → statement M
 follow-spec = tie.close (tie.spec (λ c κs. search needs) (λ c κs. search needs) returns (λ c κs. search needs) stages-requires returns-2)

@@ -5,10 +5,10 @@
 --     more, ends       a turn that does one item, and the turn that leaves the loop, with the rest of the body
 -- Assumes nothing.
 use mathlib.Core.Path.{_≡_, refl, sym, ap, _∙_, subst}
-use Prim.Native.Nat.{ℕ, _+_, _-_, _*_, _<_, _≤_, _^_}
+use Prim.Native.Nat.{ℕ, _+_, _-_, _<_, _≤_, _^_}
 use native.Mathlib.Omega.{arith}
 use native.Mathlib.Nat.{le-antisymm, lt-irrefl}
-use mathlib.Core.Bool.{Bool, true, false}
+use mathlib.Core.Bool.{Bool, true}
 use mathlib.Core.List.{List, [], _∷_, _++_}
 use mathlib.Core.WellFounded.{InvImage·wf}
 use lib.Dec.{T as Holds, ltb, lt→ltb, ltb→lt, lit<}
@@ -32,7 +32,7 @@ use types.Run.{look, look-raw, store, init, forget, stop, hop, fld, from, load, 
 use types.Share.{arr-parts}
 use sound.Loop.{loop-rule}
 use sound.WpLaws.{fmOf, WpFn-mono}
-use denote.RattleType.{RattleType, owns}
+use denote.RattleType.{owns}
 use denote.Laws.{Is, shows}
 use denote.Lend.{Held}
 use denote.Memory.{shares, pointee}
@@ -62,7 +62,7 @@ use Rattle.store.specs.Calls.{answer}
 use Rattle.store.specs.Shape.{rightShape}
 use Rattle.store.specs.declared.Outcome.{Outcome}
 use Rattle.store.specs.declared.Store.{Store}
-use Rattle.season.proofs.Folds.{Goes, all-end, all-right, begun-goes, bytes-next, bytes-none, itemAt, noItem, store-next, store-none}
+use Rattle.season.proofs.Folds.{Goes, all-end, all-right, begun-goes, bytes-next, bytes-none, store-next, store-none}
 use Rattle.store.proofs.Store as S
 use Rattle.store.proofs.Store.Laws as S′
 use Rattle.store.proofs.Outcome as O
@@ -71,6 +71,8 @@ use Rattle.season.proofs.Begun as B
 use Rattle.season.proofs.Begun.Laws as B′
 use Rattle.season.proofs.Numbered as D
 use Rattle.season.proofs.Numbered.Laws as D′
+use Rattle.handed.proofs.Supplied.{itemAt, noItem}
+use Rattle.handed.proofs.Walked.{R, by-test, fails, holds, itemVal, scaled}
 use Rattle.handed.proofs.Handed as T
 use Rattle.handed.proofs.Handed.Laws as T′
 use Rattle.season.proofs.begin as begin
@@ -91,24 +93,10 @@ use Rattle.season.proofs.add_all.Statement as stated
 use Rattle.season.proofs.add_all.Code as code
 use Rattle.season.proofs.add_all.Code.Mir as mir′
 
-abbrev R : RattleType
-R = T.the-row
-
 abbrev stayed : Stays (all.ended .signature .params) (all.ended .kept)
 stayed = (stay-none (λ _. S.the-row) yes, (stay-none-slice (0 ∷ []) tt (plain (λ _. R)) yes, (stay-slice (1 ∷ []) tt (plain (λ _. u8)), tt)))
 
--- ---- truth values and numbers
-holds : (t : Bool) → Holds t → t ≡ true
-holds true _ = refl
-holds false a = absurd a
-
-fails : (t : Bool) → (Holds t → ⊥) → t ≡ false
-fails true f = absurd (f tt)
-fails false _ = refl
-
-scaled : (i n : ℕ) → i < n → n * 32 < 2 ^ 63 → i * 32 < 2 ^ 64
-scaled i n l g = omega (arith, l, g)
-
+-- ---- numbers
 next-fits : (i n : ℕ) → i < n → n < 2 ^ 64 → i + 1 < 2 ^ 64
 next-fits i n l g = omega (arith, l, g)
 
@@ -121,23 +109,9 @@ falls i n l = omega (arith, l)
 below : (i n m k : ℕ) → i < n → n ≤ m → k ≡ m → i < k
 below i n m k l w e = omega (arith, l, w, e)
 
--- a test on whether i is below n, with what each outcome says
-by-test : (i n : ℕ) {P : Type 1} → (i < n → P) → (n ≤ i → P) → P
-by-test i n {P} yes′ no′ = go (ltb i n) refl
-  where
-    go : (t : Bool) → ltb i n ≡ t → P
-    go true e = yes′ (ltb→lt i n (subst Holds (sym e) tt))
-    go false e = no′ (omega (arith, not-below))
-      where
-        not-below : i < n → ⊥
-        not-below l = subst Holds e (lt→ltb i n l)
-
 -- ---- the machine values
 abbrev storeVal : Store → Val
 storeVal s = LL.tuple-val S.the-type S′.the-laws (S.the-type .to s)
-
-abbrev itemVal : Handed → Val
-itemVal r = LL.tuple-val T.the-type T′.the-laws (T.the-type .to r)
 
 abbrev gaveVal : Gave → Val
 gaveVal a = LL.tuple-val D.the-type D′.the-laws (D.the-type .to a)

@@ -7,6 +7,7 @@ use Rattle.handed.proofs.Supplied.{taken-all}
 use Rattle.handed.specs.declared.Handed.{Handed}
 use Rattle.rules.proofs.Steps.{length-mapped}
 use Rattle.season.specs.Season.{addAllOf, bytesAfter}
+use Rattle.theory.specs.Limits.{limits}
 use Rattle.season.proofs.add_some.Statement.{statement}
 use Rattle.season.proofs.add_some.Tie as tie
 
@@ -14,13 +15,13 @@ use Rattle.season.proofs.add_some.Tie as tie
 abbrev entry : tie.Then1 → tie.Start
 entry c = c .before .before
 
-many : (s : tie.Start) → length (s .args .list) ≡ 256
+many : (s : tie.Start) → length (s .args .list) ≡ limits .held
 many s = search (needs, length-mapped)
 
 returns : tie.Need-returns
 returns c =
     let a = entry (c .before .before .before .before) .args in
-    let all = taken-all (a .list) 256 (a .n) (many (entry (c .before .before .before .before))) (c .before .before .before .before .if1 .taken) in
+    let all = taken-all (a .list) (limits .held) (a .n) (many (entry (c .before .before .before .before))) (c .before .before .before .before .if1 .taken) in
     (c .before .before .add-first .ensures .0 ∙ ap (λ (l : List Handed). addAllOf (a .store) l (a .out .now)) all, c .before .before .add-first .ensures .1 ∙ ap (λ (l : List Handed). bytesAfter (a .store) l (a .out .now)) all)
 
 returns-2 : tie.Need-returns-2

@@ -9,6 +9,7 @@ use Rattle.season.proofs.Folds.{give-many}
 use Rattle.store.proofs.Changes.{more-added}
 use Rattle.store.proofs.Shapes.{shape-elim}
 use Rattle.store.specs.Calls.{addOf, afterOf}
+use Rattle.theory.specs.Limits.{limits}
 use Rattle.season.proofs.give.Statement.{statement}
 use Rattle.season.proofs.give.Tie as tie
 
@@ -16,7 +17,7 @@ use Rattle.season.proofs.give.Tie as tie
 abbrev entry : tie.Else1 → tie.Start
 entry c = c .before .before
 
-four : (s : tie.Start) → length (s .args .item .supports) ≡ 4
+four : (s : tie.Start) → length (s .args .item .supports) ≡ limits .supports
 four s = search needs
 
 returns : tie.Need-returns

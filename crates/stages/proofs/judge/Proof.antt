@@ -10,7 +10,8 @@ use Rattle.stages.proofs.Marks.{fresh-start}
 use Rattle.stages.proofs.Walk.{fromStage, judge-from, judge-reached, most, walk-fresh, walk-less, walk-next, walk-on, walk-refused, walk-settled}
 use Rattle.stages.proofs.Stages.{layout}
 use Rattle.stages.specs.Steps.{Fresh, Reached}
-use Rattle.theory.specs.Judge.{judge, limits}
+use Rattle.theory.specs.Judge.{judge}
+use Rattle.theory.specs.Limits.{limits}
 use Rattle.stages.proofs.judge.Statement.{statement}
 use Rattle.stages.proofs.judge.Tie as tie
 

@@ -10,6 +10,7 @@ use Rattle.wording.specs.Wording.{lineWith, wordOf}
 use Rattle.text.proofs.Writing.{Left, left-as}
 use Rattle.text.specs.Texts.{row}
 use borrow.Author.Needs.{needs}
+use Rattle.theory.specs.Limits.{limits}
 use Rattle.wording.proofs.lined.Statement.{statement}
 use Rattle.wording.proofs.lined.Tie as tie
 
@@ -30,11 +31,11 @@ abbrev yes1 : tie.After-out → tie.Then1
 yes1 c = c .before .before .before .before .before
 
 nogoods : (c : tie.Then1) → let s = c .before .before .before in let l = s .args .store .lists in let n = s .args .n in let out = s .args .out .now in let x = take (l .count) (l .nogoods) in
-    Left (row 32 n (wordOf n x (s .args .follows)) x) 0 out (lineWith l n (s .args .follows)) 0 out
+    Left (row (limits .assumptions) n (wordOf n x (s .args .follows)) x) 0 out (lineWith l n (s .args .follows)) 0 out
 nogoods c = let s = c .before .before .before in left-as (text-nogoods (s .args .store .lists) (s .args .n) (s .args .follows) (c .if1 .taken)) (s .pre .2)
 
 label : (c : tie.Else1) → let s = c .before .before .before in let l = s .args .store .lists in let n = s .args .n in let out = s .args .out .now in let x = labelOf l (n - 1) in
-    Left (row 32 n (wordOf n x (s .args .follows)) x) 0 out (lineWith l n (s .args .follows)) 0 out
+    Left (row (limits .assumptions) n (wordOf n x (s .args .follows)) x) 0 out (lineWith l n (s .args .follows)) 0 out
 label c = let s = c .before .before .before in left-as (text-label (s .args .store .lists) (s .args .n) (s .args .follows) (c .if1 .left)) (s .pre .2)
 
 size : (c : tie.Else1) → let s = c .before .before .before in getD (s .args .store .lists .sizes) (s .args .n - 1) 0 ≤ 12

@@ -7,6 +7,7 @@ use Rattle.wording.proofs.Rows.{word-nogood, word-none, word-some}
 use Rattle.wording.specs.Wording.{wordOf}
 use Rattle.text.proofs.Writing.{Left, left-as}
 use Rattle.text.specs.Texts.{row, word}
+use Rattle.theory.specs.Limits.{limits}
 use Rattle.theory.specs.Lists.{choose}
 use borrow.Author.Needs.{needs}
 use Rattle.wording.proofs.worded.Statement.{statement}
@@ -16,10 +17,10 @@ use Rattle.wording.proofs.worded.Tie as tie
 abbrev Worded : tie.Start → List ℕ → Type 0
 Worded s words =
     let n = s .args .n in let l = s .args .list .now in let out = s .args .out .now in
-    Left (row 32 n words l) 0 out (row 32 n (wordOf n l (s .args .follows)) l) 0 out
+    Left (row (limits .assumptions) n words l) 0 out (row (limits .assumptions) n (wordOf n l (s .args .follows)) l) 0 out
 
 worded : (s : tie.Start) (words : List ℕ) → wordOf (s .args .n) (s .args .list .now) (s .args .follows) ≡ words → Worded s words
-worded s words e = left-as (ap (λ (w : List ℕ). row 32 (s .args .n) w (s .args .list .now)) e) (s .pre)
+worded s words e = left-as (ap (λ (w : List ℕ). row (limits .assumptions) (s .args .n) w (s .args .list .now)) e) (s .pre)
 
 nogood : (c : tie.Then1) → Worded (c .before .before .before) (word " nogood")
 nogood c = worded (c .before .before .before) (word " nogood") (word-nogood _ _ _ (c .if1 .taken))
@@ -36,41 +37,15 @@ against c = worded (c .before .before .before .before .before) (word " contradic
 none : (c : tie.Else3) → Worded (c .before .before .before .before .before) (word " unsupported")
 none c = worded (c .before .before .before .before .before) (word " unsupported") (empty (c .before) ∙ ap (λ (b : Bool). choose b (word " contradicted") (word " unsupported")) (c .if3 .left))
 
-line-requires : tie.Need-line-requires
-unfolding word
-line-requires c κs = nogood (c .before .before) .room
-
-returns : tie.Need-returns
-unfolding word
-returns c = nogood (c .before .before .before .before .before) .done _ _ (c .before .before .line .ensures)
-
-line-requires-2 : tie.Need-line-requires-2
-unfolding word
-line-requires-2 c κs = some (c .before .before) .room
-
-returns-2 : tie.Need-returns-2
-unfolding word
-returns-2 c = some (c .before .before .before .before .before) .done _ _ (c .before .before .line2 .ensures)
-
-line-requires-3 : tie.Need-line-requires-3
-unfolding word
-line-requires-3 c κs = against (c .before .before) .room
-
-returns-3 : tie.Need-returns-3
-unfolding word
-returns-3 c = against (c .before .before .before .before .before) .done _ _ (c .before .before .line3 .ensures)
-
-line-requires-4 : tie.Need-line-requires-4
-unfolding word
-line-requires-4 c κs = none (c .before .before) .room
-
-returns-4 : tie.Need-returns-4
-unfolding word
-returns-4 c = none (c .before .before .before .before .before) .done _ _ (c .before .before .line4 .ensures)
-
 pub worded-spec : {M : Type 1} → statement M
+unfolding word
 worded-spec =
     tie.close
-    (tie.spec (λ c. search needs) line-requires (λ c. search needs) returns (λ c. search needs) line-requires-2 (λ c. search needs)
-    returns-2 (λ c. search needs) line-requires-3 (λ c. search needs) returns-3 (λ c. search needs) line-requires-4 (λ c. search needs)
-    returns-4)
+    (tie.spec (λ c. search needs) (λ c κs. nogood (c .before .before) .room)
+    (λ c. search needs) (λ c. nogood (c .before .before .before .before .before) .done _ _ (c .before .before .line .ensures))
+    (λ c. search needs) (λ c κs. some (c .before .before) .room)
+    (λ c. search needs) (λ c. some (c .before .before .before .before .before) .done _ _ (c .before .before .line2 .ensures))
+    (λ c. search needs) (λ c κs. against (c .before .before) .room)
+    (λ c. search needs) (λ c. against (c .before .before .before .before .before) .done _ _ (c .before .before .line3 .ensures))
+    (λ c. search needs) (λ c κs. none (c .before .before) .room)
+    (λ c. search needs) (λ c. none (c .before .before .before .before .before) .done _ _ (c .before .before .line4 .ensures)))

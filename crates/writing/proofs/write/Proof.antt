@@ -1,6 +1,7 @@
 -- `writing::write` meets its contract. Assumes nothing.
 use mathlib.Core.Bool.{true}
 use mathlib.Core.Path.{_∙_, _≡_, sym}
+use Prim.Native.Nat.{_*_, _+_}
 use borrow.Author.Tests.{not-false, not-true}
 use lib.Seq.{length-take-le}
 use Rattle.store.specs.Shape.{rightShape}
@@ -9,6 +10,7 @@ use Rattle.writing.proofs.Files.{file-length}
 use Rattle.writing.proofs.Turns.{shape-fits, write-rest, write-shape}
 use Rattle.writing.specs.Writing.{fileOf}
 use borrow.Author.Needs.{needs}
+use Rattle.theory.specs.Limits.{limits}
 use Rattle.writing.proofs.write.Statement.{statement}
 use Rattle.writing.proofs.write.Tie as tie
 
@@ -34,7 +36,7 @@ put-held-requires : tie.Need-put-held-requires
 put-held-requires c κs =
     let h = entry (c .before .before) .args .store .held in
     let f = shape-fits (entry (c .before .before) .args .store) (right (c .before .before)) in
-    (f, blank-room 1796 (fileOf h) (file-length h f))
+    (f, blank-room (limits .held * (limits .supports + 3) + 4) (fileOf h) (file-length h f))
 
 array-share-prefix-text : tie.Need-array-share-prefix-text
 array-share-prefix-text c = front-room (c .before .put-held .ensures)

@@ -1,5 +1,5 @@
 -- `after` meets its contract: the change, then the stages. Assumes nothing.
-use mathlib.Core.Path.{_∙_, ap, sym}
+use mathlib.Core.Path.{_∙_, sym}
 use borrow.Author.Needs.{needs}
 use Rattle.store.proofs.Changes.{after-done, after-refused, after-stages}
 use Rattle.store.proofs.Store.after.Statement.{statement}
