@@ -14,11 +14,12 @@ use Rattle.rules.specs.Items.{sameJustification}
 use Rattle.rules.specs.declared.Entry.{Entry}
 use Rattle.rules.specs.declared.Held.{Held}
 use Rattle.theory.specs.Cases.{room}
+use Rattle.theory.specs.Limits.{limits}
 use Rattle.theory.specs.Lists.{someOf}
 use Rattle.theory.specs.Stages.{Justification}
 
 -- one more, not yet held
-pub put-right : (h : Held) (e : Entry) → heldRight h ≡ true → h .count < 256 → fitting (h .assumptions + h .claims) e ≡ true → someOf (sameJustification (meaning e)) (saidBy h) ≡ false
+pub put-right : (h : Held) (e : Entry) → heldRight h ≡ true → h .count < limits .held → fitting (h .assumptions + h .claims) e ≡ true → someOf (sameJustification (meaning e)) (saidBy h) ≡ false
     → heldRight (heldOf (h .assumptions) (h .claims) (put (meaning e) (saidBy h))) ≡ true
 put-right h e r room fits new =
     let N : ℕ = h .assumptions + h .claims in

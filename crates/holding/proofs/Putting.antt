@@ -20,6 +20,7 @@ use Rattle.holding.specs.Placing.{insertAt, placeOf, withEntries}
 use Rattle.rules.specs.declared.Entry.{Entry}
 use Rattle.rules.specs.declared.Held.{Held}
 use Rattle.theory.proofs.Places.{is-table}
+use Rattle.theory.specs.Limits.{limits}
 use Rattle.theory.specs.Lists.{choose, someOf}
 use Rattle.theory.specs.Places.{padded}
 use Rattle.theory.specs.Stages.{Justification, ahead}
@@ -135,17 +136,17 @@ module _ (h : Held) (right : heldRight h ≡ true) (e : Entry) (a : ℕ) (so : a
   pub place-held : a ≤ h .count
   place-held = omega (arith, place-le r J, said-many h right)
 
-  module _ (room : h .count < 256) (fits : fitting (h .assumptions + h .claims) e ≡ true) where
+  module _ (room : h .count < limits .held) (fits : fitting (h .assumptions + h .claims) e ≡ true) where
     many : length J ≡ h .count
     many = said-many h right
 
-    long : length (h .entries) ≡ 256
+    long : length (h .entries) ≡ limits .held
     long = right-elim h right .long
 
     wide : h .count < length (h .entries)
     wide = omega (arith, long, room)
 
-    at : (i : ℕ) → i < 256 → getD (insertAt (h .entries) a (h .count) e) i beyond ≡ entryOf (getD (put r J) i nothingSaid)
+    at : (i : ℕ) → i < limits .held → getD (insertAt (h .entries) a (h .count) e) i beyond ≡ entryOf (getD (put r J) i nothingSaid)
     at i p =
         let l : List Entry = h .entries in
         elim (decLt i a) [
@@ -169,10 +170,10 @@ module _ (h : Held) (right : heldRight h ≡ true) (e : Entry) (a : ℕ) (so : a
         up : (i : ℕ) → (i < a → ⊥) → a ≤ i
         up i q = omega arith
 
-    inserted : insertAt (h .entries) a (h .count) e ≡ padded vacant 256 (map entryOf (put r J))
+    inserted : insertAt (h .entries) a (h .count) e ≡ padded vacant (limits .held) (map entryOf (put r J))
     unfolding padded
     inserted =
-        is-table (insertAt (h .entries) a (h .count) e) 256 (λ i. getD (map entryOf (put r J)) i vacant) beyond
+        is-table (insertAt (h .entries) a (h .count) e) (limits .held) (λ i. getD (map entryOf (put r J)) i vacant) beyond
         (insert-length (h .entries) a (h .count) e place-held wide ∙ long) (λ i p. at i p ∙ sym (entry-at (put r J) i))
 
     pub put-held : (k : Held) → k ≡ withEntries h (h .count + 1) (insertAt (h .entries) a (h .count) e) → k ≡ heldOf (h .assumptions) (h .claims) (put r J)

@@ -22,6 +22,7 @@ use Rattle.holding.specs.Placing.{placeOf, removeAt, withEntries}
 use Rattle.rules.specs.declared.Entry.{Entry}
 use Rattle.rules.specs.declared.Held.{Held}
 use Rattle.theory.proofs.Places.{getD-table, is-table, length-table}
+use Rattle.theory.specs.Limits.{limits}
 use Rattle.theory.specs.Lists.{choose, someOf}
 use Rattle.theory.specs.Places.{padded, table}
 use Rattle.theory.specs.Stages.{Justification}
@@ -96,12 +97,12 @@ module _ (h : Held) (right : heldRight h ≡ true) where
   J = saidBy h
 
   -- a place not in use
-  pub right-vacant : (k : ℕ) → h .count ≤ k → k < 256 → getD (h .entries) k beyond ≡ vacant
+  pub right-vacant : (k : ℕ) → h .count ≤ k → k < limits .held → getD (h .entries) k beyond ≡ vacant
   right-vacant k p q = places h right k q ∙ ap entryOf (List·getD-eq-default J nothingSaid {n = k} (omega (arith, said-many h right))) ∙ sym vacant-entry
 
   -- each place, and after the last
   every : (i : ℕ) → getD (h .entries) i vacant ≡ entryOf (getD J i nothingSaid)
-  every i = elim (decLt i 256) [
+  every i = elim (decLt i (limits .held)) [
     | yes p ↦ inside-any (h .entries) i vacant beyond (omega (arith, right-elim h right .long)) ∙ places h right i p
     | no p ↦ List·getD-eq-default (h .entries) vacant {n = i} (omega (arith, right-elim h right .long)) ∙ vacant-entry
         ∙ ap entryOf (sym (List·getD-eq-default J nothingSaid {n = i} (omega (arith, said-many h right, right-elim h right .few))))
@@ -122,12 +123,12 @@ module _ (h : Held) (right : heldRight h ≡ true) where
         every (choose (ltb i a) i (suc i)) ∙ ap (λ (x : ℕ). entryOf (getD J (choose (ltb i x) i (suc i)) nothingSaid)) so
         ∙ ap entryOf (dropped-at r J (right-elim h right .order) among i nothingSaid)
 
-    removed : removeAt (h .entries) a ≡ padded vacant 256 (map entryOf (dropped r J))
+    removed : removeAt (h .entries) a ≡ padded vacant (limits .held) (map entryOf (dropped r J))
     unfolding padded removeAt
     removed =
         let n : ℕ = length (h .entries) in
         let f : ℕ → Entry = λ i. getD (h .entries) (choose (ltb i a) i (suc i)) vacant in
-        is-table (table n f) 256 (λ i. getD (map entryOf (dropped r J)) i vacant) beyond (length-table n f ∙ right-elim h right .long)
+        is-table (table n f) (limits .held) (λ i. getD (map entryOf (dropped r J)) i vacant) beyond (length-table n f ∙ right-elim h right .long)
         (λ i p. getD-table n f i beyond (omega (arith, right-elim h right .long)) ∙ at i ∙ sym (entry-at (dropped r J) i))
 
     pub removed-held : (k : Held) → k ≡ withEntries h (h .count - 1) (removeAt (h .entries) a) → k ≡ heldOf (h .assumptions) (h .claims) (dropped r J)

@@ -21,6 +21,7 @@ use Rattle.theory.specs.Lists.{choose, someOf}
 use Rattle.theory.specs.Stages.{Justification, ahead, lesser}
 use Rattle.rules.specs.Items.{sameJustification}
 use Rattle.theory.specs.Judge.{sameSets}
+use Rattle.theory.specs.Limits.{limits}
 
 -- ---- the order of two lists
 module _ (a b : List ℕ) (i : ℕ) where
@@ -61,7 +62,7 @@ module _ (r t : Justification) where
   same-rest e b p = rw (eq-eqb (r .consequent) (t .consequent) e) p
 
 -- ---- two places
-module _ (s t : Entry) (e : length (s .supports) ≡ 4) (f : length (t .supports) ≡ 4) (p : s .count ≤ 4) (q : t .count ≤ 4) where
+module _ (s t : Entry) (e : length (s .supports) ≡ limits .supports) (f : length (t .supports) ≡ limits .supports) (p : s .count ≤ limits .supports) (q : t .count ≤ limits .supports) where
   mine : length (take (s .count) (s .supports)) ≡ s .count
   mine = length-take-le (s .count) (s .supports) (omega arith)
 

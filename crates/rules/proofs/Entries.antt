@@ -16,6 +16,7 @@ use Rattle.rules.specs.declared.Entry.{Entry}
 use Rattle.rules.specs.declared.Held.{Held}
 use Rattle.theory.proofs.Lists.{and-left, and-right, clash, not-so}
 use Rattle.theory.proofs.Places.{getD-table, is-table, length-table}
+use Rattle.theory.specs.Limits.{limits}
 use Rattle.theory.specs.Lists.{allOf, someOf}
 use Rattle.theory.specs.Places.{padded, table}
 use Rattle.theory.specs.Stages.{Justification}
@@ -61,10 +62,10 @@ padded-spare p z n l h =
 -- ---- a place in range
 pub record Fits (N : ℕ) (e : Entry) : Type 0 where
   pub low : e .consequent ≤ N
-  pub few : e .count ≤ 4
+  pub few : e .count ≤ limits .supports
   pub rising : climbs N 0 (take (e .count) (e .supports)) ≡ true
   pub foreign : someOf (eqb (e .consequent)) (take (e .count) (e .supports)) ≡ false
-  pub long : length (e .supports) ≡ 4
+  pub long : length (e .supports) ≡ limits .supports
   pub spare : allOf (eqb 0) (drop (e .count) (e .supports)) ≡ true
 
 pub fits-elim : (N : ℕ) (e : Entry) → fitting N e ≡ true → Fits N e
@@ -72,22 +73,22 @@ unfolding fitting
 fits-elim N e h =
     let C : Bool = climbs N 0 (take (e .count) (e .supports)) in
     let h₁ = and-right (leb (e .consequent) N) _ h in
-    let h₂ = and-right (leb (e .count) 4) _ h₁ in
+    let h₂ = and-right (leb (e .count) (limits .supports)) _ h₁ in
     let O : Bool = someOf (eqb (e .consequent)) (take (e .count) (e .supports)) in
     let h₃ = and-right C _ h₂ in
     let h₄ = and-right (not O) _ h₃ in
     record {
       low = leb-true (e .consequent) N (and-left (leb (e .consequent) N) _ h);
-      few = leb-true (e .count) 4 (and-left (leb (e .count) 4) _ h₁);
+      few = leb-true (e .count) (limits .supports) (and-left (leb (e .count) (limits .supports)) _ h₁);
       rising = and-left C _ h₂;
       foreign = not-so O (λ h. clash (and-left (not O) _ h₃) (ap not h));
-      long = eqb-true (length (e .supports)) 4 (and-left (eqb (length (e .supports)) 4) _ h₄);
-      spare = and-right (eqb (length (e .supports)) 4) _ h₄;
+      long = eqb-true (length (e .supports)) (limits .supports) (and-left (eqb (length (e .supports)) (limits .supports)) _ h₄);
+      spare = and-right (eqb (length (e .supports)) (limits .supports)) _ h₄;
     }
 
 pub fits-intro : (N : ℕ) (e : Entry) → Fits N e → fitting N e ≡ true
 unfolding fitting
-fits-intro N e f = rw (le-leb (e .consequent) N (f .low), le-leb (e .count) 4 (f .few), f .rising, f .foreign, eq-eqb (length (e .supports)) 4 (f .long)) (f .spare)
+fits-intro N e f = rw (le-leb (e .consequent) N (f .low), le-leb (e .count) (limits .supports) (f .few), f .rising, f .foreign, eq-eqb (length (e .supports)) (limits .supports) (f .long)) (f .spare)
 
 entry : ℕ → ℕ → List ℕ → Entry
 entry c n l = record { consequent = c; count = n; supports = l }
@@ -97,24 +98,24 @@ pub entry-again : (N : ℕ) (e : Entry) → fitting N e ≡ true → e ≡ entry
 unfolding entry
 entry-again N e h =
     let f = fits-elim N e h in
-    ap₂ (λ (n : ℕ) (l : List ℕ). entry (e .consequent) n l) (sym (length-take-le (e .count) (e .supports) (omega (arith, f .few, f .long)))) (zeros-padded (e .supports) (e .count) 4 (f .long) (f .spare))
+    ap₂ (λ (n : ℕ) (l : List ℕ). entry (e .consequent) n l) (sym (length-take-le (e .count) (e .supports) (omega (arith, f .few, f .long)))) (zeros-padded (e .supports) (e .count) (limits .supports) (f .long) (f .spare))
 
 -- the place of a justification says it
-pub meaning-entry : (j : Justification) → length (j .supports) ≤ 4 → meaning (entryOf j) ≡ j
-meaning-entry j h = ap (λ (l : List ℕ). record { consequent = j .consequent; supports = l }) (unpadded 0 4 (j .supports) h)
+pub meaning-entry : (j : Justification) → length (j .supports) ≤ limits .supports → meaning (entryOf j) ≡ j
+meaning-entry j h = ap (λ (l : List ℕ). record { consequent = j .consequent; supports = l }) (unpadded 0 (limits .supports) (j .supports) h)
 
 -- the place of a justification in range is in range
-pub entry-fits : (N : ℕ) (j : Justification) → j .consequent ≤ N → length (j .supports) ≤ 4 → climbs N 0 (j .supports) ≡ true → someOf (eqb (j .consequent)) (j .supports) ≡ false
+pub entry-fits : (N : ℕ) (j : Justification) → j .consequent ≤ N → length (j .supports) ≤ limits .supports → climbs N 0 (j .supports) ≡ true → someOf (eqb (j .consequent)) (j .supports) ≡ false
     → fitting N (entryOf j) ≡ true
 entry-fits N j low few rising foreign =
     fits-intro N (entryOf j)
     (record {
       low = low;
       few = few;
-      rising = ap (climbs N 0) (unpadded 0 4 (j .supports) few) ∙ rising;
-      foreign = ap (someOf (eqb (j .consequent))) (unpadded 0 4 (j .supports) few) ∙ foreign;
-      long = length-padded 0 4 (j .supports);
-      spare = padded-spare (eqb 0) 0 4 (j .supports) refl;
+      rising = ap (climbs N 0) (unpadded 0 (limits .supports) (j .supports) few) ∙ rising;
+      foreign = ap (someOf (eqb (j .consequent))) (unpadded 0 (limits .supports) (j .supports) few) ∙ foreign;
+      long = length-padded 0 (limits .supports) (j .supports);
+      spare = padded-spare (eqb 0) 0 (limits .supports) (j .supports) refl;
     })
 
 -- ---- an unused place
@@ -134,19 +135,19 @@ unfolding unusedEntry entry padded table
 vacant-again e h =
     let h₁ = and-right (eqb (e .consequent) 0) _ h in
     let h₂ = and-right (eqb (e .count) 0) _ h₁ in
-    let q : length (e .supports) ≡ 4 = eqb-true (length (e .supports)) 4 (and-left (eqb (length (e .supports)) 4) _ h₂) in
+    let q : length (e .supports) ≡ limits .supports = eqb-true (length (e .supports)) (limits .supports) (and-left (eqb (length (e .supports)) (limits .supports)) _ h₂) in
     let c : e .consequent ≡ 0 = eqb-true (e .consequent) 0 (and-left (eqb (e .consequent) 0) _ h) in
     let n : e .count ≡ 0 = eqb-true (e .count) 0 (and-left (eqb (e .count) 0) _ h₁) in
-    let l : e .supports ≡ padded 0 4 (take 0 (e .supports)) = zeros-padded (e .supports) 0 4 q (and-right (eqb (length (e .supports)) 4) _ h₂) in
+    let l : e .supports ≡ padded 0 (limits .supports) (take 0 (e .supports)) = zeros-padded (e .supports) 0 (limits .supports) q (and-right (eqb (length (e .supports)) (limits .supports)) _ h₂) in
     ap₂ (λ (x y : ℕ). entry x y (e .supports)) c n ∙ ap (entry 0 0) l
 
 -- ---- what is held
 pub entry-at : (J : List Justification) (i : ℕ) → getD (map entryOf J) i vacant ≡ entryOf (getD J i nothingSaid)
 entry-at J i = ap (getD (map entryOf J) i) vacant-entry ∙ List·getD-map entryOf J i nothingSaid
 
--- at most 4 supports each
+-- no more supports than the limit, each
 abbrev pub Small : List Justification → Type 0
-Small J = (j : Justification) → Mem j J → length (j .supports) ≤ 4
+Small J = (j : Justification) → Mem j J → length (j .supports) ≤ limits .supports
 
 pub reread : (J : List Justification) → Small J → map meaning (map entryOf J) ≡ J
 reread [] f = refl
@@ -163,7 +164,7 @@ module _ (h : Held) (right : heldRight h ≡ true) where
   said-many = said-length (h .entries) (h .count) inside
 
   -- each place
-  pub places : (i : ℕ) → i < 256 → getD (h .entries) i beyond ≡ entryOf (getD (saidBy h) i nothingSaid)
+  pub places : (i : ℕ) → i < limits .held → getD (h .entries) i beyond ≡ entryOf (getD (saidBy h) i nothingSaid)
   places i p =
       let k = right-elim h right in
       elim (decLt i (h .count)) [
@@ -176,10 +177,10 @@ module _ (h : Held) (right : heldRight h ≡ true) where
       ]
 
 -- ---- nothing held
-blank : replicate 256 vacant ≡ padded vacant 256 (map entryOf [])
+blank : replicate (limits .held) vacant ≡ padded vacant (limits .held) (map entryOf [])
 unfolding padded
-blank = is-table (replicate 256 vacant) 256 (λ i. getD (map entryOf []) i vacant) vacant (length-replicate 256 vacant) (λ i p. getD-replicate 256 i vacant vacant p)
+blank = is-table (replicate (limits .held) vacant) (limits .held) (λ i. getD (map entryOf []) i vacant) vacant (length-replicate (limits .held) vacant) (λ i p. getD-replicate (limits .held) i vacant vacant p)
 
-pub held-nothing : (A M : ℕ) (l : List Entry) → l ≡ replicate 256 vacant → _≡_ {A = Held} (record { assumptions = A; claims = M; count = 0; entries = l }) (heldOf A M [])
+pub held-nothing : (A M : ℕ) (l : List Entry) → l ≡ replicate (limits .held) vacant → _≡_ {A = Held} (record { assumptions = A; claims = M; count = 0; entries = l }) (heldOf A M [])
 unfolding heldOf
 held-nothing A M l e = ap (λ (k : List Entry). record { assumptions = A; claims = M; count = 0; entries = k }) (e ∙ blank)

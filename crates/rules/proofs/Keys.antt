@@ -16,6 +16,7 @@ use Rattle.rules.specs.Placing.{Bytes, byte, bytesIn, keyOf, valueFrom}
 use Rattle.rules.specs.declared.Entry.{Entry}
 use Rattle.slices.proofs.Laws.{none-of-both}
 use Rattle.theory.proofs.Lists.{and-intro, and-left, and-right, same-test}
+use Rattle.theory.specs.Limits.{limits}
 use Rattle.theory.specs.Lists.{allOf}
 use Rattle.theory.specs.Sets.{union}
 use Rattle.theory.specs.Stages.{ahead, lesser}
@@ -50,7 +51,7 @@ module _ (a b c d : ℕ) where
       and-intro (eq-eqb 0 (x + 256 * y) (omega (arith, eqb-true x 0 (and-left (eqb x 0) _ t), eqb-true y 0 (and-left (eqb y 0) _ t₁))))
       (eq-eqb 0 (16777216 * a + 65536 * b + 256 * c + d) (omega (arith, eqb-true 0 d (and-left (eqb 0 d) _ t₂), eqb-true 0 c (and-left (eqb 0 c) _ t₃), eqb-true 0 b (and-left (eqb 0 b) _ t₄), eqb-true 0 a (and-left (eqb 0 a) _ t₅)))))
 
-module _ (e : Entry) (long : length (e .supports) ≡ 4) where
+module _ (e : Entry) (long : length (e .supports) ≡ limits .supports) where
   abbrev at : ℕ → ℕ
   at i = getD (e .supports) i 0
 
@@ -61,7 +62,7 @@ module _ (e : Entry) (long : length (e .supports) ≡ 4) where
       ap (λ (v : ℕ). eqb 0 (union (e .consequent + 256 * e .count) v)) (h ∙ sym (value-four (at 3) (at 2) (at 1) (at 0)))
       ∙ bits-six (at 3) (at 2) (at 1) (at 0) (e .consequent) (e .count)
       ∙ ap (λ (m : List ℕ). eqb (e .consequent) 0 && (eqb (e .count) 0 && allOf (eqb 0) m)) (sym (four (e .supports) long))
-      ∙ ap (λ (b : Bool). eqb (e .consequent) 0 && (eqb (e .count) 0 && (b && allOf (eqb 0) (e .supports)))) (sym (eq-eqb (length (e .supports)) 4 long))
+      ∙ ap (λ (b : Bool). eqb (e .consequent) 0 && (eqb (e .count) 0 && (b && allOf (eqb 0) (e .supports)))) (sym (eq-eqb (length (e .supports)) (limits .supports) long))
 
   key-sum : (w : ℕ) → w ≡ valueFrom 0 (at 0 ∷ at 1 ∷ at 2 ∷ at 3 ∷ []) → 1099511627776 * e .consequent + 4294967296 * e .count + w ≡ valueFrom (256 * (256 * 0 + e .consequent) + e .count) (at 0 ∷ at 1 ∷ at 2 ∷ at 3 ∷ [])
   unfolding valueFrom

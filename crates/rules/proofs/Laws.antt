@@ -23,6 +23,7 @@ use Rattle.theory.proofs.Listing.{below-elim}
 use Rattle.theory.proofs.Lists.{all-elim, all-intro, and-intro, and-left, and-right, clash, not-so, some-elim, those-elim}
 use Rattle.theory.proofs.Order.{below-sorted, rising, sorted-head, sorted-tail, sorted-those}
 use Rattle.theory.proofs.Places.{is-table}
+use Rattle.theory.specs.Limits.{limits}
 use Rattle.theory.specs.Lists.{allOf, numbersBelow, someOf, sortedBy, those}
 use Rattle.theory.specs.Places.{padded}
 use Rattle.theory.specs.Stages.{Justification}
@@ -32,14 +33,14 @@ pub right-held : (h : Held) → heldRight h ≡ true → h ≡ heldOf (h .assump
 unfolding heldOf padded
 right-held h r =
     ap₂ (λ (n : ℕ) (l : List Entry). record { assumptions = h .assumptions; claims = h .claims; count = n; entries = l }) (sym (said-many h r))
-    (is-table (h .entries) 256 (λ i. getD (map entryOf (saidBy h)) i vacant) beyond (right-elim h r .long) (λ i p. places h r i p ∙ sym (entry-at (saidBy h) i)))
+    (is-table (h .entries) (limits .held) (λ i. getD (map entryOf (saidBy h)) i vacant) beyond (right-elim h r .long) (λ i p. places h r i p ∙ sym (entry-at (saidBy h) i)))
 
 -- J as it is held says J
-pub held-said : (A M : ℕ) (J : List Justification) → length J ≤ 256 → ((j : Justification) → Mem j J → length (j .supports) ≤ 4) → saidBy (heldOf A M J) ≡ J
+pub held-said : (A M : ℕ) (J : List Justification) → length J ≤ limits .held → ((j : Justification) → Mem j J → length (j .supports) ≤ limits .supports) → saidBy (heldOf A M J) ≡ J
 unfolding heldOf
 held-said A M J few small =
-    ap (λ (n : ℕ). map meaning (take n (padded vacant 256 (map entryOf J)))) (sym (length-map J entryOf))
-    ∙ ap (map meaning) (unpadded vacant 256 (map entryOf J) (omega (arith, length-map J entryOf))) ∙ reread J small
+    ap (λ (n : ℕ). map meaning (take n (padded vacant (limits .held) (map entryOf J)))) (sym (length-map J entryOf))
+    ∙ ap (map meaning) (unpadded vacant (limits .held) (map entryOf J) (omega (arith, length-map J entryOf))) ∙ reread J small
 
 -- ---- the range of what is held
 pub climbs-between : (N p : ℕ) (l : List ℕ) → climbs N p l ≡ true → (s : ℕ) → Mem s l → (p < s) × (s ≤ N)
@@ -55,7 +56,7 @@ climbs-between N p (x ∷ l) e s m =
 -- a justification in range, N being A + M
 pub record Ranged (N : ℕ) (j : Justification) : Type 0 where
   pub low : j .consequent ≤ N
-  pub few : length (j .supports) ≤ 4
+  pub few : length (j .supports) ≤ limits .supports
   pub rising : climbs N 0 (j .supports) ≡ true
   pub foreign : someOf (eqb (j .consequent)) (j .supports) ≡ false
   pub between : (s : ℕ) → Mem s (j .supports) → (1 ≤ s) × (s ≤ N)
@@ -81,24 +82,24 @@ right-range h r j m =
     let b = mem-back meaning (take (h .count) (h .entries)) m in
     subst (Ranged N) (sym (b .2)) (fitting-ranged N (b .0) (all-elim (fitting N) (right-elim h r .fits) (b .1)))
 
-pub held-right : (A M : ℕ) (J : List Justification) → length J ≤ 256 → ((j : Justification) → Mem j J → Ranged (A + M) j) → ordered J ≡ true → heldRight (heldOf A M J) ≡ true
+pub held-right : (A M : ℕ) (J : List Justification) → length J ≤ limits .held → ((j : Justification) → Mem j J → Ranged (A + M) j) → ordered J ≡ true → heldRight (heldOf A M J) ≡ true
 unfolding heldOf
 held-right A M J few f o =
     let small : Small J = λ j m. f j m .few in
     let e : length (map entryOf J) ≡ length J = length-map J entryOf in
-    let P : List Entry = padded vacant 256 (map entryOf J) in
-    let first : take (length J) P ≡ map entryOf J = ap (λ (n : ℕ). take n P) (sym e) ∙ unpadded vacant 256 (map entryOf J) (omega arith) in
+    let P : List Entry = padded vacant (limits .held) (map entryOf J) in
+    let first : take (length J) P ≡ map entryOf J = ap (λ (n : ℕ). take n P) (sym e) ∙ unpadded vacant (limits .held) (map entryOf J) (omega arith) in
     right-intro (heldOf A M J)
     (record {
       few = few;
-      long = length-padded vacant 256 (map entryOf J);
+      long = length-padded vacant (limits .held) (map entryOf J);
       fits = ap (allOf (fitting (A + M))) first ∙ all-intro (fitting (A + M)) (map entryOf J)
           (λ x m.
           let b = mem-back entryOf J m in
           let r = f (b .0) (b .1) in
           ap (fitting (A + M)) (b .2) ∙ entry-fits (A + M) (b .0) (r .low) (r .few) (r .rising) (r .foreign));
       order = ap ordered (held-said A M J few small) ∙ o;
-      spare = ap (λ (n : ℕ). allOf unusedEntry (drop n P)) (sym e) ∙ padded-spare unusedEntry vacant 256 (map entryOf J) vacant-unused;
+      spare = ap (λ (n : ℕ). allOf unusedEntry (drop n P)) (sym e) ∙ padded-spare unusedEntry vacant (limits .held) (map entryOf J) vacant-unused;
     })
 
 -- nothing held has the right shape

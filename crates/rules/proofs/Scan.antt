@@ -14,6 +14,7 @@ use Rattle.rules.specs.Held.{fitting, heldRight, meaning, ordered, saidB
 use Rattle.rules.specs.declared.Entry.{Entry}
 use Rattle.rules.specs.declared.Held.{Held}
 use Rattle.theory.proofs.Lists.{and-left, and-right}
+use Rattle.theory.specs.Limits.{limits}
 use Rattle.theory.specs.Lists.{allOf}
 use Rattle.theory.specs.Stages.{Justification, ahead}
 
@@ -67,11 +68,11 @@ module _ (entries : List Entry) (n : ℕ) (fits : n ≤ length entries) where
 
 -- ---- the right shape
 module _ (h : Held) where
-  pub right-many : 256 < h .count → false ≡ heldRight h
+  pub right-many : limits .held < h .count → false ≡ heldRight h
   unfolding heldRight
-  right-many p = rw (lt-leb (h .count) 256 p)
+  right-many p = rw (lt-leb (h .count) (limits .held) p)
 
-  module _ (few : h .count ≤ 256) (long : length (h .entries) ≡ 256) where
+  module _ (few : h .count ≤ limits .held) (long : length (h .entries) ≡ limits .held) where
     abbrev N : ℕ
     N = h .assumptions + h .claims
 
@@ -81,18 +82,18 @@ module _ (h : Held) where
 
     pub right-out : placed ≡ false → false ≡ heldRight h
     unfolding heldRight
-    right-out p = rw (le-leb (h .count) 256 few, eq-eqb (length (h .entries)) 256 long) (sym (and-first (allOf (fitting N) (take (h .count) (h .entries))) (ordered (saidBy h)) _ p))
+    right-out p = rw (le-leb (h .count) (limits .held) few, eq-eqb (length (h .entries)) (limits .held) long) (sym (and-first (allOf (fitting N) (take (h .count) (h .entries))) (ordered (saidBy h)) _ p))
 
     pub right-rest : placed ≡ true → (r : Bool) → r ≡ allOf unusedEntry (drop (h .count) (h .entries)) → r ≡ heldRight h
     unfolding heldRight
     right-rest p r e =
         let F : Bool = allOf (fitting N) (take (h .count) (h .entries)) in
-        rw (le-leb (h .count) 256 few, eq-eqb (length (h .entries)) 256 long, and-left F (ordered (saidBy h)) p, and-right F (ordered (saidBy h)) p) e
+        rw (le-leb (h .count) (limits .held) few, eq-eqb (length (h .entries)) (limits .held) long, and-left F (ordered (saidBy h)) p, and-right F (ordered (saidBy h)) p) e
 
 -- what a right shape says
 pub record Right (h : Held) : Type 0 where
-  pub few : h .count ≤ 256
-  pub long : length (h .entries) ≡ 256
+  pub few : h .count ≤ limits .held
+  pub long : length (h .entries) ≡ limits .held
   pub fits : allOf (fitting (h .assumptions + h .claims)) (take (h .count) (h .entries)) ≡ true
   pub order : ordered (saidBy h) ≡ true
   pub spare : allOf unusedEntry (drop (h .count) (h .entries)) ≡ true
@@ -100,13 +101,13 @@ pub record Right (h : Held) : Type 0 where
 pub right-elim : (h : Held) → heldRight h ≡ true → Right h
 unfolding heldRight
 right-elim h r =
-    let r₁ = and-right (leb (h .count) 256) _ r in
-    let r₂ = and-right (eqb (length (h .entries)) 256) _ r₁ in
+    let r₁ = and-right (leb (h .count) (limits .held)) _ r in
+    let r₂ = and-right (eqb (length (h .entries)) (limits .held)) _ r₁ in
     let F : Bool = allOf (fitting (h .assumptions + h .claims)) (take (h .count) (h .entries)) in
     let r₃ = and-right F _ r₂ in
     record {
-      few = leb-true (h .count) 256 (and-left (leb (h .count) 256) _ r);
-      long = eqb-true (length (h .entries)) 256 (and-left (eqb (length (h .entries)) 256) _ r₁);
+      few = leb-true (h .count) (limits .held) (and-left (leb (h .count) (limits .held)) _ r);
+      long = eqb-true (length (h .entries)) (limits .held) (and-left (eqb (length (h .entries)) (limits .held)) _ r₁);
       fits = and-left F _ r₂;
       order = and-left (ordered (saidBy h)) _ r₃;
       spare = and-right (ordered (saidBy h)) _ r₃;
@@ -114,13 +115,13 @@ right-elim h r =
 
 pub right-intro : (h : Held) → Right h → heldRight h ≡ true
 unfolding heldRight
-right-intro h r = rw (le-leb (h .count) 256 (r .few), eq-eqb (length (h .entries)) 256 (r .long), r .fits, r .order) (r .spare)
+right-intro h r = rw (le-leb (h .count) (limits .held) (r .few), eq-eqb (length (h .entries)) (limits .held) (r .long), r .fits, r .order) (r .spare)
 
 pub right-inside : (h : Held) → heldRight h ≡ true → h .count ≤ length (h .entries)
 right-inside h r = let k = right-elim h r in omega (arith, k .few, k .long)
 
--- each place in use has at most 4 supports
-pub right-count : (h : Held) → heldRight h ≡ true → (j : ℕ) → j < h .count → getD (h .entries) j beyond .count ≤ 4
+-- each place in use has no more supports than the limit
+pub right-count : (h : Held) → heldRight h ≡ true → (j : ℕ) → j < h .count → getD (h .entries) j beyond .count ≤ limits .supports
 right-count h r j p =
     let N : ℕ = h .assumptions + h .claims in
     fitting-count N (getD (h .entries) j beyond) (all-first (fitting N) (h .entries) (h .count) j beyond (right-inside h r) (right-elim h r .fits) p)

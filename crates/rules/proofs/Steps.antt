@@ -15,6 +15,7 @@ use Rattle.rules.specs.Held.{climbs, fitting}
 use Rattle.rules.specs.declared.Entry.{Entry}
 use Rattle.slices.proofs.Laws.{any-hit, any-miss}
 use Rattle.theory.proofs.Lists.{and-intro, and-left, and-right, clash, same-test}
+use Rattle.theory.specs.Limits.{limits}
 use Rattle.theory.specs.Lists.{allOf, someOf}
 
 -- what is read past the last place
@@ -151,24 +152,24 @@ module _ (N : ℕ) (e : Entry) where
   unfolding fitting
   fits-above h = rw (lt-leb (e .consequent) N h)
 
-  pub fits-many : e .consequent ≤ N → 4 < e .count → false ≡ fitting N e
+  pub fits-many : e .consequent ≤ N → limits .supports < e .count → false ≡ fitting N e
   unfolding fitting
-  fits-many h k = rw (le-leb (e .consequent) N h, lt-leb (e .count) 4 k)
+  fits-many h k = rw (le-leb (e .consequent) N h, lt-leb (e .count) (limits .supports) k)
 
-  pub fits-not : e .consequent ≤ N → e .count ≤ 4
+  pub fits-not : e .consequent ≤ N → e .count ≤ limits .supports
       → climbs N 0 (take (e .count) (e .supports)) && not (someOf (eqb (e .consequent)) (take (e .count) (e .supports))) ≡ false → false ≡ fitting N e
   unfolding fitting
-  fits-not h k t = rw (le-leb (e .consequent) N h, le-leb (e .count) 4 k) (sym (and-first (climbs N 0 (take (e .count) (e .supports))) (not (someOf (eqb (e .consequent)) (take (e .count) (e .supports)))) _ t))
+  fits-not h k t = rw (le-leb (e .consequent) N h, le-leb (e .count) (limits .supports) k) (sym (and-first (climbs N 0 (take (e .count) (e .supports))) (not (someOf (eqb (e .consequent)) (take (e .count) (e .supports)))) _ t))
 
-  pub fits-rest : e .consequent ≤ N → e .count ≤ 4
-      → climbs N 0 (take (e .count) (e .supports)) && not (someOf (eqb (e .consequent)) (take (e .count) (e .supports))) ≡ true → length (e .supports) ≡ 4
+  pub fits-rest : e .consequent ≤ N → e .count ≤ limits .supports
+      → climbs N 0 (take (e .count) (e .supports)) && not (someOf (eqb (e .consequent)) (take (e .count) (e .supports))) ≡ true → length (e .supports) ≡ limits .supports
       → (r : Bool) → r ≡ allOf (eqb 0) (drop (e .count) (e .supports)) → r ≡ fitting N e
   unfolding fitting
   fits-rest h k t q r p =
       let u : Bool = climbs N 0 (take (e .count) (e .supports)) in
       let v : Bool = not (someOf (eqb (e .consequent)) (take (e .count) (e .supports))) in
-      rw (le-leb (e .consequent) N h, le-leb (e .count) 4 k, and-left u v t, and-right u v t, eq-eqb (length (e .supports)) 4 q) p
+      rw (le-leb (e .consequent) N h, le-leb (e .count) (limits .supports) k, and-left u v t, and-right u v t, eq-eqb (length (e .supports)) (limits .supports) q) p
 
-pub fitting-count : (N : ℕ) (e : Entry) → fitting N e ≡ true → e .count ≤ 4
+pub fitting-count : (N : ℕ) (e : Entry) → fitting N e ≡ true → e .count ≤ limits .supports
 unfolding fitting
-fitting-count N e h = leb-true (e .count) 4 (and-left (leb (e .count) 4) _ (and-right (leb (e .consequent) N) _ h))
+fitting-count N e h = leb-true (e .count) (limits .supports) (and-left (leb (e .count) (limits .supports)) _ (and-right (leb (e .consequent) N) _ h))

@@ -19,6 +19,7 @@ use Rattle.rules.specs.declared.Entry.{Entry}
 use Rattle.theory.proofs.Listing.{below-elim}
 use Rattle.theory.proofs.Lists.{clash, either, those-elim}
 use Rattle.theory.proofs.Places.{getD-table, is-table, length-table}
+use Rattle.theory.specs.Limits.{limits}
 use Rattle.theory.specs.Lists.{keep, numbersBelow, someOf, those}
 use Rattle.theory.specs.Places.{padded, table}
 
@@ -119,12 +120,12 @@ module _ (l : List ℕ) (n x : ℕ) (h : length l < n) where
       getD-set-other (table n (λ i. getD l i 0)) (length l) i x 0 ne ∙ getD-table n (λ i. getD l i 0) i 0 p ∙ after i ne)
       (either (eqb i (length l))))
 
-module _ (c : ℕ) (l : List ℕ) (n : ℕ) (small : length l ≤ 4) (j : Entry) (so : j ≡ partly c l n) where
+module _ (c : ℕ) (l : List ℕ) (n : ℕ) (small : length l ≤ limits .supports) (j : Entry) (so : j ≡ partly c l n) where
   used : j .count ≡ length (firstOf l n)
   unfolding partly
   used = ap (λ (k : Entry). k .count) so
 
-  pub taking-room : someOf (eqb n) l ≡ true → j .count < 4
+  pub taking-room : someOf (eqb n) l ≡ true → j .count < limits .supports
   taking-room t = omega (arith, used, first-few l (suc n), ap length (first-hit l n t), length-append (firstOf l n) (n ∷ []))
 
   pub taking-hit : someOf (eqb n) l ≡ true → _≡_ {A = Entry} (record { consequent = j .consequent; count = j .count + 1; supports = set (j .supports) (j .count) n }) (partly c l (n + 1))
@@ -132,9 +133,9 @@ module _ (c : ℕ) (l : List ℕ) (n : ℕ) (small : length l ≤ 4) (j : Entry)
   taking-hit t =
       let e : firstOf l (n + 1) ≡ firstOf l n ++ (n ∷ []) = ap (firstOf l) (add-one n) ∙ first-hit l n t in
       let f : length (firstOf l n) + 1 ≡ length (firstOf l n ++ (n ∷ [])) = sym (length-append (firstOf l n) (n ∷ [])) in
-      let room : length (firstOf l n) < 4 = omega (arith, used, taking-room t) in
+      let room : length (firstOf l n) < limits .supports = omega (arith, used, taking-room t) in
       ap (λ (k : Entry). record { consequent = k .consequent; count = k .count + 1; supports = set (k .supports) (k .count) n }) so
-      ∙ ap₂ (λ (m : ℕ) (s : List ℕ). record { consequent = c; count = m; supports = s }) f (padded-push (firstOf l n) 4 n room)
+      ∙ ap₂ (λ (m : ℕ) (s : List ℕ). record { consequent = c; count = m; supports = s }) f (padded-push (firstOf l n) (limits .supports) n room)
       ∙ ap (λ (m : List ℕ). entryOf (record { consequent = c; supports = m })) (sym e)
 
   pub taking-miss : someOf (eqb n) l ≡ false → j ≡ partly c l (n + 1)

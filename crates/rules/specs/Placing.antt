@@ -8,6 +8,7 @@ use lib.ListN.{length}
 use Rattle.rules.specs.Held.{entryOf}
 use Rattle.rules.specs.declared.Entry.{Entry}
 use Rattle.theory.specs.Lists.{allOf, numbersBelow, someOf, those}
+use Rattle.theory.specs.Limits.{limits}
 
 -- the numbers below n that the list has, rising
 abbrev pub firstOf : List ℕ → ℕ → List ℕ
@@ -34,6 +35,6 @@ bytesIn e = e .consequent ∷ e .count ∷ e .supports
 unfoldable pub keyOf : Entry → ℕ
 keyOf e = valueFrom 0 (bytesIn e)
 
--- what a place has are bytes, six of them
+-- what a place has are bytes, and a place for each support that may be
 abbrev pub Bytes : Entry → Type 0
-Bytes e = (allOf byte (bytesIn e) ≡ true) × (length (e .supports) ≡ 4)
+Bytes e = (allOf byte (bytesIn e) ≡ true) × (length (e .supports) ≡ limits .supports)

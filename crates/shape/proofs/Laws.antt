@@ -24,6 +24,7 @@ use Rattle.theory.proofs.Listing.{below-elim, below-intro, within-below}
 use Rattle.theory.proofs.Lists.{all-elim, all-intro, and-intro, and-left, and-right, same-test}
 use Rattle.theory.proofs.Places.{all-end, all-hit, all-miss, all-step}
 use Rattle.theory.proofs.Sets.{or-assoc, within-le, within-left, within-right}
+use Rattle.theory.specs.Limits.{limits}
 use Rattle.theory.specs.Lists.{allOf, numbersBelow, sortedBy}
 use Rattle.theory.specs.Sets.{inRange, union}
 
@@ -124,66 +125,66 @@ module _ (A n : ℕ) (l : List ℕ) where
       (λ t. let s = listed-elim A n l t in and-intro (low-all s) (stood s))
 
 -- ---- all labels
-module _ (A N : ℕ) (sizes members : List ℕ) (top : N ≤ 128) (wide : length sizes ≡ 128) (deep : length members ≡ 1536) where
+module _ (A N : ℕ) (sizes members : List ℕ) (top : N ≤ limits .numbers) (wide : length sizes ≡ limits .numbers) (deep : length members ≡ limits .numbers * limits .label) where
   abbrev row : ℕ → List ℕ
-  row i = take 12 (drop (12 * i) members)
+  row i = take (limits .label) (drop (limits .label * i) members)
 
-  row-long : (i : ℕ) → i < 128 → length (row i) ≡ 12
-  row-long i h = length-take-le 12 (drop (12 * i) members) (omega (arith, length-drop (12 * i) members))
+  row-long : (i : ℕ) → i < limits .numbers → length (row i) ≡ limits .label
+  row-long i h = length-take-le (limits .label) (drop (limits .label * i) members) (omega (arith, length-drop (limits .label * i) members))
 
-  row-at : (i k : ℕ) → k < 12 → getD (row i) k 0 ≡ getD members (12 * i + k) 0
-  row-at i k h = getD-take 12 (drop (12 * i) members) k 0 h ∙ getD-drop (12 * i) members k 0
+  row-at : (i k : ℕ) → k < limits .label → getD (row i) k 0 ≡ getD members (limits .label * i + k) 0
+  row-at i k h = getD-take (limits .label) (drop (limits .label * i) members) k 0 h ∙ getD-drop (limits .label * i) members k 0
 
   -- a test of every place from label N on, and of those before it
-  rows-after : (p : ℕ → Bool) → ((i : ℕ) → N ≤ i → i < 128 → allOf p (row i) ≡ true) → allOf p (drop (12 * N) members) ≡ true
+  rows-after : (p : ℕ → Bool) → ((i : ℕ) → N ≤ i → i < limits .numbers → allOf p (row i) ≡ true) → allOf p (drop (limits .label * N) members) ≡ true
   rows-after p f =
-      by-place p (drop (12 * N) members)
+      by-place p (drop (limits .label * N) members)
       (λ k h.
-      let q : 12 * N + k < 1536 = omega (arith, length-drop (12 * N) members) in
-      let e : 12 * ((12 * N + k) / 12) + (12 * N + k) % 12 ≡ 12 * N + k = omega arith in
-      ap p (getD-drop (12 * N) members k 0 ∙ ap (λ (v : ℕ). getD members v 0) (sym e) ∙ sym (row-at ((12 * N + k) / 12) ((12 * N + k) % 12) (omega arith)))
-      ∙ at-place p (row ((12 * N + k) / 12)) (f ((12 * N + k) / 12) (omega arith) (omega arith)) ((12 * N + k) % 12) (omega (arith, row-long ((12 * N + k) / 12) (omega arith))))
+      let q : limits .label * N + k < limits .numbers * limits .label = omega (arith, length-drop (limits .label * N) members) in
+      let e : limits .label * ((limits .label * N + k) / limits .label) + (limits .label * N + k) % limits .label ≡ limits .label * N + k = omega arith in
+      ap p (getD-drop (limits .label * N) members k 0 ∙ ap (λ (v : ℕ). getD members v 0) (sym e) ∙ sym (row-at ((limits .label * N + k) / limits .label) ((limits .label * N + k) % limits .label) (omega arith)))
+      ∙ at-place p (row ((limits .label * N + k) / limits .label)) (f ((limits .label * N + k) / limits .label) (omega arith) (omega arith)) ((limits .label * N + k) % limits .label) (omega (arith, row-long ((limits .label * N + k) / limits .label) (omega arith))))
 
-  rows-before : (p : ℕ → Bool) → ((i : ℕ) → i < N → allOf p (row i) ≡ true) → allOf p (take (12 * N) members) ≡ true
+  rows-before : (p : ℕ → Bool) → ((i : ℕ) → i < N → allOf p (row i) ≡ true) → allOf p (take (limits .label * N) members) ≡ true
   rows-before p f =
-      by-place p (take (12 * N) members)
+      by-place p (take (limits .label * N) members)
       (λ k h.
-      let q : k < 12 * N = omega (arith, length-take (12 * N) members) in
-      let e : 12 * (k / 12) + k % 12 ≡ k = omega arith in
-      ap p (getD-take (12 * N) members k 0 q ∙ ap (λ (v : ℕ). getD members v 0) (sym e) ∙ sym (row-at (k / 12) (k % 12) (omega arith)))
-      ∙ at-place p (row (k / 12)) (f (k / 12) (omega arith)) (k % 12) (omega (arith, row-long (k / 12) (omega arith))))
+      let q : k < limits .label * N = omega (arith, length-take (limits .label * N) members) in
+      let e : limits .label * (k / limits .label) + k % limits .label ≡ k = omega arith in
+      ap p (getD-take (limits .label * N) members k 0 q ∙ ap (λ (v : ℕ). getD members v 0) (sym e) ∙ sym (row-at (k / limits .label) (k % limits .label) (omega arith)))
+      ∙ at-place p (row (k / limits .label)) (f (k / limits .label) (omega arith)) (k % limits .label) (omega (arith, row-long (k / limits .label) (omega arith))))
 
-  row-after : (p : ℕ → Bool) → allOf p (drop (12 * N) members) ≡ true → (i : ℕ) → N ≤ i → i < 128 → allOf p (row i) ≡ true
+  row-after : (p : ℕ → Bool) → allOf p (drop (limits .label * N) members) ≡ true → (i : ℕ) → N ≤ i → i < limits .numbers → allOf p (row i) ≡ true
   row-after p t i h o =
       by-place p (row i)
       (λ k q.
-      let s : k < 12 = omega (arith, row-long i o) in
-      let e : 12 * N + (12 * i + k - 12 * N) ≡ 12 * i + k = omega arith in
-      ap p (row-at i k s ∙ ap (λ (v : ℕ). getD members v 0) (sym e) ∙ sym (getD-drop (12 * N) members (12 * i + k - 12 * N) 0))
-      ∙ at-place p (drop (12 * N) members) t (12 * i + k - 12 * N) (omega (arith, length-drop (12 * N) members)))
+      let s : k < limits .label = omega (arith, row-long i o) in
+      let e : limits .label * N + (limits .label * i + k - limits .label * N) ≡ limits .label * i + k = omega arith in
+      ap p (row-at i k s ∙ ap (λ (v : ℕ). getD members v 0) (sym e) ∙ sym (getD-drop (limits .label * N) members (limits .label * i + k - limits .label * N) 0))
+      ∙ at-place p (drop (limits .label * N) members) t (limits .label * i + k - limits .label * N) (omega (arith, length-drop (limits .label * N) members)))
 
-  row-before : (p : ℕ → Bool) → allOf p (take (12 * N) members) ≡ true → (i : ℕ) → i < N → allOf p (row i) ≡ true
+  row-before : (p : ℕ → Bool) → allOf p (take (limits .label * N) members) ≡ true → (i : ℕ) → i < N → allOf p (row i) ≡ true
   row-before p t i h =
       by-place p (row i)
       (λ k q.
-      let s : k < 12 = omega (arith, row-long i (omega arith)) in
-      ap p (row-at i k s ∙ sym (getD-take (12 * N) members (12 * i + k) 0 (omega arith)))
-      ∙ at-place p (take (12 * N) members) t (12 * i + k) (omega (arith, length-take-le (12 * N) members (omega arith))))
+      let s : k < limits .label = omega (arith, row-long i (omega arith)) in
+      ap p (row-at i k s ∙ sym (getD-take (limits .label * N) members (limits .label * i + k) 0 (omega arith)))
+      ∙ at-place p (take (limits .label * N) members) t (limits .label * i + k) (omega (arith, length-take-le (limits .label * N) members (omega arith))))
 
-  size-zero : allOf (eqb 0) (drop N sizes) ≡ true → (i : ℕ) → N ≤ i → i < 128 → getD sizes i 0 ≡ 0
+  size-zero : allOf (eqb 0) (drop N sizes) ≡ true → (i : ℕ) → N ≤ i → i < limits .numbers → getD sizes i 0 ≡ 0
   size-zero t i h o =
       let e : N + (i - N) ≡ i = omega arith in
       sym (eqb-true 0 (getD sizes i 0) (ap (λ (v : ℕ). eqb 0 (getD sizes v 0)) (sym e) ∙ ap (eqb 0) (sym (getD-drop N sizes (i - N) 0)) ∙ at-place (eqb 0) (drop N sizes) t (i - N) (omega (arith, length-drop N sizes))))
 
   abbrev parts : Bool
-  parts = allOf (eqb 0) (drop N sizes) && (allOf (eqb 0) (drop (12 * N) members) && (allOf (inRange A) (take (12 * N) members) && allOf (rowRight sizes members) (numbersBelow N)))
+  parts = allOf (eqb 0) (drop N sizes) && (allOf (eqb 0) (drop (limits .label * N) members) && (allOf (inRange A) (take (limits .label * N) members) && allOf (rowRight sizes members) (numbersBelow N)))
 
-  from-parts : parts ≡ true → (i : ℕ) → i < 128 → labelRight A sizes members i ≡ true
+  from-parts : parts ≡ true → (i : ℕ) → i < limits .numbers → labelRight A sizes members i ≡ true
   unfolding sortedBy allOf
   from-parts t i o =
       let z : Bool = allOf (eqb 0) (drop N sizes) in
-      let b : Bool = allOf (eqb 0) (drop (12 * N) members) in
-      let w : Bool = allOf (inRange A) (take (12 * N) members) in
+      let b : Bool = allOf (eqb 0) (drop (limits .label * N) members) in
+      let w : Bool = allOf (inRange A) (take (limits .label * N) members) in
       let r : Bool = allOf (rowRight sizes members) (numbersBelow N) in
       let t1 : b && (w && r) ≡ true = and-right z (b && (w && r)) t in
       let t2 : w && r ≡ true = and-right b (w && r) t1 in
@@ -194,9 +195,9 @@ module _ (A N : ℕ) (sizes members : List ℕ) (top : N ≤ 128) (wide : length
             (listed-intro A 0 (row i) (record { few = omega arith; sorted = refl; low = refl; spare = row-after (eqb 0) (and-left b (w && r) t1) i (omega arith) o }))
       ]
 
-  to-parts : ((i : ℕ) → i < 128 → labelRight A sizes members i ≡ true) → allOf (eqb 0) (drop N sizes) ≡ true → parts ≡ true
+  to-parts : ((i : ℕ) → i < limits .numbers → labelRight A sizes members i ≡ true) → allOf (eqb 0) (drop N sizes) ≡ true → parts ≡ true
   to-parts f z =
-      let g : (i : ℕ) → i < 128 → Listed A (getD sizes i 0) (row i) = λ i o. listed-elim A (getD sizes i 0) (row i) (f i o) in
+      let g : (i : ℕ) → i < limits .numbers → Listed A (getD sizes i 0) (row i) = λ i o. listed-elim A (getD sizes i 0) (row i) (f i o) in
       and-intro z
       (and-intro (rows-after (eqb 0) (λ i h o. subst (λ (n : ℕ). allOf (eqb 0) (drop n (row i)) ≡ true) (size-zero z i h o) (g i o .spare)))
       (and-intro (rows-before (inRange A) (λ i h. low-all A (getD sizes i 0) (row i) (g i (omega arith))))
@@ -205,26 +206,26 @@ module _ (A N : ℕ) (sizes members : List ℕ) (top : N ≤ 128) (wide : length
   labels-by : parts ≡ labelsRight A N sizes members
   unfolding labelsRight
   labels-by =
-      let q : Bool = allOf (labelRight A sizes members) (numbersBelow 128) in
+      let q : Bool = allOf (labelRight A sizes members) (numbersBelow (limits .numbers)) in
       let z : Bool = allOf (eqb 0) (drop N sizes) in
       same-test
-      (λ t. and-intro (all-intro (labelRight A sizes members) (numbersBelow 128) (λ i m. from-parts t i (below-elim 128 m))) (and-left z _ t))
-      (λ t. to-parts (λ i o. all-elim (labelRight A sizes members) (and-left q z t) (below-intro 128 o)) (and-right q z t))
+      (λ t. and-intro (all-intro (labelRight A sizes members) (numbersBelow (limits .numbers)) (λ i m. from-parts t i (below-elim (limits .numbers) m))) (and-left z _ t))
+      (λ t. to-parts (λ i o. all-elim (labelRight A sizes members) (and-left q z t) (below-intro (limits .numbers) o)) (and-right q z t))
 
   abbrev low-part : Bool
-  low-part = allOf (inRange A) (take (12 * N) members)
+  low-part = allOf (inRange A) (take (limits .label * N) members)
 
   abbrev rows-part : Bool
   rows-part = allOf (rowRight sizes members) (numbersBelow N)
 
   pub labels-spare : allOf (eqb 0) (drop N sizes) ≡ false → false ≡ labelsRight A N sizes members
-  labels-spare h = ap (λ (u : Bool). u && (allOf (eqb 0) (drop (12 * N) members) && (low-part && rows-part))) (sym h) ∙ labels-by
+  labels-spare h = ap (λ (u : Bool). u && (allOf (eqb 0) (drop (limits .label * N) members) && (low-part && rows-part))) (sym h) ∙ labels-by
 
   module _ (z : allOf (eqb 0) (drop N sizes) ≡ true) where
-    pub labels-blank : allOf (eqb 0) (drop (12 * N) members) ≡ false → false ≡ labelsRight A N sizes members
+    pub labels-blank : allOf (eqb 0) (drop (limits .label * N) members) ≡ false → false ≡ labelsRight A N sizes members
     labels-blank h = ap₂ (λ (u v : Bool). u && (v && (low-part && rows-part))) (sym z) (sym h) ∙ labels-by
 
-    module _ (b : allOf (eqb 0) (drop (12 * N) members) ≡ true) where
+    module _ (b : allOf (eqb 0) (drop (limits .label * N) members) ≡ true) where
       labels-rest : low-part && rows-part ≡ labelsRight A N sizes members
       labels-rest = ap₂ (λ (u v : Bool). u && (v && (low-part && rows-part))) (sym z) (sym b) ∙ labels-by
 
@@ -235,8 +236,8 @@ module _ (A N : ℕ) (sizes members : List ℕ) (top : N ≤ 128) (wide : length
       labels-low h r e = e ∙ ap (λ (u : Bool). u && rows-part) (sym h) ∙ labels-rest
 
 -- what the call says of the label's own places
-pub row-places : (sizes members : List ℕ) (i : ℕ) (r : Bool) → r ≡ standing (getD sizes i 0) (take (12 * i + 12 - 12 * i) (drop (12 * i) members)) → r ≡ rowRight sizes members i
-row-places sizes members i r p = let e : 12 * i + 12 - 12 * i ≡ 12 = omega arith in p ∙ ap (λ (n : ℕ). standing (getD sizes i 0) (take n (drop (12 * i) members))) e
+pub row-places : (sizes members : List ℕ) (i : ℕ) (r : Bool) → r ≡ standing (getD sizes i 0) (take (limits .label * i + limits .label - limits .label * i) (drop (limits .label * i) members)) → r ≡ rowRight sizes members i
+row-places sizes members i r p = let e : limits .label * i + limits .label - limits .label * i ≡ limits .label = omega arith in p ∙ ap (λ (n : ℕ). standing (getD sizes i 0) (take n (drop (limits .label * i) members))) e
 
 -- label by label
 module _ (p : ℕ → Bool) (N i : ℕ) where
@@ -254,22 +255,22 @@ module _ (p : ℕ → Bool) (N i : ℕ) where
 
 -- ---- the whole shape
 module _ (l : Lists) (A N : ℕ) where
-  pub shape-depth : 129 < l .depth → false ≡ listsRight l A N
+  pub shape-depth : limits .numbers + 1 < l .depth → false ≡ listsRight l A N
   unfolding listsRight
-  shape-depth h = rw (lt-leb (l .depth) 129 h)
+  shape-depth h = rw (lt-leb (l .depth) (limits .numbers + 1) h)
 
   and-none : (a : Bool) → false ≡ a && false
   and-none true = refl
   and-none false = refl
 
-  pub shape-nogoods : l .depth ≤ 129 → listed A (l .count) (l .nogoods) ≡ false → false ≡ listsRight l A N
+  pub shape-nogoods : l .depth ≤ limits .numbers + 1 → listed A (l .count) (l .nogoods) ≡ false → false ≡ listsRight l A N
   unfolding listsRight
-  shape-nogoods d q = rw (le-leb (l .depth) 129 d, q) (and-none (labelsRight A N (l .sizes) (l .members)))
+  shape-nogoods d q = rw (le-leb (l .depth) (limits .numbers + 1) d, q) (and-none (labelsRight A N (l .sizes) (l .members)))
 
   and-all : (a : Bool) → a ≡ a && true
   and-all true = refl
   and-all false = refl
 
-  pub shape-rest : l .depth ≤ 129 → listed A (l .count) (l .nogoods) ≡ true → (r : Bool) → r ≡ labelsRight A N (l .sizes) (l .members) → r ≡ listsRight l A N
+  pub shape-rest : l .depth ≤ limits .numbers + 1 → listed A (l .count) (l .nogoods) ≡ true → (r : Bool) → r ≡ labelsRight A N (l .sizes) (l .members) → r ≡ listsRight l A N
   unfolding listsRight
-  shape-rest d q r e = rw (le-leb (l .depth) 129 d, q) (e ∙ and-all (labelsRight A N (l .sizes) (l .members)))
+  shape-rest d q r e = rw (le-leb (l .depth) (limits .numbers + 1) d, q) (e ∙ and-all (labelsRight A N (l .sizes) (l .members)))

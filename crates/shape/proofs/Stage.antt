@@ -21,6 +21,7 @@ use Rattle.theory.proofs.Lists.{all-intro, and-intro, not-so}
 use Rattle.theory.proofs.Order.{before-irrefl, label-sorted, nogoods-sorted, sorted-imply}
 use Rattle.theory.proofs.Places.{getD-table, is-table, length-table}
 use Rattle.theory.specs.Judge.{Stage, stageAt}
+use Rattle.theory.specs.Limits.{limits}
 use Rattle.theory.specs.Lists.{allOf, sortedBy}
 use Rattle.theory.specs.Places.{padded, table}
 use Rattle.theory.specs.Sets.{before, inRange, within}
@@ -75,16 +76,16 @@ module _ (A : ℕ) (J : List Justification) (k : ℕ) where
 -- ---- tables
 
 -- the part of the members that label i + 1 has
-own-places : (ls : List (List ℕ)) (i : ℕ) → i < 128 → take 12 (drop (12 * i) (table 1536 (λ p. getD (getD ls (p / 12) []) (p % 12) 0))) ≡ padded 0 12 (getD ls i [])
+own-places : (ls : List (List ℕ)) (i : ℕ) → i < limits .numbers → take (limits .label) (drop (limits .label * i) (table (limits .numbers * limits .label) (λ p. getD (getD ls (p / limits .label) []) (p % limits .label) 0))) ≡ padded 0 (limits .label) (getD ls i [])
 unfolding padded
 own-places ls i h =
-    let f : ℕ → ℕ = λ p. getD (getD ls (p / 12) []) (p % 12) 0 in
-    let t : List ℕ = table 1536 f in
-    is-table (take 12 (drop (12 * i) t)) 12 (λ k. getD (getD ls i []) k 0) 0 (omega (arith, length-take 12 (drop (12 * i) t), length-drop (12 * i) t, length-table 1536 f))
+    let f : ℕ → ℕ = λ p. getD (getD ls (p / limits .label) []) (p % limits .label) 0 in
+    let t : List ℕ = table (limits .numbers * limits .label) f in
+    is-table (take (limits .label) (drop (limits .label * i) t)) (limits .label) (λ k. getD (getD ls i []) k 0) 0 (omega (arith, length-take (limits .label) (drop (limits .label * i) t), length-drop (limits .label * i) t, length-table (limits .numbers * limits .label) f))
     (λ k q.
-    let dv : (12 * i + k) / 12 ≡ i = omega arith in
-    let rm : (12 * i + k) % 12 ≡ k = omega arith in
-    getD-take 12 (drop (12 * i) t) k 0 q ∙ getD-drop (12 * i) t k 0 ∙ getD-table 1536 f (12 * i + k) 0 (omega arith)
+    let dv : (limits .label * i + k) / limits .label ≡ i = omega arith in
+    let rm : (limits .label * i + k) % limits .label ≡ k = omega arith in
+    getD-take (limits .label) (drop (limits .label * i) t) k 0 q ∙ getD-drop (limits .label * i) t k 0 ∙ getD-table (limits .numbers * limits .label) f (limits .label * i + k) 0 (omega arith)
     ∙ ap₂ (λ (x y : ℕ). getD (getD ls x []) y 0) dv rm)
 
 -- from place N on all are zero
@@ -97,7 +98,7 @@ zero-from (suc n) (suc N) f h = zero-from n N (λ i. f (suc i)) (λ i p. h (suc 
 
 -- ---- the shape
 
-module _ (A N : ℕ) (J : List Justification) (d : ℕ) (low : d ≤ 129) (room : Room (stageAt A N J d)) where
+module _ (A N : ℕ) (J : List Justification) (d : ℕ) (low : d ≤ limits .numbers + 1) (room : Room (stageAt A N J d)) where
   abbrev at-depth : Stage
   at-depth = stageAt A N J d
 
@@ -118,8 +119,8 @@ module _ (A N : ℕ) (J : List Justification) (d : ℕ) (low : d ≤ 129) (room 
         depth = low;
         label = λ i h.
             let X : List ℕ = getD (at-depth .labels) i [] in
-            subst (λ (n : ℕ). Listed A n (take 12 (drop (12 * i) (listsOf d at-depth .members)))) (sym (getD-table 128 (λ j. length (getD (at-depth .labels) j [])) i 0 h))
-            (subst (Listed A (length X)) (sym (own-places (at-depth .labels) i h)) (listed-padded (label-chain i) 12 (room-short at-depth room i)));
-        spare = zero-from 128 N (λ j. length (getD (at-depth .labels) j [])) (λ i p. ap length (stage-label-none A N J d i p));
-        nogoods = listed-padded nogoods-chain 32 (room-few at-depth room);
+            subst (λ (n : ℕ). Listed A n (take (limits .label) (drop (limits .label * i) (listsOf d at-depth .members)))) (sym (getD-table (limits .numbers) (λ j. length (getD (at-depth .labels) j [])) i 0 h))
+            (subst (Listed A (length X)) (sym (own-places (at-depth .labels) i h)) (listed-padded (label-chain i) (limits .label) (room-short at-depth room i)));
+        spare = zero-from (limits .numbers) N (λ j. length (getD (at-depth .labels) j [])) (λ i p. ap length (stage-label-none A N J d i p));
+        nogoods = listed-padded nogoods-chain (limits .nogoods) (room-few at-depth room);
       })

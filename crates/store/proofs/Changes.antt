@@ -31,6 +31,7 @@ use Rattle.store.specs.declared.Outcome.{Outcome}
 use Rattle.store.specs.declared.Store.{Store}
 use Rattle.theory.specs.Lists.{choose, someOf}
 use Rattle.theory.specs.Stages.{Justification}
+use Rattle.theory.specs.Limits.{limits}
 
 through : {X Y : Type 0} (f : X → Y) (b : Bool) {x y : X} {x′ y′ : Y} → (b ≡ true → f x ≡ x′) → (b ≡ false → f y ≡ y′) → f (choose b x y) ≡ choose b x′ y′
 through f true p q = p refl
@@ -74,13 +75,13 @@ module _ (s : Store) (t : rightShape s ≡ true) where
     pub right : heldRight (heldOf A M K) ≡ true
     pub said : saidBy (heldOf A M K) ≡ K
 
-  module _ (e : Entry) (f : fitting (top (s .held)) e ≡ true) (n : someOf (sameJustification (meaning e)) J ≡ false) (k : s .held .count < 256) where
+  module _ (e : Entry) (f : fitting (top (s .held)) e ≡ true) (n : someOf (sameJustification (meaning e)) J ≡ false) (k : s .held .count < limits .held) where
     entered : Holdable (put (meaning e) J)
     entered = record {
       right = put-right (s .held) e (fit .right) k f n;
       said =
           held-said A M (put (meaning e) J) (omega (arith, put-length (meaning e) J, said-many (s .held) (fit .right)))
-          (λ j m. ⊎-elim (λ (q : j ≡ meaning e). subst (λ (i : Justification). length (i .supports) ≤ 4) (sym q) (fitting-ranged (top (s .held)) e f .few)) (λ i. right-range (s .held) (fit .right) j i .few) (put-cases (meaning e) J m));
+          (λ j m. ⊎-elim (λ (q : j ≡ meaning e). subst (λ (i : Justification). length (i .supports) ≤ limits .supports) (sym q) (fitting-ranged (top (s .held)) e f .few)) (λ i. right-range (s .held) (fit .right) j i .few) (put-cases (meaning e) J m));
     }
 
   -- those held without j
@@ -100,7 +101,7 @@ module _ (s : Store) (t : rightShape s ≡ true) where
     fault = faultOf (top (s .held)) c l
 
     -- those held with j, an item without fault
-    pub larger : fault ≡ Done → someOf (sameJustification j) J ≡ false → s .held .count < 256 → Holdable (put j J)
+    pub larger : fault ≡ Done → someOf (sameJustification j) J ≡ false → s .held .count < limits .held → Holdable (put j J)
     larger d n k =
         let p = canonical-fits (top (s .held)) c l d in
         subst (λ (i : Justification). someOf (sameJustification i) J ≡ false → Holdable (put i J)) (p .1) (λ m. entered (entryOf j) (p .0) m k) n
@@ -119,8 +120,8 @@ module _ (s : Store) (t : rightShape s ≡ true) where
     unfolding afterOf included joinedBy
     after-more d =
         through (afterOf s) (someOf (sameJustification j) J) (λ _. refl)
-        (λ n. through (afterOf s) (leb 256 (s .held .count)) (λ _. refl)
-        (λ k. let w = larger d n (leb-false 256 (s .held .count) k) in anew-stored s (put j J) fit (w .right) (w .said)))
+        (λ n. through (afterOf s) (leb (limits .held) (s .held .count)) (λ _. refl)
+        (λ k. let w = larger d n (leb-false (limits .held) (s .held .count) k) in anew-stored s (put j J) fit (w .right) (w .said)))
 
     after-less : afterOf s (excluded (s .held) j) ≡ partedFrom s j
     unfolding afterOf excluded partedFrom

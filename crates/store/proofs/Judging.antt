@@ -75,17 +75,17 @@ module _ (h : Held) where
 -- ---- opening
 
 module _ (A M : ℕ) where
-  pub open-a : 32 < A → answer Counts noStore ≡ openOf A M
+  pub open-a : limits .assumptions < A → answer Counts noStore ≡ openOf A M
   unfolding openOf
-  open-a h = rw (lt-ltb 32 A h)
+  open-a h = rw (lt-ltb (limits .assumptions) A h)
 
-  pub open-m : A ≤ 32 → 96 < M → answer Counts noStore ≡ openOf A M
+  pub open-m : A ≤ limits .assumptions → limits .claims < M → answer Counts noStore ≡ openOf A M
   unfolding openOf
-  open-m a h = rw (le-ltb 32 A a, lt-ltb 96 M h)
+  open-m a h = rw (le-ltb (limits .assumptions) A a, lt-ltb (limits .claims) M h)
 
-  pub open-done : A ≤ 32 → M ≤ 96 → answer Done (startStore A M) ≡ openOf A M
+  pub open-done : A ≤ limits .assumptions → M ≤ limits .claims → answer Done (startStore A M) ≡ openOf A M
   unfolding openOf
-  open-done a m = rw (le-ltb 32 A a, le-ltb 96 M m)
+  open-done a m = rw (le-ltb (limits .assumptions) A a, le-ltb (limits .claims) M m)
 
 -- ---- a justification handed over
 
@@ -124,7 +124,7 @@ module _ (s : Store) (K : List Justification) (fit : Fitting (s .held)) (right :
 
   next-fits : heldFits (heldOf A M K) ≡ true
   unfolding heldFits heldOf
-  next-fits = rw (le-leb A 32 (fit .few), le-leb M 96 (fit .claims)) right
+  next-fits = rw (le-leb A (limits .assumptions) (fit .few), le-leb M (limits .claims) (fit .claims)) right
 
   judged-next : judgedOf (heldOf A M K) ≡ storeOf noStore A M K
   unfolding judgedOf heldOf

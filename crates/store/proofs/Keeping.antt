@@ -67,9 +67,9 @@ module _ (s : Store) (right : rightShape s ≡ true) where
     join-right : x ≡ Done → Right (joinedBy s j)
     unfolding joinedBy
     join-right d =
-        either (someOf (sameJustification j) J) (answer Already s) (choose (leb 256 (s .held .count)) (answer Full s) (storeOf s A M (put j J))) (λ _. right)
-        (λ new. either (leb 256 (s .held .count)) (answer Full s) (storeOf s A M (put j J)) (λ _. right)
-        (λ k. let w = larger s right c l d new (leb-false 256 (s .held .count) k) in stored (put j J) (w .right) (w .said)))
+        either (someOf (sameJustification j) J) (answer Already s) (choose (leb (limits .held) (s .held .count)) (answer Full s) (storeOf s A M (put j J))) (λ _. right)
+        (λ new. either (leb (limits .held) (s .held .count)) (answer Full s) (storeOf s A M (put j J)) (λ _. right)
+        (λ k. let w = larger s right c l d new (leb-false (limits .held) (s .held .count) k) in stored (put j J) (w .right) (w .said)))
 
     pub add-right : Right (addOf s c l)
     unfolding addOf

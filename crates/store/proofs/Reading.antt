@@ -16,6 +16,7 @@ use Rattle.store.specs.Reading.{labelHeld, refusalOf, unlabelled}
 use Rattle.store.specs.Shape.{rightShape, top}
 use Rattle.store.specs.declared.Store.{Store}
 use Rattle.theory.proofs.Lists.{clash}
+use Rattle.theory.specs.Limits.{limits}
 use Rattle.theory.specs.Lists.{choose}
 use Rattle.theory.specs.Sets.{inRange}
 
@@ -29,13 +30,13 @@ module _ (l : Lists) (n : ℕ) (from : n ≡ 0 → ⊥) where
   pub unlabelled-yes : size ≤ 0 → unlabelled l n ≡ true
   unlabelled-yes h =
       subst (λ (k : ℕ). unlabelled l k ≡ true) number
-      (eq-eqb (length (labelHeld l (suc (n - 1)))) 0 (omega (arith, length-take size (drop (12 * (n - 1)) (l .members)))))
+      (eq-eqb (length (labelHeld l (suc (n - 1)))) 0 (omega (arith, length-take size (drop (limits .label * (n - 1)) (l .members)))))
 
-  pub unlabelled-no : 12 * (n - 1) < length (l .members) → 0 < size → unlabelled l n ≡ false
+  pub unlabelled-no : limits .label * (n - 1) < length (l .members) → 0 < size → unlabelled l n ≡ false
   unlabelled-no room h =
       subst (λ (k : ℕ). unlabelled l k ≡ false) number
       (ne-eqb (length (labelHeld l (suc (n - 1)))) 0
-      (λ e. absurd (omega (arith, length-take size (drop (12 * (n - 1)) (l .members)), length-drop (12 * (n - 1)) (l .members)))))
+      (λ e. absurd (omega (arith, length-take size (drop (limits .label * (n - 1)) (l .members)), length-drop (limits .label * (n - 1)) (l .members)))))
 
 -- ---- refusals 2 and 4 of a call that reads
 

@@ -25,12 +25,12 @@ use Rattle.theory.specs.Judge.{Stage, Verdict, judge, labelOver, nogoodsOver, s
 use Rattle.theory.specs.Limits.{limits}
 use Rattle.theory.specs.Stages.{Justification}
 
--- right shape, and 32 places for nogoods
+-- right shape, and as many places for nogoods as the limit
 pub record Whole (s : Store) : Type 0 where
   pub right : rightShape s ≡ true
-  pub places : length (s .lists .nogoods) ≡ 32
+  pub places : length (s .lists .nogoods) ≡ limits .nogoods
 
-module _ (A M : ℕ) (J : List Justification) (few : A ≤ 32) (claims : M ≤ 96) (fits : heldRight (heldOf A M J) ≡ true)
+module _ (A M : ℕ) (J : List Justification) (few : A ≤ limits .assumptions) (claims : M ≤ limits .claims) (fits : heldRight (heldOf A M J) ≡ true)
     (said : saidBy (heldOf A M J) ≡ J) where
   in-range : Within (A + M) J
   unfolding heldOf
@@ -41,13 +41,13 @@ module _ (A M : ℕ) (J : List Justification) (few : A ≤ 32) (claims : M ≤ 9
   settled-right d g e =
       let t = settled-told limits A (A + M) J d g e in
       let same : g ≡ stageAt A (A + M) J d = settled-stage limits A (A + M) J d g e in
-      let low : d ≤ 129 = omega (arith, t .1, consequents-few (A + M) J in-range, few, claims) in
+      let low : d ≤ limits .numbers + 1 = omega (arith, t .1, consequents-few (A + M) J in-range, few, claims) in
       let room : Room (stageAt A (A + M) J d) = record { few = t .4; short = t .5 } in
       record {
         right =
-            and-intro (and-intro (le-leb A 32 few) (and-intro (le-leb M 96 claims) fits))
+            and-intro (and-intro (le-leb A (limits .assumptions) few) (and-intro (le-leb M (limits .claims) claims) fits))
             (ap (λ (x : Stage). listsRight (listsOf d x) A (A + M)) same ∙ stage-right A (A + M) J d low room);
-        places = length-padded 0 32 (g .nogoods);
+        places = length-padded 0 (limits .nogoods) (g .nogoods);
       }
 
   verdict-right : (s : Store) (v : Verdict) → judge limits A (A + M) J ≡ v → ofVerdict s (heldOf A M J) v .reply ≡ Done → Whole (ofVerdict s (heldOf A M J) v .store)

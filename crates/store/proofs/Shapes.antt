@@ -10,33 +10,34 @@ use Rattle.shape.specs.Shape.{listsRight}
 use Rattle.store.specs.Shape.{heldFits, rightShape, top}
 use Rattle.store.specs.declared.Store.{Store}
 use Rattle.theory.proofs.Lists.{and-left, and-right}
+use Rattle.theory.specs.Limits.{limits}
 
 module _ (h : Held) where
-  pub fits-a : 32 < h .assumptions → false ≡ heldFits h
+  pub fits-a : limits .assumptions < h .assumptions → false ≡ heldFits h
   unfolding heldFits
-  fits-a p = rw (lt-leb (h .assumptions) 32 p)
+  fits-a p = rw (lt-leb (h .assumptions) (limits .assumptions) p)
 
-  pub fits-m : h .assumptions ≤ 32 → 96 < h .claims → false ≡ heldFits h
+  pub fits-m : h .assumptions ≤ limits .assumptions → limits .claims < h .claims → false ≡ heldFits h
   unfolding heldFits
-  fits-m a p = rw (le-leb (h .assumptions) 32 a, lt-leb (h .claims) 96 p)
+  fits-m a p = rw (le-leb (h .assumptions) (limits .assumptions) a, lt-leb (h .claims) (limits .claims) p)
 
-  pub fits-rest : h .assumptions ≤ 32 → h .claims ≤ 96 → heldRight h ≡ heldFits h
+  pub fits-rest : h .assumptions ≤ limits .assumptions → h .claims ≤ limits .claims → heldRight h ≡ heldFits h
   unfolding heldFits
-  fits-rest a m = rw (le-leb (h .assumptions) 32 a, le-leb (h .claims) 96 m)
+  fits-rest a m = rw (le-leb (h .assumptions) (limits .assumptions) a, le-leb (h .claims) (limits .claims) m)
 
 -- what a right shape says
 pub record Fitting (h : Held) : Type 0 where
-  pub few : h .assumptions ≤ 32
-  pub claims : h .claims ≤ 96
+  pub few : h .assumptions ≤ limits .assumptions
+  pub claims : h .claims ≤ limits .claims
   pub right : heldRight h ≡ true
 
 pub fits-elim : (h : Held) → heldFits h ≡ true → Fitting h
 unfolding heldFits
 fits-elim h t =
-    let p : Bool = leb (h .assumptions) 32 in
-    let q : Bool = leb (h .claims) 96 in
+    let p : Bool = leb (h .assumptions) (limits .assumptions) in
+    let q : Bool = leb (h .claims) (limits .claims) in
     let u : q && heldRight h ≡ true = and-right p (q && heldRight h) t in
-    record { few = leb-true (h .assumptions) 32 (and-left p (q && heldRight h) t); claims = leb-true (h .claims) 96 (and-left q (heldRight h) u); right = and-right q (heldRight h) u }
+    record { few = leb-true (h .assumptions) (limits .assumptions) (and-left p (q && heldRight h) t); claims = leb-true (h .claims) (limits .claims) (and-left q (heldRight h) u); right = and-right q (heldRight h) u }
 
 module _ (s : Store) where
   pub shape-held : heldFits (s .held) ≡ false → false ≡ rightShape s

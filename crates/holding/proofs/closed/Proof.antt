@@ -10,11 +10,12 @@ use Rattle.rules.proofs.Steps.{beyond, length-mapped}
 use Rattle.rules.specs.Held.{vacant}
 use Rattle.holding.specs.Placing.{withEntries}
 use Rattle.rules.specs.declared.Held.{Held}
+use Rattle.theory.specs.Limits.{limits}
 use Rattle.holding.proofs.closed.Statement.{statement}
 use Rattle.holding.proofs.closed.Tie as tie
 
 abbrev Inv-loop : tie.InvT-loop
-Inv-loop at held₀ last i₀ held i = (at ≤ i) × (i ≤ last) × (last < 256) × Closing (held₀ .entries) (held .entries) at i × (held ≡ withEntries held₀ (held₀ .count) (held .entries))
+Inv-loop at held₀ last i₀ held i = (at ≤ i) × (i ≤ last) × (last < limits .held) × Closing (held₀ .entries) (held .entries) at i × (held ≡ withEntries held₀ (held₀ .count) (held .entries))
 
 abbrev μ-loop : tie.MeasureT-loop
 μ-loop at held₀ last i₀ held i = last - i
@@ -26,7 +27,7 @@ loop-again : tie.Need-loop-again Inv-loop μ-loop
 loop-again c =
     let l = c .before .before .loop in
     let a = c .before .before .before .args in
-    let e : length (a .t1 .entries) ≡ 256 = search (needs, length-mapped) in (
+    let e : length (a .t1 .entries) ≡ limits .held = search (needs, length-mapped) in (
       omega arith,
       omega arith,
       l .inv .2,
@@ -45,7 +46,7 @@ returns c =
     let l = c .before .loop in
     let a = c .before .before .args in
     let r = c .before .before .pre .0 in
-    let e : length (a .t1 .entries) ≡ 256 = right-elim (a .t1) r .long in
+    let e : length (a .t1 .entries) ≡ limits .held = right-elim (a .t1) r .long in
     let i : l .i ≡ a .t1 .count - 1 = omega arith in
     ap (λ (s : Held). withEntries s (a .t1 .count - 1) (set (l .held .entries) (a .t1 .count - 1) vacant)) (l .inv .4)
     ∙ ap (withEntries (a .t1) (a .t1 .count - 1))

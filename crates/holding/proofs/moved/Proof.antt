@@ -8,6 +8,7 @@ use Rattle.holding.proofs.Moving.{Shifting, shift-more, shift-none, shi
 use Rattle.rules.proofs.Steps.{beyond, length-mapped}
 use Rattle.holding.specs.Placing.{withEntries}
 use Rattle.rules.specs.declared.Held.{Held}
+use Rattle.theory.specs.Limits.{limits}
 use Rattle.holding.proofs.moved.Statement.{statement}
 use Rattle.holding.proofs.moved.Tie as tie
 
@@ -24,7 +25,7 @@ loop-again : tie.Need-loop-again Inv-loop μ-loop
 loop-again c =
     let l = c .before .before .loop in
     let a = c .before .before .before .args in
-    let e : length (a .t1 .entries) ≡ 256 = search (needs, length-mapped) in (
+    let e : length (a .t1 .entries) ≡ limits .held = search (needs, length-mapped) in (
       omega arith,
       omega arith,
       shift-more (a .t1 .entries) (l .held .entries) (l .i) (a .t1 .count) (omega arith) (omega arith) (omega arith) (l .inv .2),
@@ -35,7 +36,7 @@ returns : tie.Need-returns Inv-loop μ-loop
 returns c =
     let l = c .before .loop in
     let a = c .before .before .args in
-    let e : length (a .t1 .entries) ≡ 256 = search (needs, length-mapped) in
+    let e : length (a .t1 .entries) ≡ limits .held = search (needs, length-mapped) in
     let i : l .i ≡ a .at = omega arith in
     ap (λ (s : Held). withEntries s (a .t1 .count + 1) (set (l .held .entries) (a .at) (a .entry))) (l .inv .3)
     ∙ ap (withEntries (a .t1) (a .t1 .count + 1))

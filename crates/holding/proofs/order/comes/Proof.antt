@@ -6,6 +6,7 @@ use lib.Seq.{length-take-le}
 use borrow.Author.Needs.{needs}
 use Rattle.rules.proofs.Order.{ahead-no, ahead-yes}
 use Rattle.holding.proofs.Steps.{as-long, comes-fewer, comes-more, comes-same}
+use Rattle.theory.specs.Limits.{limits}
 use Rattle.holding.proofs.order.comes.Statement.{statement}
 use Rattle.holding.proofs.order.comes.Tie as tie
 
@@ -34,41 +35,41 @@ returns-2 c = ahead-no _ _ (c .if2 .taken)
 returns-3 : tie.Need-returns-3
 returns-3 c =
     let s = entry (no1 (c .before .before .before)) in
-    let e : length (s .args .s .supports) ≡ 4 = search needs in
-    let f : length (s .args .t .supports) ≡ 4 = search needs in
+    let e : length (s .args .s .supports) ≡ limits .supports = search needs in
+    let f : length (s .args .t .supports) ≡ limits .supports = search needs in
     comes-fewer (s .args .s) (s .args .t) e f (s .pre .0) (s .pre .1) (omega arith) (c .if3 .taken)
 
 returns-4 : tie.Need-returns-4
 returns-4 c =
     let s = entry (no1 (no2 (c .before .before .before))) in
-    let e : length (s .args .s .supports) ≡ 4 = search needs in
-    let f : length (s .args .t .supports) ≡ 4 = search needs in
+    let e : length (s .args .s .supports) ≡ limits .supports = search needs in
+    let f : length (s .args .t .supports) ≡ limits .supports = search needs in
     comes-more (s .args .s) (s .args .t) e f (s .pre .0) (s .pre .1) (omega arith) (c .if4 .taken)
 
 array-share-prefix-mine : tie.Need-array-share-prefix-mine
-array-share-prefix-mine c = let s = entry (no1 (no2 (no3 (c .before .before)))) in let e : length (s .args .s .supports) ≡ 4 = search needs in omega (arith, s .pre .0)
+array-share-prefix-mine c = let s = entry (no1 (no2 (no3 (c .before .before)))) in let e : length (s .args .s .supports) ≡ limits .supports = search needs in omega (arith, s .pre .0)
 
 slice-aggregate-less : tie.Need-slice-aggregate-less
-slice-aggregate-less c = let s = entry (no1 (no2 (no3 (c .before .before .before)))) in let e : length (s .args .s .supports) ≡ 4 = search needs in sym (length-take-le _ _ (omega (arith, s .pre .0)))
+slice-aggregate-less c = let s = entry (no1 (no2 (no3 (c .before .before .before)))) in let e : length (s .args .s .supports) ≡ limits .supports = search needs in sym (length-take-le _ _ (omega (arith, s .pre .0)))
 
 array-share-prefix-theirs : tie.Need-array-share-prefix-theirs
-array-share-prefix-theirs c = let s = entry (no1 (no2 (no3 (c .before .before .before)))) in let e : length (s .args .t .supports) ≡ 4 = search needs in omega (arith, s .pre .0)
+array-share-prefix-theirs c = let s = entry (no1 (no2 (no3 (c .before .before .before)))) in let e : length (s .args .t .supports) ≡ limits .supports = search needs in omega (arith, s .pre .0)
 
 slice-aggregate-less-2 : tie.Need-slice-aggregate-less-2
-slice-aggregate-less-2 c = let s = entry (no1 (no2 (no3 (c .before .before .before .before)))) in let e : length (s .args .t .supports) ≡ 4 = search needs in sym (length-take-le _ _ (omega (arith, s .pre .0)))
+slice-aggregate-less-2 c = let s = entry (no1 (no2 (no3 (c .before .before .before .before)))) in let e : length (s .args .t .supports) ≡ limits .supports = search needs in sym (length-take-le _ _ (omega (arith, s .pre .0)))
 
 less-requires : tie.Need-less-requires
 less-requires c κs =
     let s = entry (no1 (no2 (no3 (c .before .before .before .before)))) in
-    let e : length (s .args .s .supports) ≡ 4 = search needs in
-    let f : length (s .args .t .supports) ≡ 4 = search needs in
+    let e : length (s .args .s .supports) ≡ limits .supports = search needs in
+    let f : length (s .args .t .supports) ≡ limits .supports = search needs in
     as-long (s .args .s) (s .args .t) e f (s .pre .0) (s .pre .1)
 
 returns-5 : tie.Need-returns-5
 returns-5 c =
     let s = entry (no1 (no2 (no3 (c .before .before .before .before .before)))) in
-    let e : length (s .args .s .supports) ≡ 4 = search needs in
-    let f : length (s .args .t .supports) ≡ 4 = search needs in
+    let e : length (s .args .s .supports) ≡ limits .supports = search needs in
+    let f : length (s .args .t .supports) ≡ limits .supports = search needs in
     comes-same (s .args .s) (s .args .t) e f (s .pre .0) (s .pre .1) (omega arith) (omega arith) _ (c .less .ensures)
 
 pub comes-spec : {M : Type 1} → statement M

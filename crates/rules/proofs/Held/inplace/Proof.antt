@@ -7,6 +7,7 @@ use borrow.Author.Needs.{needs}
 use borrow.Author.Tests.{not-false, not-true}
 use Rattle.rules.proofs.Placed.{Past, first-in, first-out, past-end, past-mixed, past-none, past-on, past-out}
 use Rattle.rules.proofs.Steps.{length-mapped}
+use Rattle.theory.specs.Limits.{limits}
 use Rattle.rules.proofs.Held.inplace.Statement.{statement}
 use Rattle.rules.proofs.Held.inplace.Tie as tie
 
@@ -34,14 +35,14 @@ returns c = past-none (c .before .args .top) (c .before .args .t1 .entries) (c .
 returns-2 : tie.Need-returns-2 Inv-loop μ-loop
 returns-2 c =
     let a = c .before .before .before .before .args in
-    let e : length (a .t1 .entries) ≡ 256 = search (needs, length-mapped) in
+    let e : length (a .t1 .entries) ≡ limits .held = search (needs, length-mapped) in
     let room : a .t1 .count ≤ length (a .t1 .entries) = omega (arith, c .before .before .before .before .pre) in
     first-out (a .top) (a .t1 .entries) (a .t1 .count) room (omega (arith, c .before .before .before .if1 .left)) (sym (c .before .fits2 .ensures) ∙ not-true _ (c .if2 .taken))
 
 loop-holds : tie.Need-loop-holds Inv-loop μ-loop
 loop-holds c =
     let a = entry (c .before) .args in
-    let e : length (a .t1 .entries) ≡ 256 = search (needs, length-mapped) in
+    let e : length (a .t1 .entries) ≡ limits .held = search (needs, length-mapped) in
     let room : a .t1 .count ≤ length (a .t1 .entries) = omega (arith, entry (c .before) .pre) in
     first-in (a .top) (a .t1 .entries) (a .t1 .count) room (omega (arith, c .before .before .before .before .if1 .left)) (sym (c .before .before .fits2 .ensures) ∙ not-false _ (c .before .if2 .left)) _ (c .key .ensures .0) (c .key .ensures .1)
 
@@ -51,21 +52,21 @@ mul-entry c = omega (arith, entry (no2 (c .before)) .pre, c .loop-test .taken)
 element-copy-out-entry : tie.Need-element-copy-out-entry Inv-loop μ-loop
 element-copy-out-entry c =
     let a = entry (no2 (c .before)) .args in
-    let e : length (a .t1 .entries) ≡ 256 = search (needs, length-mapped) in
+    let e : length (a .t1 .entries) ≡ limits .held = search (needs, length-mapped) in
     let room : a .t1 .count ≤ length (a .t1 .entries) = omega (arith, entry (no2 (c .before)) .pre) in
     omega (arith, c .loop-test .taken)
 
 returns-3 : tie.Need-returns-3 Inv-loop μ-loop
 returns-3 c =
     let a = entry (no2 (c .before .before .before .before)) .args in
-    let e : length (a .t1 .entries) ≡ 256 = search (needs, length-mapped) in
+    let e : length (a .t1 .entries) ≡ limits .held = search (needs, length-mapped) in
     let room : a .t1 .count ≤ length (a .t1 .entries) = omega (arith, entry (no2 (c .before .before .before .before)) .pre) in
     past-out (a .top) (a .t1 .entries) (a .t1 .count) room (c .before .before .before .before .loop .j) (c .before .before .before .before .loop .last) (c .before .before .before .before .loop .inv) (c .before .before .before .loop-test .taken) (sym (c .before .fits3 .ensures) ∙ not-true _ (c .if3 .taken))
 
 returns-4 : tie.Need-returns-4 Inv-loop μ-loop
 returns-4 c =
     let a = entry (no2 (head (c .before .before))) .args in
-    let e : length (a .t1 .entries) ≡ 256 = search (needs, length-mapped) in
+    let e : length (a .t1 .entries) ≡ limits .held = search (needs, length-mapped) in
     let room : a .t1 .count ≤ length (a .t1 .entries) = omega (arith, entry (no2 (head (c .before .before))) .pre) in
     past-mixed (a .top) (a .t1 .entries) (a .t1 .count) room (head (c .before .before) .loop .j) (head (c .before .before) .loop .last) (head (c .before .before) .loop .inv) (c .before .before .before .before .before .loop-test .taken) (sym (c .before .before .before .fits3 .ensures) ∙ not-false _ (c .before .before .if3 .left)) _ (c .before .key2 .ensures .0) (c .before .key2 .ensures .1) (c .if4 .taken)
 
@@ -78,14 +79,14 @@ loop-less c = omega (arith, c .before .before .before .before .before .loop-test
 loop-again : tie.Need-loop-again Inv-loop μ-loop
 loop-again c =
     let a = entry (no2 (head (c .before .before))) .args in
-    let e : length (a .t1 .entries) ≡ 256 = search (needs, length-mapped) in
+    let e : length (a .t1 .entries) ≡ limits .held = search (needs, length-mapped) in
     let room : a .t1 .count ≤ length (a .t1 .entries) = omega (arith, entry (no2 (head (c .before .before))) .pre) in
     past-on (a .top) (a .t1 .entries) (a .t1 .count) room (head (c .before .before) .loop .j) (head (c .before .before) .loop .last) (head (c .before .before) .loop .inv) (c .before .before .before .before .before .loop-test .taken) (sym (c .before .before .before .fits3 .ensures) ∙ not-false _ (c .before .before .if3 .left)) _ (c .before .key2 .ensures .0) (c .before .key2 .ensures .1) (omega (arith, c .if4 .left))
 
 returns-5 : tie.Need-returns-5 Inv-loop μ-loop
 returns-5 c =
     let a = entry (no2 (c .before)) .args in
-    let e : length (a .t1 .entries) ≡ 256 = search (needs, length-mapped) in
+    let e : length (a .t1 .entries) ≡ limits .held = search (needs, length-mapped) in
     let room : a .t1 .count ≤ length (a .t1 .entries) = omega (arith, entry (no2 (c .before)) .pre) in
     past-end (a .top) (a .t1 .entries) (a .t1 .count) room (c .before .loop .j) (c .before .loop .last) (c .before .loop .inv) (omega (arith, c .loop-test .left))
 

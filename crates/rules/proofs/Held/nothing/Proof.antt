@@ -1,4 +1,4 @@
--- `nothing` meets its contract: 256 places that hold nothing. Assumes nothing.
+-- `nothing` meets its contract: every place holds nothing. Assumes nothing.
 use mathlib.Core.Path.{refl}
 use Rattle.rules.proofs.Entries.{held-nothing}
 use Rattle.rules.proofs.Held.nothing.Statement.{statement}

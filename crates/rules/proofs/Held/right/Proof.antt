@@ -4,6 +4,7 @@ use lib.ListN.{length}
 use borrow.Author.Needs.{needs}
 use Rattle.rules.proofs.Scan.{right-many, right-out, right-rest}
 use Rattle.rules.proofs.Steps.{length-mapped}
+use Rattle.theory.specs.Limits.{limits}
 use Rattle.rules.proofs.Held.right.Statement.{statement}
 use Rattle.rules.proofs.Held.right.Tie as tie
 
@@ -17,13 +18,13 @@ returns c = right-many (c .before .before .args .self) (c .if1 .taken)
 returns-2 : tie.Need-returns-2
 returns-2 c =
     let s = entry (c .before .before .before .before .before) .args .self in
-    let e : length (s .entries) ≡ 256 = search (needs, length-mapped) in
+    let e : length (s .entries) ≡ limits .held = search (needs, length-mapped) in
     right-rest s (c .before .before .before .before .before .if1 .left) e (sym (c .before .before .inplace .ensures) ∙ c .before .if2 .taken) _ (c .spare .ensures)
 
 returns-3 : tie.Need-returns-3
 returns-3 c =
     let s = entry (c .before .before .before .before) .args .self in
-    let e : length (s .entries) ≡ 256 = search (needs, length-mapped) in
+    let e : length (s .entries) ≡ limits .held = search (needs, length-mapped) in
     right-out s (c .before .before .before .before .if1 .left) e (sym (c .before .inplace .ensures) ∙ c .if2 .left)
 
 pub right-spec : {M : Type 1} → statement M
