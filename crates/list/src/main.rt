@@ -1,8 +1,9 @@
 // The listing program: a case file from standard input, its listing or one refusal to standard output.
 use libc::STDIN_FILENO;
+use theory::FILE;
 
 fn main() {
-    let mut bytes = [0u8; 4097];
+    let mut bytes = [0u8; FILE + 1];
     let got = io::read_full(STDIN_FILENO, &mut bytes);
     if got < bytes.len() && !printing::at_end() {
         printing::complain(b"list: the input could not be read to its end\n");

@@ -27,7 +27,7 @@ use Rattle.replies.specs.declared.Reply.the-variants.{Long}
 use Rattle.store.specs.Shape.{rightShape}
 use Rattle.store.specs.declared.Store.{Store}
 use Rattle.theory.proofs.Lists.{either}
-use Rattle.theory.specs.Limits.{limits}
+use Rattle.theory.specs.Limits.{fileBytes, limits}
 
 -- ---- no fault names a record above the limit
 
@@ -77,7 +77,7 @@ load-low l = loaded-low (caseOf l) (case-checked l) (after-low (headerFrom l) (h
 
 -- ---- what is printed of a file is no longer than the longest listing
 
-short : (l : List ℕ) → length l ≤ 4096 → length (listingOf l) ≤ longestListing
+short : (l : List ℕ) → length l ≤ fileBytes → length (listingOf l) ≤ longestListing
 short l h =
     ⊎-elim
     (λ e. let z : numberOf (loadOf l .reply) ≡ 0 = eqb-true (numberOf (loadOf l .reply)) 0 e in
@@ -88,7 +88,7 @@ short l h =
     (either (eqb (numberOf (loadOf l .reply)) 0))
 
 pub printed-length : (l : List ℕ) → length (listingOf l) ≤ longestListing
-printed-length l = elim (decLt 4096 (length l)) [
+printed-length l = elim (decLt fileBytes (length l)) [
   | yes h ↦ omega (arith, refused-length Long 0 (omega arith), ap length (text-long l h))
   | no h ↦ short l (omega arith)
 ]

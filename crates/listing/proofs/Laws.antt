@@ -22,6 +22,7 @@ use Rattle.store.specs.Shape.{rightShape}
 use Rattle.store.specs.declared.Store.{Store}
 use Rattle.text.proofs.Writing.{front-kept}
 use Rattle.text.specs.Writing.{Put, Room}
+use Rattle.theory.specs.Limits.{fileBytes}
 
 -- ---- the listing of a store
 
@@ -51,24 +52,24 @@ module _ (s : Store) (out : List ℕ) where
 -- ---- the listing of a file
 
 module _ (l : List ℕ) where
-  pub text-long : 4096 < length l → refusalText Long 0 ≡ listingOf l
+  pub text-long : fileBytes < length l → refusalText Long 0 ≡ listingOf l
   unfolding listingOf
-  text-long h = rw (lt-ltb 4096 (length l) h)
+  text-long h = rw (lt-ltb fileBytes (length l) h)
 
-  module _ (few : length l ≤ 4096) where
+  module _ (few : length l ≤ fileBytes) where
     pub text-refused : (numberOf (loadOf l .reply) ≡ 0 → ⊥) → refusalText (loadOf l .reply) (loadOf l .«record») ≡ listingOf l
     unfolding listingOf loadedText
-    text-refused z = rw (le-ltb 4096 (length l) few, ne-eqb (numberOf (loadOf l .reply)) 0 z)
+    text-refused z = rw (le-ltb fileBytes (length l) few, ne-eqb (numberOf (loadOf l .reply)) 0 z)
 
     pub text-done : numberOf (loadOf l .reply) ≡ 0 → listingText (loadOf l .store) ≡ listingOf l
     unfolding listingOf loadedText
-    text-done z = rw (le-ltb 4096 (length l) few, eq-eqb (numberOf (loadOf l .reply)) 0 z)
+    text-done z = rw (le-ltb fileBytes (length l) few, eq-eqb (numberOf (loadOf l .reply)) 0 z)
 
 module _ (l out : List ℕ) where
-  pub print-long : 4096 < length l → {r : Written} {after : List ℕ} → Leaves (fitted (refusalText Long 0) out) r after → Prints l out r after
+  pub print-long : fileBytes < length l → {r : Written} {after : List ℕ} → Leaves (fitted (refusalText Long 0) out) r after → Prints l out r after
   print-long h e = e ∙ ap (λ (t : List ℕ). fitted t out) (text-long l h)
 
-  module _ (few : length l ≤ 4096) (loaded : Loaded) (same : loaded ≡ loadOf l) where
+  module _ (few : length l ≤ fileBytes) (loaded : Loaded) (same : loaded ≡ loadOf l) where
     number-same : numberOf (loaded .reply) ≡ numberOf (loadOf l .reply)
     number-same = ap (λ (r : Loaded). numberOf (r .reply)) same
 

@@ -31,13 +31,15 @@ pub fn decimal(n: u32) {
     io::print_decimal(STDOUT_FILENO, n as u64);
 }
 
-// The text that a call wrote, if it wrote one.
+// The text that a call wrote; where it wrote none, that is told on standard error.
 pub fn written(answer: Written, text: &[u8]) {
     if let Written::Length(n) = answer {
         if n <= text.len() {
             say(&text[..n]);
+            return;
         }
     }
+    complain(b"there is no room for the text\n");
 }
 
 // The line of a refusal and of the record being read.
@@ -51,7 +53,5 @@ pub fn refused(reply: Reply, record: u32) {
 pub fn set(e: u32) {
     let mut text = [0u8; 88];
     let end = text::braces(e, 0, &mut text);
-    if end <= 88 {
-        say(&text[..end]);
-    }
+    say(&text[..end]);
 }

@@ -31,6 +31,7 @@ use Rattle.store.specs.Calls.{answer, judgedOf, noStore, storeOf}
 use Rattle.store.specs.Shape.{heldFits, rightShape}
 use Rattle.store.specs.declared.Outcome.{Outcome}
 use Rattle.store.specs.declared.Store.{Store}
+use Rattle.theory.specs.Limits.{fileBytes}
 use Rattle.theory.specs.Lists.{choose, each}
 use Rattle.theory.specs.Stages.{Justification}
 use Rattle.writing.proofs.Files.{file-back, file-length, file-loads, file-one, tells-apart}
@@ -131,11 +132,11 @@ module _ (bytes : List ℕ) (done : loadOf bytes .reply ≡ Done) where
   back : (t out : List ℕ) → Writes ours stored t out → loadOf t ≡ record { reply = Done; «record» = length (saidBy (stored .held)); store = stored }
   back t out e = let c = load-done bytes done in round (loaded bytes (c .0) (c .1) refl refl done refl) t out e
 
-  lists-alike : (t out place : List ℕ) → length bytes ≤ 4096 → Writes ours stored t out → ours .printing t place ≡ ours .printing bytes place
+  lists-alike : (t out place : List ℕ) → length bytes ≤ fileBytes → Writes ours stored t out → ours .printing t place ≡ ours .printing bytes place
   lists-alike t out place h e =
       let b = back t out e in
       let r : loadOf t .reply ≡ Done = ap (λ (x : Loaded). x .reply) b in
-      let k : length t ≤ 4096 = omega (arith, few stored t out e) in
+      let k : length t ≤ fileBytes = omega (arith, few stored t out e) in
       printed-same t bytes place k h (r ∙ sym done) (ap (λ (x : Loaded). x .store) b) (inl r)
 
   again : (t v out out′ : List ℕ) → Writes ours stored t out → Writes ours (loadOf t .store) v out′ → v ≡ t

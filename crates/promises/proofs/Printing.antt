@@ -21,16 +21,17 @@ use Rattle.store.specs.Calls.{isDone}
 use Rattle.store.specs.Shape.{rightShape}
 use Rattle.store.specs.declared.Store.{Store}
 use Rattle.theory.proofs.Lists.{not-so}
+use Rattle.theory.specs.Limits.{fileBytes}
 use Rattle.theory.specs.Lists.{choose}
 
-pub long-printed : (bytes out : List ℕ) → 4096 < length bytes → fitted (listingOf bytes) out ≡ fitted (refusalText Long 0) out
+pub long-printed : (bytes out : List ℕ) → fileBytes < length bytes → fitted (listingOf bytes) out ≡ fitted (refusalText Long 0) out
 unfolding listingOf
-long-printed bytes out h = ap (λ (b : Bool). fitted (choose b (refusalText Long 0) (loadedText (loadOf bytes))) out) (lt-ltb 4096 (length bytes) h)
+long-printed bytes out h = ap (λ (b : Bool). fitted (choose b (refusalText Long 0) (loadedText (loadOf bytes))) out) (lt-ltb fileBytes (length bytes) h)
 
-module _ (bytes out : List ℕ) (few : length bytes ≤ 4096) where
+module _ (bytes out : List ℕ) (few : length bytes ≤ fileBytes) where
   text-loaded : listingOf bytes ≡ loadedText (loadOf bytes)
   unfolding listingOf
-  text-loaded = ap (λ (b : Bool). choose b (refusalText Long 0) (loadedText (loadOf bytes))) (le-ltb 4096 (length bytes) few)
+  text-loaded = ap (λ (b : Bool). choose b (refusalText Long 0) (loadedText (loadOf bytes))) (le-ltb fileBytes (length bytes) few)
 
   pub refused-printed : (loadOf bytes .reply ≡ Done → ⊥) → fitted (listingOf bytes) out ≡ fitted (refusalText (loadOf bytes .reply) (loadOf bytes .«record»)) out
   unfolding loadedText
@@ -51,7 +52,7 @@ module _ (bytes out : List ℕ) (few : length bytes ≤ 4096) where
       shaped s r = rw r
 
 -- two files of one answer, and of one record where it is a refusal
-pub printed-same : (bytes others out : List ℕ) → length bytes ≤ 4096 → length others ≤ 4096 → loadOf bytes .reply ≡ loadOf others .reply → loadOf bytes .store ≡ loadOf others .store
+pub printed-same : (bytes others out : List ℕ) → length bytes ≤ fileBytes → length others ≤ fileBytes → loadOf bytes .reply ≡ loadOf others .reply → loadOf bytes .store ≡ loadOf others .store
     → (loadOf bytes .reply ≡ Done) ⊎ (loadOf bytes .«record» ≡ loadOf others .«record») → fitted (listingOf bytes) out ≡ fitted (listingOf others) out
 unfolding loadedText
 printed-same bytes others out few less e k w =

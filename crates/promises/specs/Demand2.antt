@@ -21,7 +21,7 @@ use Rattle.store.specs.declared.Store.{Store}
 use Rattle.text.specs.Texts.{heading, row, word}
 use Rattle.theory.specs.Demands.{carries, contradicts, fromAll}
 use Rattle.theory.specs.Judge.{consequents, stageAt}
-use Rattle.theory.specs.Limits.{limits}
+use Rattle.theory.specs.Limits.{fileBytes, limits}
 use Rattle.theory.specs.Lists.{choose, each, numbersBelow, someOf, sortedBy}
 use Rattle.theory.specs.Places.{table}
 use Rattle.theory.specs.Sets.{before, listing, within}
@@ -142,9 +142,9 @@ pub record Demand2 (C : Calls) : Type 0 where
   -- every store made by the calls tells the truth of what was put in
   pub tells : {A M : ℕ} {H : Input} {s : Store} → Made C A M H s → Tells C A M H s
   -- what is printed of a file: above 4,096 bytes reply 14, which comes before all others and gives 0 ..
-  pub prints-long : (bytes out : List ℕ) → 4096 < length bytes → C .printing bytes out ≡ C .refusal Long 0 out
+  pub prints-long : (bytes out : List ℕ) → fileBytes < length bytes → C .printing bytes out ≡ C .refusal Long 0 out
   -- .. else a refusal's line with its record ..
-  pub prints-refused : (bytes out : List ℕ) → length bytes ≤ 4096 → (C .loading bytes .reply ≡ Done → ⊥) → C .printing bytes out ≡ C .refusal (C .loading bytes .reply) (C .loading bytes .«record») out
+  pub prints-refused : (bytes out : List ℕ) → length bytes ≤ fileBytes → (C .loading bytes .reply ≡ Done → ⊥) → C .printing bytes out ≡ C .refusal (C .loading bytes .reply) (C .loading bytes .«record») out
   -- .. else the listing of the store that it loads
-  pub prints-listed : (bytes out : List ℕ) → length bytes ≤ 4096 → C .loading bytes .reply ≡ Done
+  pub prints-listed : (bytes out : List ℕ) → length bytes ≤ fileBytes → C .loading bytes .reply ≡ Done
       → C .printing bytes out ≡ record { answer = C .reading (C .loading bytes .store) (listAll out) .said; bytes = C .reading (C .loading bytes .store) (listAll out) .bytes }

@@ -13,6 +13,7 @@ use Rattle.rules.specs.Items.{faultOf, justificationOf}
 use Rattle.store.specs.Calls.{answer}
 use Rattle.store.specs.Reading.{labelHeld, nogoodsHeld}
 use Rattle.store.specs.declared.Store.{Store}
+use Rattle.theory.specs.Limits.{fileBytes}
 use Rattle.theory.specs.Stages.{Justification}
 use mathlib.Core.Logic.{_⊎_}
 use lib.ListN.{length}
@@ -61,7 +62,7 @@ pub record Demand3 (C : Calls) : Type 0 where
       → f .header .assumptions ≡ g .header .assumptions → f .header .claims ≡ g .header .claims → SameMembers (putIn f) (putIn g)
       → (C .loading bytes .reply ≡ C .loading others .reply) × (C .loading bytes .reply ≡ Done → Same C (C .loading bytes .store) (C .loading others .store))
   -- .. and they print the same bytes: where it is 0, and else where they announce as many records
-  pub same-print : (bytes others : List ℕ) (f g : Case) → caseOf bytes ≡ whole f → caseOf others ≡ whole g → length bytes ≤ 4096 → length others ≤ 4096
+  pub same-print : (bytes others : List ℕ) (f g : Case) → caseOf bytes ≡ whole f → caseOf others ≡ whole g → length bytes ≤ fileBytes → length others ≤ fileBytes
       → f .header .assumptions ≡ g .header .assumptions → f .header .claims ≡ g .header .claims → SameMembers (putIn f) (putIn g)
       → (C .loading bytes .reply ≡ Done) ⊎ (f .header .records ≡ g .header .records) → (out : List ℕ) → C .printing bytes out ≡ C .printing others out
   -- with refused calls, and calls that read, in between

@@ -11,6 +11,7 @@ use Rattle.replies.specs.declared.Reply.the-variants.{Done}
 use Rattle.rules.specs.Held.{saidBy}
 use Rattle.store.specs.Shape.{rightShape}
 use Rattle.store.specs.declared.Store.{Store}
+use Rattle.theory.specs.Limits.{fileBytes}
 use Rattle.theory.specs.Lists.{each}
 use Rattle.writing.specs.Writing.{bytesOf, recordFor}
 
@@ -43,6 +44,6 @@ pub record Files (C : Calls) : Type 0 where
   -- .. and as many are enough
   pub enough : (s : Store) (out : List ℕ) → rightShape s ≡ true → 1796 ≤ length out → (t : List ℕ) × Writes C s t out
   -- what is written of the store of a file lists like that file ..
-  pub lists-alike : (bytes t out place : List ℕ) → length bytes ≤ 4096 → C .loading bytes .reply ≡ Done → Writes C (C .loading bytes .store) t out → C .printing t place ≡ C .printing bytes place
+  pub lists-alike : (bytes t out place : List ℕ) → length bytes ≤ fileBytes → C .loading bytes .reply ≡ Done → Writes C (C .loading bytes .store) t out → C .printing t place ≡ C .printing bytes place
   -- .. and is written again as it is
   pub again : (bytes t v out out′ : List ℕ) → C .loading bytes .reply ≡ Done → Writes C (C .loading bytes .store) t out → Writes C (C .loading t .store) v out′ → v ≡ t

@@ -92,6 +92,14 @@ use Rattle.sets.proofs.without as without-at
 use Rattle.sets.proofs.without.Reads as without-reads
 use Rattle.shape.proofs.right as lists-at
 use Rattle.shape.proofs.right.Reads as lists-reads
+use Rattle.slices.proofs.equal as equal-at
+use Rattle.slices.proofs.equal.Reads as equal-reads
+use Rattle.slices.proofs.has as has-number-at
+use Rattle.slices.proofs.has.Reads as has-number-reads
+use Rattle.slices.proofs.over as over-top-at
+use Rattle.slices.proofs.over.Reads as over-top-reads
+use Rattle.slices.proofs.zeros as zeros-at
+use Rattle.slices.proofs.zeros.Reads as zeros-reads
 use Rattle.stages.proofs.judge as judge-at
 use Rattle.stages.proofs.judge.Reads as judge-reads
 use Rattle.stages.proofs.start as start-at
@@ -200,6 +208,10 @@ pub record OnceEach : Type 0 where
   pub has-one : Once has-at.ended has-reads.Learnt
   pub before-one : Once before-at.ended before-reads.Learnt
   pub low-one : Once low-at.ended low-reads.Learnt
+  pub has-number-one : Once has-number-at.ended has-number-reads.Learnt
+  pub over-top-one : Once over-top-at.ended over-top-reads.Learnt
+  pub zeros-one : Once zeros-at.ended zeros-reads.Learnt
+  pub equal-one : Once equal-at.ended equal-reads.Learnt
   pub fault-one : Once fault-at.ended fault-reads.Learnt
   pub canonical-one : Once canonical-at.ended canonical-reads.Learnt
   pub nothing-one : Once nothing-at.ended nothing-reads.Learnt

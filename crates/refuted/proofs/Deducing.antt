@@ -36,6 +36,7 @@ use Rattle.store.specs.Calls.{isDone, noStore, storeOf}
 use Rattle.store.specs.Shape.{top}
 use Rattle.store.specs.declared.Outcome.{Outcome}
 use Rattle.store.specs.declared.Store.{Store}
+use Rattle.theory.specs.Limits.{fileBytes}
 use Rattle.theory.specs.Lists.{choose}
 use Rattle.theory.specs.Stages.{Justification}
 use lib.ListN.{length}
@@ -75,14 +76,14 @@ module _ {A M : ℕ} where
 
 prints-ours : (bytes out : List ℕ) → deducing .printing bytes out ≡ ours .printing bytes out
 prints-ours bytes out =
-    ⊎-elim (λ (h : ltb 4096 (length bytes) ≡ true). ap (λ (b : Bool). choose b long rest) h ∙ sym (demand-2 .prints-long bytes out (ltb-true 4096 (length bytes) h)))
-    (λ (h : ltb 4096 (length bytes) ≡ false).
-    let few : length bytes ≤ 4096 = ltb-false 4096 (length bytes) h in
+    ⊎-elim (λ (h : ltb fileBytes (length bytes) ≡ true). ap (λ (b : Bool). choose b long rest) h ∙ sym (demand-2 .prints-long bytes out (ltb-true fileBytes (length bytes) h)))
+    (λ (h : ltb fileBytes (length bytes) ≡ false).
+    let few : length bytes ≤ fileBytes = ltb-false fileBytes (length bytes) h in
     ap (λ (b : Bool). choose b long rest) h
     ∙ ⊎-elim (λ (d : isDone r ≡ true). ap (λ (b : Bool). choose b listed refusal) d ∙ sym (demand-2 .prints-listed bytes out few (zero-done r (eqb-true (numberOf r) 0 d))))
     (λ (d : isDone r ≡ false). ap (λ (b : Bool). choose b listed refusal) d ∙ sym (demand-2 .prints-refused bytes out few (λ e. clash (ap isDone e) d)))
     (either (isDone r)))
-    (either (ltb 4096 (length bytes)))
+    (either (ltb fileBytes (length bytes)))
   where
     r : Reply
     r = loadOf bytes .reply

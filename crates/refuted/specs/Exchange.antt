@@ -18,12 +18,13 @@ use Rattle.store.specs.Calls.{answer, isDone}
 use Rattle.store.specs.Shape.{rightShape}
 use Rattle.store.specs.declared.Outcome.{Outcome}
 use Rattle.store.specs.declared.Store.{Store}
+use Rattle.theory.specs.Limits.{fileBytes}
 use Rattle.theory.specs.Lists.{choose}
 
 -- what a program prints of a file, by its own loading, reading and refusals
 abbrev pub printingBy : (List ℕ → Loaded) → (Store → (a : Ask) → Read a) → (Reply → ℕ → List ℕ → Wrote) → List ℕ → List ℕ → Wrote
 printingBy loading reading refusal bytes out =
-    choose (ltb 4096 (length bytes)) (refusal Long 0 out)
+    choose (ltb fileBytes (length bytes)) (refusal Long 0 out)
     (choose (isDone (loading bytes .reply)) (record { answer = reading (loading bytes .store) (listAll out) .said; bytes = reading (loading bytes .store) (listAll out) .bytes })
     (refusal (loading bytes .reply) (loading bytes .«record») out))
 

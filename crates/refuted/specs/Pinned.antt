@@ -24,7 +24,7 @@ use Rattle.rules.specs.Held.{saidBy}
 use Rattle.store.specs.declared.Store.{Store}
 use Rattle.text.specs.Texts.{word}
 use Rattle.theory.specs.Cases.{from}
-use Rattle.theory.specs.Limits.{limits}
+use Rattle.theory.specs.Limits.{fileBytes, limits}
 use Rattle.theory.specs.Lists.{numbersBelow}
 use Rattle.theory.specs.Sets.{contains}
 
@@ -117,7 +117,7 @@ pub record Pinned (C : Calls) : Type 0 where
   pub beyond : PrintsFile C (1 ∷ 2 ∷ 3 ∷ 0 ∷ 1 ∷ 1 ∷ 2 ∷ 1 ∷ 1 ∷ 3 ∷ 1 ∷ 2 ∷ []) "case 1 2 3 1\n0 nogood {1}\n1 contradicted\n2 contradicted\n3 contradicted\n"
   pub beside : PrintsFile C (1 ∷ 2 ∷ 2 ∷ 0 ∷ 0 ∷ 2 ∷ 0 ∷ []) "case 1 2 2 1\n0 nogood {}\n1 contradicted\n2 contradicted\n3 unsupported\n"
   pub nothing : PrintsFile C [] "refused 11 0\n"
-  pub long : (bytes : List ℕ) → 4096 < length bytes → PrintsFile C bytes "refused 14 0\n"
+  pub long : (bytes : List ℕ) → fileBytes < length bytes → PrintsFile C bytes "refused 14 0\n"
   -- {1} {2,3} {1,2} serves where {1} {2,3} does, the label of 4 in the document's case, and is longer
   pub longer : (map (contains (1 ∷ 6 ∷ 3 ∷ [])) (numbersBelow 8) ≡ map (contains (1 ∷ 6 ∷ [])) (numbersBelow 8)) × (length {A = ℕ} (1 ∷ 6 ∷ []) < length {A = ℕ} (1 ∷ 6 ∷ 3 ∷ []))
   -- a refusal's line; 14 is the program's own

@@ -2,6 +2,7 @@
 use lent::Written;
 use libc::STDIN_FILENO;
 use replies::Reply;
+use theory::FILE;
 
 // The line of a refusal and of the record being read, on standard error.
 fn refused(reply: Reply, record: u32) {
@@ -10,18 +11,20 @@ fn refused(reply: Reply, record: u32) {
     if let Written::Length(n) = answer {
         if n <= text.len() {
             printing::complain(&text[..n]);
+            return;
         }
     }
+    printing::complain(b"there is no room for the text\n");
 }
 
 fn main() {
-    let mut bytes = [0u8; 4097];
+    let mut bytes = [0u8; FILE + 1];
     let got = io::read_full(STDIN_FILENO, &mut bytes);
     if got < bytes.len() && !printing::at_end() {
         printing::complain(b"rewrite: the input could not be read to its end\n");
         return;
     }
-    if 4096 < got {
+    if FILE < got {
         refused(Reply::Long, 0);
         return;
     }

@@ -3,7 +3,8 @@ use mathlib.Core.List.{List, [], _∷_}
 use mathlib.Core.Path.{_≡_}
 use Prim.Native.Nat.{ℕ}
 use lib.Count.{ones}
-use Rattle.theory.specs.Judge.{Limits, Verdict, agree, consequents, course, judge, labelLong, labelOver, limits, lowestLong, nogoodsLong, nogoodsOver, sameSets, settled, stageAt, stageOf}
+use Rattle.theory.specs.Judge.{Verdict, agree, consequents, course, judge, labelLong, labelOver, lowestLong, nogoodsLong, nogoodsOver, sameSets, settled, stageAt, stageOf}
+use Rattle.theory.specs.Limits.{Limits, limits}
 use Rattle.theory.specs.Lists.{alike, allOf, numbersBelow, numbersTo, someOf, those}
 use Rattle.theory.specs.Sets.{among, bySize, digit, listing, within}
 use Rattle.theory.specs.Stages.{Justification, follows, gives, labelOf, minimal, nogoodsOf}

@@ -22,3 +22,7 @@ limits = record { assumptions = 32; claims = 96; numbers = 128; held = 256; supp
 -- A assumptions and M claims: one of the counts is over its limit
 abbrev pub overCounts : ℕ → ℕ → Bool
 overCounts A M = ltb (limits .assumptions) A || ltb (limits .claims) M
+
+-- bytes of a case file that is listed
+abbrev pub fileBytes : ℕ
+fileBytes = 4096

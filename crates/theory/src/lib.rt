@@ -23,3 +23,6 @@ pub const LABEL: usize = 12;
 
 // Nogoods.
 pub const NOGOODS: usize = 32;
+
+// Bytes of a case file that is listed.
+pub const FILE: usize = 4096;
