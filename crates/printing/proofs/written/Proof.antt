@@ -10,4 +10,4 @@ pub written-spec : {M : Type 1} → statement M
 written-spec =
     tie.close
     (tie.spec (λ c. search needs) (λ c. sym (length-take-le _ _ (omega arith))) (λ c κs. search needs) (λ c. search needs)
-    (λ c. search needs) (λ c. search needs) (λ c. search needs))
+    (λ c. search needs) (λ c. search needs) (λ c κs. search needs) (λ c. search needs))
