@@ -1,3 +1,4 @@
 pub mod Supplied
 pub mod Walked
+pub mod Array
 pub mod First
