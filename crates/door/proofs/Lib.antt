@@ -1,2 +1,1 @@
-mod Naming
 mod Refusing

@@ -1,12 +1,22 @@
 // The calls that make a store.
-use crate::Kept;
+use across::Kept;
 use handed::Handed;
+use store::Outcome;
 use store::Store;
 ghost use mathlib.Core.Path.{_≡_};
 ghost use Rattle.casefile.specs.Load.{loadOf};
 ghost use Rattle.season.specs.Season.{addAllOf, bytesAfter};
 ghost use Rattle.store.specs.Calls.{addOf, openOf, withdrawOf};
-ghost use Rattle.door.specs.Door.{loadedBy, madeBy};
+ghost use Rattle.across.specs.Across.{loadedBy, madeBy};
+
+// What a call that reads no file answers.
+fn made(out: Outcome) -> Kept
+    ensures { λ r. ⌜ r ≡ madeBy out ⌝ }
+{
+    let reply = out.reply;
+    let store = out.store;
+    across::keep(reply, 0, store)
+}
 
 // A store that holds nothing.
 #[no_mangle]
@@ -14,7 +24,7 @@ pub extern "C" fn door_open(assumptions: u32, claims: u32) -> Kept
     ensures { λ r. ⌜ r ≡ madeBy (openOf assumptions claims) ⌝ }
 {
     let out = Store::open(assumptions, claims);
-    crate::made(out)
+    made(out)
 }
 
 // The store of a case file.
@@ -26,7 +36,7 @@ pub extern "C" fn door_load(bytes: &[u8]) -> Kept
     let reply = out.reply;
     let at = out.record;
     let made = out.store;
-    crate::keep(reply, at, made)
+    across::keep(reply, at, made)
 }
 
 // The store with one justification more.
@@ -35,7 +45,7 @@ pub extern "C" fn door_add(store: Store, consequent: u32, supports: &[u32]) -> K
     ensures { λ r. ⌜ r ≡ madeBy (addOf store consequent (now (supports .entry))) ⌝ }
 {
     let out = store.add(consequent, supports);
-    crate::made(out)
+    made(out)
 }
 
 // The store without one justification that it holds.
@@ -44,7 +54,7 @@ pub extern "C" fn door_withdraw(store: Store, consequent: u32, supports: &[u32])
     ensures { λ r. ⌜ r ≡ madeBy (withdrawOf store consequent (now (supports .entry))) ⌝ }
 {
     let out = store.withdraw(consequent, supports);
-    crate::made(out)
+    made(out)
 }
 
 // The store with the justifications of a list, each refused one passed over, and a reply byte for each.
@@ -53,6 +63,6 @@ pub extern "C" fn door_add_all(store: Store, list: &[Handed], out: &mut [u8]) ->
     ensures { λ r. ⌜ (r ≡ madeBy (addAllOf store (now (list .entry)) (now (out .entry))))
         × (now (out .exit) ≡ bytesAfter store (now (list .entry)) (now (out .entry))) ⌝ }
 {
-    let made = season::add_all(store, list, out);
-    crate::made(made)
+    let all = season::add_all(store, list, out);
+    made(all)
 }

@@ -1,7 +1,6 @@
 // The calls that read a store.
-use crate::Reasoned;
-use crate::Told;
-use asking::Answer;
+use across::Reasoned;
+use across::Told;
 use asking::Found;
 use store::Store;
 ghost use mathlib.Core.Path.{_≡_};
@@ -10,7 +9,7 @@ ghost use Rattle.asking.specs.Asking.{contextBytes, contextReply, memberOf, que
 ghost use Rattle.plain.specs.Plainly.{plainAfter, plainOf};
 ghost use Rattle.replies.specs.Replies.{numberOf};
 ghost use Rattle.store.specs.Shape.{rightShape};
-ghost use Rattle.door.specs.Door.{foundBy, plainlyBy, reasonedBy};
+ghost use Rattle.across.specs.Across.{foundBy, plainlyBy, reasonedBy};
 
 // Whether the store has the right shape.
 #[no_mangle]
@@ -26,29 +25,7 @@ pub extern "C" fn door_question(store: Store, n: u32, e: u32) -> Reasoned
     ensures { λ r. ⌜ r ≡ reasonedBy (questionOf store n e) ⌝ }
 {
     let out = asking::question(store, n, e);
-    let answer = out.answer;
-    match answer {
-        Answer::Inconsistent(nogood) => Reasoned {
-            reply: 0,
-            answer: 2,
-            reason: nogood,
-        },
-        Answer::Supported(member) => Reasoned {
-            reply: 0,
-            answer: 1,
-            reason: member,
-        },
-        Answer::Unsupported => Reasoned {
-            reply: 0,
-            answer: 0,
-            reason: 0,
-        },
-        Answer::Refused(reply) => Reasoned {
-            reply: replies::number(reply) as u32,
-            answer: 0,
-            reason: 0,
-        },
-    }
+    across::reason(out)
 }
 
 // What the set e is to every number, a byte each.
@@ -88,7 +65,7 @@ pub extern "C" fn door_plain_question(store: Store, n: u32, e: u32) -> Told
 {
     let out = plain::question(store, n, e);
     let answer = out.answer;
-    crate::plainly(answer)
+    across::plainly(answer)
 }
 
 // What the set e is to every number, a byte each, without labels.

@@ -1,5 +1,5 @@
 // The calls that write text into lent bytes.
-use crate::Told;
+use across::Told;
 use store::Store;
 ghost use mathlib.Core.Path.{_≡_};
 ghost use Rattle.lent.specs.Lent.{fitted};
@@ -8,7 +8,7 @@ ghost use Rattle.listing.specs.Listing.{listedOf, listingOf};
 ghost use Rattle.stagetext.specs.Stagetext.{stagesOf};
 ghost use Rattle.text.specs.Texts.{refusal};
 ghost use Rattle.writing.specs.Writing.{writeOf};
-ghost use Rattle.door.specs.Door.{wroteBy};
+ghost use Rattle.across.specs.Across.{wroteBy};
 
 // The line of n in the listing, its newline included.
 #[no_mangle]
@@ -18,7 +18,7 @@ pub extern "C" fn door_line(store: Store, n: u32, out: &mut [u8]) -> Told
 {
     let told = lines::line(store, n, out);
     let answer = told.answer;
-    crate::written(answer)
+    across::written(answer)
 }
 
 // The first line of the listing.
@@ -29,7 +29,7 @@ pub extern "C" fn door_case_line(store: Store, out: &mut [u8]) -> Told
 {
     let told = lines::case_line(store, out);
     let answer = told.answer;
-    crate::written(answer)
+    across::written(answer)
 }
 
 // The whole listing.
@@ -40,7 +40,7 @@ pub extern "C" fn door_listing(store: Store, out: &mut [u8]) -> Told
 {
     let told = listing::listing(store, out);
     let answer = told.answer;
-    crate::written(answer)
+    across::written(answer)
 }
 
 // What the listing program prints of the bytes of a file.
@@ -50,7 +50,7 @@ pub extern "C" fn door_printed(bytes: &[u8], out: &mut [u8]) -> Told
         × (now (out .exit) ≡ fitted (listingOf (now (bytes .entry))) (now (out .entry)) .bytes) ⌝ }
 {
     let answer = listing::printed(bytes, out);
-    crate::written(answer)
+    across::written(answer)
 }
 
 // The case file of what is held.
@@ -61,7 +61,7 @@ pub extern "C" fn door_write(store: Store, out: &mut [u8]) -> Told
 {
     let told = writing::write(store, out);
     let answer = told.answer;
-    crate::written(answer)
+    across::written(answer)
 }
 
 // One line a stage: every number that followed from the set e by then.
@@ -72,7 +72,7 @@ pub extern "C" fn door_stages(store: Store, e: u32, out: &mut [u8]) -> Told
 {
     let told = stagetext::lines(store, e, out);
     let answer = told.answer;
-    crate::written(answer)
+    across::written(answer)
 }
 
 // The line of a refusal, by its number, and of the record being read.
@@ -84,5 +84,5 @@ pub extern "C" fn door_refusal(number: u32, record: u32, out: &mut [u8]) -> Told
     let mut text = [0u8; 30];
     let end = text::refused(number, record, &mut text);
     let answer = lent::fit(&text[..end], out);
-    crate::written(answer)
+    across::written(answer)
 }

@@ -1,8 +1,8 @@
 -- Nothing is lost at the door: each answer that crossed reads back. Assumes nothing.
 use mathlib.Core.Path.{_≡_}
 use lib.ListN.{length}
-use Rattle.door.specs.Door.{foundBy, plainlyBy, reasonedBy, wroteBy}
-use Rattle.door.specs.declared.Told.{Told}
+use Rattle.across.specs.Across.{foundBy, plainlyBy, reasonedBy, wroteBy}
+use Rattle.across.specs.declared.Told.{Told}
 use Rattle.listing.specs.Listing.{listingOf}
 use Rattle.promises.specs.Calls.{ours}
 use Rattle.replies.specs.Replies.{numberOf}

@@ -12,10 +12,10 @@ use Rattle.asking.specs.declared.Answer.the-variants.{Inconsistent, Refused, Su
 use Rattle.asking.specs.declared.Found.{Found}
 use Rattle.asking.specs.declared.Found.the-variants.{Is, Not}
 use Rattle.casefile.specs.declared.Loaded.{Loaded}
-use Rattle.door.specs.Door.{foundBy, loadedBy, madeBy, namedOr0, plainlyBy, reasonedBy, wroteBy}
-use Rattle.door.specs.declared.Kept.{Kept}
-use Rattle.door.specs.declared.Reasoned.{Reasoned}
-use Rattle.door.specs.declared.Told.{Told}
+use Rattle.across.specs.Across.{foundBy, loadedBy, madeBy, namedOr0, plainlyBy, reasonedBy, wroteBy}
+use Rattle.across.specs.declared.Kept.{Kept}
+use Rattle.across.specs.declared.Reasoned.{Reasoned}
+use Rattle.across.specs.declared.Told.{Told}
 use Rattle.lent.specs.Lent.{Wrote, fitted, kept}
 use Rattle.lines.specs.Lines.{caseText, headingOf, lineOf, lineText}
 use Rattle.lent.specs.declared.Written.{Written}

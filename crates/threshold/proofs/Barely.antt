@@ -9,9 +9,9 @@ use Rattle.bare.specs.Bare.{Answered, answered, askOf, barely, faultOfItem, fau
 use Rattle.bare.specs.declared.Query.{Query}
 use Rattle.bare.specs.declared.Told.{Told as Barely}
 use Rattle.bare.specs.declared.Told.the-variants.{Filled, Lines, Word}
-use Rattle.door.specs.Door.{barelyBy, queryBy, whatBy}
-use Rattle.door.specs.declared.Asked.{Asked}
-use Rattle.door.specs.declared.Told.{Told}
+use Rattle.across.specs.Across.{barelyBy, queryBy, whatBy}
+use Rattle.across.specs.declared.Asked.{Asked}
+use Rattle.across.specs.declared.Told.{Told}
 use Rattle.handed.specs.Supplied.{suppliedBy}
 use Rattle.handed.specs.declared.Handed.{Handed}
 use Rattle.lent.specs.declared.Written.the-variants.{Refused as Unwritten}

@@ -59,8 +59,8 @@ use Rattle.door.proofs.texts.door_stages.Symbol as stages-code
 use Rattle.door.proofs.texts.door_write as write-at
 use Rattle.door.proofs.texts.door_write.Reads as write-reads
 use Rattle.door.proofs.texts.door_write.Symbol as write-code
-use Rattle.door.specs.Door.{barelyBy, foundBy, loadedBy, madeBy, plainlyBy, queryBy, reasonedBy, wroteBy}
-use Rattle.door.specs.declared.Asked.{Asked}
+use Rattle.across.specs.Across.{barelyBy, foundBy, loadedBy, madeBy, plainlyBy, queryBy, reasonedBy, wroteBy}
+use Rattle.across.specs.declared.Asked.{Asked}
 use Rattle.handed.specs.declared.Handed.{Handed}
 use Rattle.lent.specs.Lent.{fitted}
 use Rattle.promises.specs.Calls.{Calls, Read, caseLine, context, file, line, listAll, member, ours, plainContext, plainly, question, stageLines}

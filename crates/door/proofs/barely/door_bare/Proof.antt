@@ -1,4 +1,4 @@
--- `door::barely::door_bare` meets its contract: a walk of its MIR, by hand. `put` makes the query, the slice of items and the `&mut [u8]` go on to `bare::ask`, the bytes for good, and `say` turns its answer into numbers.
+-- `door::barely::door_bare` meets its contract: a walk of its MIR, by hand. `across::query` makes the query, the slice of items and the `&mut [u8]` go on to `bare::ask`, the bytes for good, and `say` turns its answer into numbers.
 -- Assumes nothing.
 use mathlib.Core.Path.{_≡_, _∙_, ap, refl}
 use mathlib.Core.List.{List, [], _∷_}
@@ -39,27 +39,27 @@ use denote.Exit.{yes}
 use Rattle.bare.specs.Bare.{Answered, answered, askOf}
 use Rattle.bare.specs.declared.Query.{Query}
 use Rattle.bare.specs.declared.Told.{Told as Barely}
-use Rattle.door.specs.Door.{barelyBy, queryBy}
-use Rattle.door.specs.declared.Asked.{Asked}
-use Rattle.door.specs.declared.Told.{Told}
+use Rattle.across.specs.Across.{barelyBy, queryBy}
+use Rattle.across.specs.declared.Asked.{Asked}
+use Rattle.across.specs.declared.Told.{Told}
 use Rattle.handed.specs.declared.Handed.{Handed}
 use Rattle.handed.proofs.Handed as T
 use Rattle.bare.proofs.Query as Q
 use Rattle.bare.proofs.Query.Laws as Q′
 use Rattle.bare.proofs.Told as E
 use Rattle.bare.proofs.Told.Laws as E′
-use Rattle.door.proofs.Asked as N
-use Rattle.door.proofs.Asked.Laws as N′
-use Rattle.door.proofs.Told as K
-use Rattle.door.proofs.Told.Laws as K′
+use Rattle.across.proofs.Asked as N
+use Rattle.across.proofs.Asked.Laws as N′
+use Rattle.across.proofs.Told as K
+use Rattle.across.proofs.Told.Laws as K′
 use Rattle.bare.proofs.ask as all
 use Rattle.bare.proofs.ask.Symbol as all-def
 use Rattle.bare.proofs.ask.Symbol.{name as #bare·ask}
 use Rattle.bare.proofs.ask.Met as all-thm
-use Rattle.door.proofs.barely.put as p
-use Rattle.door.proofs.barely.put.Symbol as p-def
-use Rattle.door.proofs.barely.put.Symbol.{name as #door·put}
-use Rattle.door.proofs.barely.put.Met as p-thm
+use Rattle.across.proofs.query as p
+use Rattle.across.proofs.query.Symbol as p-def
+use Rattle.across.proofs.query.Symbol.{name as #across·query}
+use Rattle.across.proofs.query.Met as p-thm
 use Rattle.door.proofs.barely.say as m
 use Rattle.door.proofs.barely.say.Symbol as m-def
 use Rattle.door.proofs.barely.say.Symbol.{name as #door·say}
@@ -77,8 +77,8 @@ askedVal a = LL.tuple-val N.the-type N′.the-laws (N.the-type .to a)
 
 module _ {M : Type 1} (𝓤 : URA M) (H : Heap 𝓤) (A : Atoms 𝓤) (mem : Memory → SProp 𝓤) (run : Routine → Fun 𝓤) where
   -- the contracts that the proof cites
-  abbrev Puts : Contract 𝓤
-  Puts = tripleOf 𝓤 H A p.signature (p.spec 𝓤 H A mem run)
+  abbrev Queries : Contract 𝓤
+  Queries = tripleOf 𝓤 H A p.signature (p.spec 𝓤 H A mem run)
 
   abbrev All : Contract 𝓤
   All = tripleOf 𝓤 H A all.signature (all.spec 𝓤 H A mem run)
@@ -128,7 +128,7 @@ module _ {M : Type 1} (𝓤 : URA M) (H : Heap 𝓤) (A : Atoms 𝓤) (W : Given
   abbrev Post : Val → SProp 𝓤
   Post = walkOf 𝓤 H A f.ended stayed (f.clauses 𝓤 H A mem run) .post (((κ, (κ₁, tt)), (q, (q₁, tt)), tt, args, at), tt)
 
-  abbrev first : Puts 𝓤 H A mem run .Ghost
+  abbrev first : Queries 𝓤 H A mem run .Ghost
   first = ((tt, tt, tt, (a₀, tt), (askedVal a₀ ∷ [], tt)), tt)
 
   abbrev to : Query → Val → All 𝓤 H A mem run .Ghost
@@ -137,14 +137,14 @@ module _ {M : Type 1} (𝓤 : URA M) (H : Heap 𝓤) (A : Atoms 𝓤) (W : Given
   abbrev next : Barely → Val → Says 𝓤 H A mem run .Ghost
   next t w = ((tt, tt, tt, (t, tt), (w ∷ [], tt)), tt)
 
-  handed : ent 𝓤 (⋆ 𝓤 H A (‵ askedOwn ∷ [])) (Puts 𝓤 H A mem run .pre first)
+  handed : ent 𝓤 (⋆ 𝓤 H A (‵ askedOwn ∷ [])) (Queries 𝓤 H A mem run .pre first)
   handed = qed W (‵ askedOwn ∷ []) ∵ nothing ! $ move ! (1 ∷ 0 ∷ []) $ fjoin ! $ nothing ! $ join ! $ frame ! $ done !
 
   given : (t : Barely) (w : Val) → ent 𝓤 (⋆ 𝓤 H A (‵ (E.the-row .own t (w ∷ [])) ∷ [])) (Says 𝓤 H A mem run .pre (next t w))
   given t w = qed W (‵ (E.the-row .own t (w ∷ [])) ∷ []) ∵ nothing ! $ move ! (1 ∷ 0 ∷ []) $ fjoin ! $ nothing ! $ join ! $ frame ! $ done !
 
-  put-told : (g : Query) → ent 𝓤 (ensured 𝓤 H A p.ended (p.clauses 𝓤 H A mem run) tt (a₀, tt) tt g) (fact 𝓤 (g ≡ queryBy a₀))
-  put-told g = exE 𝓤 _ (λ ws. snd∗ 𝓤 (sem 𝓤 H A (lasts p.ended tt (a₀, tt) ws)) (fact 𝓤 (g ≡ queryBy a₀)))
+  query-told : (g : Query) → ent 𝓤 (ensured 𝓤 H A p.ended (p.clauses 𝓤 H A mem run) tt (a₀, tt) tt g) (fact 𝓤 (g ≡ queryBy a₀))
+  query-told g = exE 𝓤 _ (λ ws. snd∗ 𝓤 (sem 𝓤 H A (lasts p.ended tt (a₀, tt) ws)) (fact 𝓤 (g ≡ queryBy a₀)))
 
   say-told : (t : Barely) (k : Told) → ent 𝓤 (ensured 𝓤 H A m.ended (m.clauses 𝓤 H A mem run) tt (t, tt) tt k) (fact 𝓤 (k ≡ barelyBy t))
   say-told t k = exE 𝓤 _ (λ ws. snd∗ 𝓤 (sem 𝓤 H A (lasts m.ended tt (t, tt) ws)) (fact 𝓤 (k ≡ barelyBy t)))
@@ -156,7 +156,7 @@ module _ {M : Type 1} (𝓤 : URA M) (H : Heap 𝓤) (A : Atoms 𝓤) (W : Given
       suffices ! _ (ends-at 𝓤 H A f.ended stayed (f.clauses 𝓤 H A mem run) W (((κ, (κ₁, tt)), (q, (q₁, tt)), tt, args, at), tt) w k (tt, (tt, (zs, tt))) (tt, (tt, (len, tt)))) $ says ! is $
       frame ! $ nothing ! $ move ! (1 ∷ 0 ∷ []) $ fjoin ! $ move ! (3 ∷ 0 ∷ []) $ fjoin ! $ move ! (2 ∷ 0 ∷ []) $ fjoin ! $ frame ! $ done !
 
-  module _ (C : Calls 𝓤 H) (Λ : Loops 𝓤 H) (fm : FmC 𝓤 H (W .laws) C) (puts : Triple 𝓤 (C #door·put) (Puts 𝓤 H A mem run)) (known : Triple 𝓤 (C #bare·ask) (All 𝓤 H A mem run)) (known′ : Triple 𝓤 (C #door·say) (Says 𝓤 H A mem run)) where
+  module _ (C : Calls 𝓤 H) (Λ : Loops 𝓤 H) (fm : FmC 𝓤 H (W .laws) C) (queries : Triple 𝓤 (C #across·query) (Queries 𝓤 H A mem run)) (known : Triple 𝓤 (C #bare·ask) (All 𝓤 H A mem run)) (known′ : Triple 𝓤 (C #door·say) (Says 𝓤 H A mem run)) where
     walk : Is N.the-row a₀ (askedVal a₀ ∷ []) → Is (ShrSlice (named 0) κ T.the-row) x (u ∷ []) → Room u8 (length (y .now))
         → ent 𝓤 (onEntry 𝓤 H A f.signature (κ, (κ₁, tt)) (q, (q₁, tt)) args at) (WpFn 𝓤 H C Λ code.function (askedVal a₀ ∷ u ∷ v ∷ []) Post)
     walk is are room =
@@ -164,15 +164,15 @@ module _ {M : Type 1} (𝓤 : URA M) (H : Heap 𝓤) (A : Atoms 𝓤) (W : Given
         move ! (1 ∷ []) $ fsplit ! $ use1 W (‵ askedOwn ⊛ ‵ askedOwn) (LL.copy N.the-type N′.the-copy 𝓤 H A W .twice a₀ (askedVal a₀ ∷ [])) $ split ! $
         move ! (2 ∷ []) $ fsplit ! $ use1 W (‵ listOwn ⊛ ‵ listOwn) (shr-slice-copy 𝓤 H A W (named 0) κ T.the-row .twice x (u ∷ [])) $ split ! $
         -- [what the list owns, twice; what the bytes own; what the question owns, twice; the tokens]
-        move ! (0 ∷ 2 ∷ []) $ fjoin ! $ move ! (2 ∷ []) $ use1 W (raw (Puts 𝓤 H A mem run .pre first)) handed $
-        -- [what `put` asks; what the slices own; what the list owns; what the question owns; the tokens]
+        move ! (0 ∷ 2 ∷ []) $ fjoin ! $ move ! (2 ∷ []) $ use1 W (raw (Queries 𝓤 H A mem run .pre first)) handed $
+        -- [what `across::query` asks; what the slices own; what the list owns; what the question owns; the tokens]
         enter ! C Λ code.function (askedVal a₀ ∷ u ∷ v ∷ []) _ $
         alloc1 ! (λ l₀. alloc1 ! (λ l₁. alloc1 ! (λ l₂. alloc1 ! (λ l₃. alloc1 ! (λ l₄. alloc1 ! (λ l₅. alloc1 ! (λ l₆. alloc1 ! (λ l₇. alloc0 ! $ params1 ! $
         pass1 ! (init ! 12 refl (LL.lawful N.the-type N′.the-laws 𝓤 H A W .typed a₀ _ is .0)) $ pass1 ! (init ! 10 refl (shr-slice-lawful 𝓤 H A W (named 0) κ T.the-row .typed x (u ∷ []) are .0)) $ pass1 ! (init ! 8 refl (tt, (tt, (record { fits = room .0 }, tt)))) $ pass0 ! $
-        -- [_7; …; _0 at 14; …; what `put` asks at 16; what the slices own; what the list owns; what the question owns; the tokens]
-        move ! (16 ∷ []) $ calls-at ! fm (Puts 𝓤 H A mem run) puts first (and-then ! (load ! (from ! (stop !)) (look ! 13 refl)) (no-more !)) (λ w₀.
+        -- [_7; …; _0 at 14; …; what `across::query` asks at 16; what the slices own; what the list owns; what the question owns; the tokens]
+        move ! (16 ∷ []) $ calls-at ! fm (Queries 𝓤 H A mem run) queries first (and-then ! (load ! (from ! (stop !)) (look ! 13 refl)) (no-more !)) (λ w₀.
         use1 W (later (some (λ (g : Query). (‵ ftrue ⊛ ‵ (Q.the-row .own g (w₀ ∷ []))) ⊛ raw (ensured 𝓤 H A p.ended (p.clauses 𝓤 H A mem run) tt (a₀, tt) tt g)))) (id⊢ 𝓤 _) $ await ! tt $ pick ! (λ g.
-        split ! $ move ! (1 ∷ []) $ use1 W (raw (fact 𝓤 (g ≡ queryBy a₀))) (put-told g) $ heard ! (g ≡ queryBy a₀) (λ asked. split ! $ drop ! $
+        split ! $ move ! (1 ∷ []) $ use1 W (raw (fact 𝓤 (g ≡ queryBy a₀))) (query-told g) $ heard ! (g ≡ queryBy a₀) (λ asked. split ! $ drop ! $
         -- [the query; _7 at 1; …; _4 at 7; …; what the slices own at 17; what the list owns; what the question owns; the tokens]
         peeks ! Q.the-row (Is Q.the-row) (shows 𝓤 H A Q.the-row) g (w₀ ∷ []) (λ isq.
         land ! (from ! (stop !)) (init ! 7 refl (LL.lawful Q.the-type Q′.the-laws 𝓤 H A W .typed g _ isq .0)) $
@@ -201,21 +201,21 @@ module _ {M : Type 1} (𝓤 : URA M) (H : Heap 𝓤) (A : Atoms 𝓤) (W : Given
         keep ! (1 ∷ 2 ∷ 0 ∷ 5 ∷ 4 ∷ []) $ by ! (exits k w′ (ws .1 .1 .0) (found g t k (ws .1 .1 .0) asked said same) len)))))))))))))))))))))))
 
 module _ {M : Type 1} (𝓤 : URA M) (H : Heap 𝓤) (A : Atoms 𝓤) (W : Given 𝓤 H A) (mem : Memory → SProp 𝓤) (run : Routine → Fun 𝓤) where
-  bare-walks : (C : Calls 𝓤 H) (Λ : Loops 𝓤 H) → FmC 𝓤 H (W .laws) C → Triple 𝓤 (C #door·put) (Puts 𝓤 H A mem run) → Triple 𝓤 (C #bare·ask) (All 𝓤 H A mem run) → Triple 𝓤 (C #door·say) (Says 𝓤 H A mem run)
+  bare-walks : (C : Calls 𝓤 H) (Λ : Loops 𝓤 H) → FmC 𝓤 H (W .laws) C → Triple 𝓤 (C #across·query) (Queries 𝓤 H A mem run) → Triple 𝓤 (C #bare·ask) (All 𝓤 H A mem run) → Triple 𝓤 (C #door·say) (Says 𝓤 H A mem run)
       → Walks 𝓤 H A f.ended stayed (WpFn 𝓤 H C Λ code.function) (f.clauses 𝓤 H A mem run)
-  bare-walks C Λ fm puts known known′ = walked 𝓤 H A f.ended stayed (f.clauses 𝓤 H A mem run) (WpFn 𝓤 H C Λ code.function)
+  bare-walks C Λ fm queries known known′ = walked 𝓤 H A f.ended stayed (f.clauses 𝓤 H A mem run) (WpFn 𝓤 H C Λ code.function)
       (λ κs. (LL.vals N.the-type N′.the-laws, (slice-vals, (slice-vals, tt)))) (λ κs. (LL.tells N.the-type N′.the-laws, (shr-slice-tells (named 0) (κs .0) T.the-row, (mut-slice-tells (named 1) (κs .1 .0) u8, tt))))
-      (λ κs qs bounds a _ are. via 𝓤 _ (fst∗ 𝓤 _ (emp 𝓤)) (walk 𝓤 H A W mem run (κs .0) (κs .1 .0) (qs .0) (qs .1 .0) (a .0) (a .1 .0) (a .1 .1 .0) C Λ fm puts known known′ (are .0) (are .1 .0) (are .1 .1 .0 .0 .1)))
+      (λ κs qs bounds a _ are. via 𝓤 _ (fst∗ 𝓤 _ (emp 𝓤)) (walk 𝓤 H A W mem run (κs .0) (κs .1 .0) (qs .0) (qs .1 .0) (a .0) (a .1 .0) (a .1 .1 .0) C Λ fm queries known known′ (are .0) (are .1 .0) (are .1 .1 .0 .0 .1)))
 
   goes : AllGo 𝓤 H A W 2 (f.signature .params) (f.ended .kept) stayed
   goes = (goes-none 𝓤 H A W 2 (λ _. N.the-row) yes (λ κs x f. refl), (goes-none-slice 𝓤 H A W 2 (0 ∷ []) tt (plain (λ _. T.the-row)) yes, (goes-gave-slice 𝓤 H A W 2 1 tt (plain (λ _. u8)), tt)))
 
 bare-meets : {M : Type 1} (𝓤 : URA M) (H : Heap 𝓤) (A : Atoms 𝓤) (W : Given 𝓤 H A) (mem : Memory → SProp 𝓤) (run : Routine → Fun 𝓤) (𝓣 : Tables 𝓤 H)
-    → Triple 𝓤 (𝓣 .C #door·put) (Puts 𝓤 H A mem run) → Triple 𝓤 (𝓣 .C #bare·ask) (All 𝓤 H A mem run) → Triple 𝓤 (𝓣 .C #door·say) (Says 𝓤 H A mem run)
+    → Triple 𝓤 (𝓣 .C #across·query) (Queries 𝓤 H A mem run) → Triple 𝓤 (𝓣 .C #bare·ask) (All 𝓤 H A mem run) → Triple 𝓤 (𝓣 .C #door·say) (Says 𝓤 H A mem run)
     → Meets 𝓤 H A f.signature (WpFn 𝓤 H (𝓣 .C) (𝓣 .Λ) code.function) (f.spec 𝓤 H A mem run)
-bare-meets 𝓤 H A W mem run 𝓣 puts known known′ =
+bare-meets 𝓤 H A W mem run 𝓣 queries known known′ =
     walk-meets 𝓤 H A f.ended stayed W (goes 𝓤 H A W mem run) (f.clauses 𝓤 H A mem run) (WpFn 𝓤 H (𝓣 .C) (𝓣 .Λ) code.function) (WpFn-mono 𝓤 H (W .laws) 𝓣 code.function)
-    (bare-walks 𝓤 H A W mem run (𝓣 .C) (𝓣 .Λ) (fmOf 𝓤 H (W .laws) 𝓣) puts known known′)
+    (bare-walks 𝓤 H A W mem run (𝓣 .C) (𝓣 .Λ) (fmOf 𝓤 H (W .laws) 𝓣) queries known known′)
 
 pub door-bare-spec : {M : Type 1} → stated.statement M
 unfolding code.routine tablesOf
@@ -223,6 +223,6 @@ door-bare-spec 𝓤 H 𝓜 𝓖 𝓡 =
     entered 𝓤 H (tripleOf 𝓤 H (𝓖 .A) f.signature (f.spec 𝓤 H (𝓖 .A) (𝓜 .mem) (𝓡 .run)))
     (tables 𝓤 H 𝓜 𝓡 code.env .C) (tables 𝓤 H 𝓜 𝓡 code.env .Λ) #door·bare code.function (code.unfolded 𝓤 H 𝓜 𝓡)
     (bare-meets 𝓤 H (𝓖 .A) (givenOf 𝓤 H 𝓜 𝓖) (𝓜 .mem) (𝓡 .run) (tablesOf 𝓤 H 𝓜 (tables 𝓤 H 𝓜 𝓡 code.env))
-    (cited 𝓤 H (Puts 𝓤 H (𝓖 .A) (𝓜 .mem) (𝓡 .run)) 𝓜 𝓡 code.env #door·put p-def.routine code.calls-door·barely·put (p-thm.met 𝓤 H 𝓜 𝓖 𝓡))
+    (cited 𝓤 H (Queries 𝓤 H (𝓖 .A) (𝓜 .mem) (𝓡 .run)) 𝓜 𝓡 code.env #across·query p-def.routine code.calls-across·query (p-thm.met 𝓤 H 𝓜 𝓖 𝓡))
     (cited 𝓤 H (All 𝓤 H (𝓖 .A) (𝓜 .mem) (𝓡 .run)) 𝓜 𝓡 code.env #bare·ask all-def.routine code.calls-bare·ask (all-thm.met 𝓤 H 𝓜 𝓖 𝓡))
     (cited 𝓤 H (Says 𝓤 H (𝓖 .A) (𝓜 .mem) (𝓡 .run)) 𝓜 𝓡 code.env #door·say m-def.routine code.calls-door·barely·say (m-thm.met 𝓤 H 𝓜 𝓖 𝓡)))

@@ -1,32 +1,22 @@
 -- `door::barely::say` meets its contract: in each arm the answer's numbers. Assumes nothing.
 use mathlib.Core.Path.{_∙_, ap, sym}
 use Prim.Native.Nat.{ℕ}
-use Rattle.door.specs.Door.{barelyBy, told}
+use Rattle.across.specs.Across.{barelyBy, told}
 use borrow.Author.Needs.{needs}
 use Rattle.door.proofs.barely.say.Statement.{statement}
 use Rattle.door.proofs.barely.say.Tie as tie
 use Rattle.door.proofs.barely.say.Reads as reads
 use Rattle.door.proofs.barely.say.Lts as lts
-use Rattle.door.proofs.plainly.Reads as plainly-reads
-use Rattle.door.proofs.written.Reads as written-reads
+use Rattle.across.proofs.plainly.Reads as plainly-reads
+use Rattle.across.proofs.written.Reads as written-reads
 use Rattle.replies.proofs.number.Reads as number-reads
 
--- src/barely.rt:44:20
--- src/barely.rt:44:29
--- src/barely.rt:45:22
--- src/barely.rt:46:20
--- src/barely.rt:46:20
--- src/barely.rt:49:21
--- src/barely.rt:49:31
--- src/barely.rt:40:1
 returns : tie.Need-returns
 returns c = c .plainly .ensures ∙ ap barelyBy (sym (c .before .before .told .given .1))
 
--- src/barely.rt:40:1
 returns-2 : tie.Need-returns-2
 returns-2 c = ap (λ (n : ℕ). told n 0) (c .number .ensures) ∙ ap barelyBy (sym (c .before .before .told2 .given .1))
 
--- src/barely.rt:40:1
 returns-3 : tie.Need-returns-3
 returns-3 c = c .written .ensures ∙ ap barelyBy (sym (c .before .before .told3 .given .1))
 

@@ -35,8 +35,8 @@ use denote.Triple.Table.{entered, cited}
 use denote.Triple.Walked.{says, Stays, stay-none, stay-none-slice, gave-slice, walkOf, AllGo, goes-none, goes-none-slice, goes-gave-slice, Walks, ends-at, walked, walk-meets}
 use denote.Triple.Clauses.{ensured, lasts, Lasts}
 use denote.Exit.{yes}
-use Rattle.door.specs.Door.{madeBy}
-use Rattle.door.specs.declared.Kept.{Kept}
+use Rattle.across.specs.Across.{madeBy}
+use Rattle.across.specs.declared.Kept.{Kept}
 use Rattle.handed.specs.declared.Handed.{Handed}
 use Rattle.season.specs.Season.{addAllOf, bytesAfter}
 use Rattle.store.specs.declared.Outcome.{Outcome}
@@ -46,16 +46,16 @@ use Rattle.store.proofs.Store as S
 use Rattle.store.proofs.Store.Laws as S′
 use Rattle.store.proofs.Outcome as O
 use Rattle.store.proofs.Outcome.Laws as O′
-use Rattle.door.proofs.Kept as K
-use Rattle.door.proofs.Kept.Laws as K′
+use Rattle.across.proofs.Kept as K
+use Rattle.across.proofs.Kept.Laws as K′
 use Rattle.season.proofs.add_all as all
 use Rattle.season.proofs.add_all.Symbol as all-def
 use Rattle.season.proofs.add_all.Symbol.{name as #season·add-all}
 use Rattle.season.proofs.add_all.Met as all-thm
-use Rattle.door.proofs.made as m
-use Rattle.door.proofs.made.Symbol as m-def
-use Rattle.door.proofs.made.Symbol.{name as #door·made}
-use Rattle.door.proofs.made.Met as m-thm
+use Rattle.door.proofs.making.made as m
+use Rattle.door.proofs.making.made.Symbol as m-def
+use Rattle.door.proofs.making.made.Symbol.{name as #door·made}
+use Rattle.door.proofs.making.made.Met as m-thm
 use Rattle.door.proofs.making.door_add_all.Key.{name as #door·add-all}
 use Rattle.door.proofs.making.door_add_all as f
 use Rattle.door.proofs.making.door_add_all.Statement as stated
@@ -191,4 +191,4 @@ door-add-all-spec 𝓤 H 𝓜 𝓖 𝓡 =
     (tables 𝓤 H 𝓜 𝓡 code.env .C) (tables 𝓤 H 𝓜 𝓡 code.env .Λ) #door·add-all code.function (code.unfolded 𝓤 H 𝓜 𝓡)
     (add-all-meets 𝓤 H (𝓖 .A) (givenOf 𝓤 H 𝓜 𝓖) (𝓜 .mem) (𝓡 .run) (tablesOf 𝓤 H 𝓜 (tables 𝓤 H 𝓜 𝓡 code.env))
     (cited 𝓤 H (All 𝓤 H (𝓖 .A) (𝓜 .mem) (𝓡 .run)) 𝓜 𝓡 code.env #season·add-all all-def.routine code.calls-season·add-all (all-thm.met 𝓤 H 𝓜 𝓖 𝓡))
-    (cited 𝓤 H (Makes 𝓤 H (𝓖 .A) (𝓜 .mem) (𝓡 .run)) 𝓜 𝓡 code.env #door·made m-def.routine code.calls-door·made (m-thm.met 𝓤 H 𝓜 𝓖 𝓡)))
+    (cited 𝓤 H (Makes 𝓤 H (𝓖 .A) (𝓜 .mem) (𝓡 .run)) 𝓜 𝓡 code.env #door·made m-def.routine code.calls-door·making·made (m-thm.met 𝓤 H 𝓜 𝓖 𝓡)))

@@ -1,6 +1,6 @@
 -- `door::reading::door_member` meets its contract: the set, else the reply's number. Assumes nothing.
 use Rattle.asking.specs.declared.Shown.{Shown}
-use Rattle.door.specs.Door.{foundBy, told}
+use Rattle.across.specs.Across.{foundBy, told}
 use Prim.Native.Nat.{ℕ}
 use mathlib.Core.Path.{_∙_, ap, sym}
 use borrow.Author.Needs.{needs}
@@ -11,17 +11,9 @@ use Rattle.door.proofs.reading.door_member.Lts as lts
 use Rattle.asking.proofs.member.Reads as member-reads
 use Rattle.replies.proofs.number.Reads as number-reads
 
--- src/reading.rt:69:9
--- src/reading.rt:72:19
--- src/reading.rt:74:20
--- src/reading.rt:76:20
--- src/reading.rt:77:20
--- src/reading.rt:77:20
--- src/reading.rt:65:1
 returns : tie.Need-returns
 returns c = ap foundBy (sym (c .before .answer .given .1) ∙ ap (λ (r : Shown). r .answer) (c .before .before .before .member .ensures))
 
--- src/reading.rt:65:1
 returns-2 : tie.Need-returns-2
 returns-2 c = ap (λ (n : ℕ). told n 0) (c .number .ensures) ∙ ap foundBy (sym (c .before .before .answer2 .given .1) ∙ ap (λ (r : Shown). r .answer) (c .before .before .before .before .member .ensures))
 

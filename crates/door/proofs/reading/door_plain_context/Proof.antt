@@ -10,11 +10,6 @@ use Rattle.door.proofs.reading.door_plain_context.Lts as lts
 use Rattle.plain.proofs.context.Reads as context-reads
 use Rattle.replies.proofs.number.Reads as number-reads
 
--- src/reading.rt:59:9
--- src/reading.rt:61:5
--- src/reading.rt:61:5
--- src/reading.rt:54:1
--- src/reading.rt:54:1
 returns : tie.Need-returns
 returns c = let said = c .before .before .before .context .ensures in (c .number .ensures ∙ ap (λ (l : Left). numberOf (l .outcome .reply)) said, ap (λ (l : Left). l .bytes) said)
 

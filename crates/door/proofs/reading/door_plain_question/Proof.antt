@@ -1,8 +1,8 @@
 -- `door::reading::door_plain_question` meets its contract: the word of `plain::question`, as `plainly` gives it. Assumes nothing.
 use Rattle.plain.specs.declared.Told.{Told as Answered}
 use mathlib.Core.Path.{_∙_, ap}
-use Rattle.door.specs.Door.{plainlyBy}
-use Rattle.door.proofs.plainly.Reads as plainly-reads
+use Rattle.across.specs.Across.{plainlyBy}
+use Rattle.across.proofs.plainly.Reads as plainly-reads
 use Rattle.door.proofs.reading.door_plain_question.Statement.{statement}
 use Rattle.door.proofs.reading.door_plain_question.Tie as tie
 use Rattle.door.proofs.reading.door_plain_question.Reads as reads

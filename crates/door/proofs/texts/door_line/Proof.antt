@@ -1,19 +1,15 @@
 -- `door::texts::door_line` meets its contract: what `lines::line` writes, and its answer as `written` gives it. Assumes nothing.
 use Rattle.lent.specs.declared.Listed.{Listed}
-use Rattle.door.specs.Door.{wroteBy}
+use Rattle.across.specs.Across.{wroteBy}
 use mathlib.Core.Path.{_∙_, ap}
 use borrow.Author.Needs.{needs}
 use Rattle.door.proofs.texts.door_line.Statement.{statement}
 use Rattle.door.proofs.texts.door_line.Tie as tie
 use Rattle.door.proofs.texts.door_line.Reads as reads
 use Rattle.door.proofs.texts.door_line.Lts as lts
-use Rattle.door.proofs.written.Reads as written-reads
+use Rattle.across.proofs.written.Reads as written-reads
 use Rattle.lines.proofs.line.Reads as line-reads
 
--- src/texts.rt:29:9
--- src/texts.rt:31:5
--- src/texts.rt:24:1
--- src/texts.rt:24:1
 returns : tie.Need-returns
 returns c = let said = c .before .before .before .line .ensures in (c .written .ensures ∙ ap (λ (r : Listed). wroteBy (r .answer)) (said .0), said .1)
 

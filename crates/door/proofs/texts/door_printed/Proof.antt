@@ -1,19 +1,15 @@
 -- `door::texts::door_printed` meets its contract: what `listing::printed` writes, and its answer as `written` gives it. Assumes nothing.
 use Rattle.lent.specs.Lent.{Wrote}
-use Rattle.door.specs.Door.{wroteBy}
+use Rattle.across.specs.Across.{wroteBy}
 use mathlib.Core.Path.{_∙_, ap}
 use borrow.Author.Needs.{needs}
 use Rattle.door.proofs.texts.door_printed.Statement.{statement}
 use Rattle.door.proofs.texts.door_printed.Tie as tie
 use Rattle.door.proofs.texts.door_printed.Reads as reads
 use Rattle.door.proofs.texts.door_printed.Lts as lts
-use Rattle.door.proofs.written.Reads as written-reads
+use Rattle.across.proofs.written.Reads as written-reads
 use Rattle.listing.proofs.printed.Reads as printed-reads
 
--- src/texts.rt:62:9
--- src/texts.rt:63:5
--- src/texts.rt:57:1
--- src/texts.rt:57:1
 returns : tie.Need-returns
 returns c = let said = c .before .before .before .printed .ensures in (c .written .ensures ∙ ap (λ (w : Wrote). wroteBy (w .answer)) said, ap (λ (w : Wrote). w .bytes) said)
 

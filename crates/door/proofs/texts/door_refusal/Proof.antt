@@ -4,7 +4,7 @@ use lib.Seq.{length-take-le}
 use Prim.Native.Nat.{ℕ}
 use mathlib.Core.List.{List}
 use Rattle.door.proofs.Refusing.{refusal-most}
-use Rattle.door.specs.Door.{wroteBy}
+use Rattle.across.specs.Across.{wroteBy}
 use Rattle.lent.specs.Lent.{Wrote, fitted}
 use Rattle.text.proofs.Writing.{blank-room, front-room, front-taken}
 use Rattle.text.specs.Texts.{refusal}

@@ -1,19 +1,15 @@
 -- `door::texts::door_write` meets its contract: what `writing::write` writes, and its answer as `written` gives it. Assumes nothing.
 use Rattle.lent.specs.declared.Listed.{Listed}
-use Rattle.door.specs.Door.{wroteBy}
+use Rattle.across.specs.Across.{wroteBy}
 use mathlib.Core.Path.{_∙_, ap}
 use borrow.Author.Needs.{needs}
 use Rattle.door.proofs.texts.door_write.Statement.{statement}
 use Rattle.door.proofs.texts.door_write.Tie as tie
 use Rattle.door.proofs.texts.door_write.Reads as reads
 use Rattle.door.proofs.texts.door_write.Lts as lts
-use Rattle.door.proofs.written.Reads as written-reads
+use Rattle.across.proofs.written.Reads as written-reads
 use Rattle.writing.proofs.write.Reads as write-reads
 
--- src/texts.rt:51:9
--- src/texts.rt:53:5
--- src/texts.rt:46:1
--- src/texts.rt:46:1
 returns : tie.Need-returns
 returns c = let said = c .before .before .before .write .ensures in (c .written .ensures ∙ ap (λ (r : Listed). wroteBy (r .answer)) (said .0), said .1)
 

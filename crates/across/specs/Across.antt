@@ -11,10 +11,10 @@ use Rattle.bare.specs.declared.Told.the-variants.{Filled, Lines, Word}
 use Rattle.bare.specs.declared.What.{What}
 use Rattle.bare.specs.declared.What.the-variants.{Context, Number as Of, Stages}
 use Rattle.casefile.specs.declared.Loaded.{Loaded}
-use Rattle.door.specs.declared.Asked.{Asked}
-use Rattle.door.specs.declared.Kept.{Kept}
-use Rattle.door.specs.declared.Reasoned.{Reasoned}
-use Rattle.door.specs.declared.Told.{Told}
+use Rattle.across.specs.declared.Asked.{Asked}
+use Rattle.across.specs.declared.Kept.{Kept}
+use Rattle.across.specs.declared.Reasoned.{Reasoned}
+use Rattle.across.specs.declared.Told.{Told}
 use Rattle.lent.specs.declared.Written.{Written}
 use Rattle.lent.specs.declared.Written.the-variants.{Length, Refused as Unwritten}
 use Rattle.plain.specs.declared.Plain.{Plain}

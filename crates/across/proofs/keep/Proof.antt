@@ -1,19 +1,15 @@
--- `door::keep` meets its contract: each field is the one that goes out. Assumes nothing.
+-- `across::keep` meets its contract: each field is the one that goes out. Assumes nothing.
 use Rattle.replies.specs.Replies.{numberOf}
 use Prim.Native.Nat.{ℕ}
 use mathlib.Core.Path.{_∙_, ap}
 use borrow.Author.Needs.{needs}
-use Rattle.door.proofs.keep.Statement.{statement}
-use Rattle.door.proofs.keep.Tie as tie
-use Rattle.door.proofs.keep.Reads as reads
-use Rattle.door.proofs.keep.Lts as lts
-use Rattle.door.proofs.named.Reads as named-reads
+use Rattle.across.proofs.keep.Statement.{statement}
+use Rattle.across.proofs.keep.Tie as tie
+use Rattle.across.proofs.keep.Reads as reads
+use Rattle.across.proofs.keep.Lts as lts
+use Rattle.across.proofs.named.Reads as named-reads
 use Rattle.replies.proofs.number.Reads as number-reads
 
--- src/lib.rt:50:16
--- src/lib.rt:50:16
--- src/lib.rt:51:16
--- src/lib.rt:46:1
 returns : tie.Need-returns
 returns c = let a = c .before .before .args in ap (λ (n : ℕ). record { reply = n; named = c .named .result; «record» = a .at; store = a .store }) (c .before .number .ensures) ∙ ap (λ (n : ℕ). record { reply = numberOf (a .reply); named = n; «record» = a .at; store = a .store }) (c .named .ensures)
 

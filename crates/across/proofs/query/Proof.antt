@@ -1,15 +1,15 @@
--- `door::barely::put` meets its contract. Assumes nothing.
+-- `across::query` meets its contract. Assumes nothing.
 use mathlib.Core.Path.{_≡_, ap, refl, sym}
 use Prim.Native.Nat.{ℕ, suc, zero}
 use Rattle.bare.specs.declared.Query.{Query}
 use Rattle.bare.specs.declared.What.{What}
 use Rattle.bare.specs.declared.What.the-variants.{Stages}
-use Rattle.door.proofs.barely.put.Statement.{statement}
-use Rattle.door.proofs.barely.put.Tie as tie
-use Rattle.door.proofs.barely.put.Reads as reads
-use Rattle.door.proofs.barely.put.Lts as lts
-use Rattle.door.specs.Door.{whatBy}
-use Rattle.door.specs.declared.Asked.{Asked}
+use Rattle.across.proofs.query.Statement.{statement}
+use Rattle.across.proofs.query.Tie as tie
+use Rattle.across.proofs.query.Reads as reads
+use Rattle.across.proofs.query.Lts as lts
+use Rattle.across.specs.Across.{whatBy}
+use Rattle.across.specs.declared.Asked.{Asked}
 
 abbrev asking : Asked → What → Query
 asking a w = record { assumptions = a .assumptions; claims = a .claims; what = w; set = a .set }
@@ -20,17 +20,14 @@ stages-by zero n h i = absurd (h refl)
 stages-by (suc zero) n h i = absurd (i refl)
 stages-by (suc (suc k)) n h i = refl
 
--- src/barely.rt:16:9
 returns : tie.Need-returns
 returns c = let a = c .before .before .args .asked in ap (λ (k : ℕ). asking a (whatBy k (a .number))) (sym (c .if1 .taken))
 
--- src/barely.rt:24:9
 returns-2 : tie.Need-returns-2
 returns-2 c = let a = c .before .before .before .before .args .asked in ap (λ (k : ℕ). asking a (whatBy k (a .number))) (sym (c .if2 .taken))
 
--- src/barely.rt:12:1
 returns-3 : tie.Need-returns-3
 returns-3 c = let a = c .before .before .before .before .args .asked in ap (asking a) (stages-by (a .what) (a .number) (c .before .before .if1 .left) (c .if2 .left))
 
-pub put-spec : {M : Type 1} → statement M
-put-spec = tie.close (tie.spec returns returns-2 returns-3)
+pub query-spec : {M : Type 1} → statement M
+query-spec = tie.close (tie.spec returns returns-2 returns-3)

@@ -1,23 +1,17 @@
--- `door::written` meets its contract: the length, else the reply's number. Assumes nothing.
-use Rattle.door.specs.Door.{told, wroteBy}
+-- `across::written` meets its contract: the length, else the reply's number. Assumes nothing.
+use Rattle.across.specs.Across.{told, wroteBy}
 use Prim.Native.Nat.{ℕ}
 use mathlib.Core.Path.{_∙_, ap, sym}
 use borrow.Author.Needs.{needs}
-use Rattle.door.proofs.written.Statement.{statement}
-use Rattle.door.proofs.written.Tie as tie
-use Rattle.door.proofs.written.Reads as reads
-use Rattle.door.proofs.written.Lts as lts
+use Rattle.across.proofs.written.Statement.{statement}
+use Rattle.across.proofs.written.Tie as tie
+use Rattle.across.proofs.written.Reads as reads
+use Rattle.across.proofs.written.Lts as lts
 use Rattle.replies.proofs.number.Reads as number-reads
 
--- src/texts.rt:15:25
--- src/texts.rt:16:26
--- src/texts.rt:17:20
--- src/texts.rt:17:20
--- src/texts.rt:11:1
 returns : tie.Need-returns
 returns c = ap wroteBy (sym (c .before .answer .given .1))
 
--- src/texts.rt:11:1
 returns-2 : tie.Need-returns-2
 returns-2 c = ap (λ (n : ℕ). told n 0) (c .number .ensures) ∙ ap wroteBy (sym (c .before .before .answer2 .given .1))
 

@@ -1,33 +1,23 @@
--- `door::plainly` meets its contract: in each arm the word's numbers. Assumes nothing.
+-- `across::plainly` meets its contract: in each arm the word's numbers. Assumes nothing.
 use mathlib.Core.Path.{_∙_, ap, sym}
 use Prim.Native.Nat.{ℕ}
-use Rattle.door.specs.Door.{plainlyBy, told}
+use Rattle.across.specs.Across.{plainlyBy, told}
 use borrow.Author.Needs.{needs}
-use Rattle.door.proofs.plainly.Statement.{statement}
-use Rattle.door.proofs.plainly.Tie as tie
-use Rattle.door.proofs.plainly.Reads as reads
-use Rattle.door.proofs.plainly.Lts as lts
+use Rattle.across.proofs.plainly.Statement.{statement}
+use Rattle.across.proofs.plainly.Tie as tie
+use Rattle.across.proofs.plainly.Reads as reads
+use Rattle.across.proofs.plainly.Lts as lts
 use Rattle.replies.proofs.number.Reads as number-reads
 
--- src/lib.rt:98:32
--- src/lib.rt:99:29
--- src/lib.rt:100:31
--- src/lib.rt:101:24
--- src/lib.rt:102:20
--- src/lib.rt:102:20
--- src/lib.rt:94:1
 returns : tie.Need-returns
 returns c = ap plainlyBy (sym (c .enum-told .given .1))
 
--- src/lib.rt:94:1
 returns-2 : tie.Need-returns-2
 returns-2 c = ap plainlyBy (sym (c .enum-told2 .given .1))
 
--- src/lib.rt:94:1
 returns-3 : tie.Need-returns-3
 returns-3 c = ap plainlyBy (sym (c .enum-told3 .given .1))
 
--- src/lib.rt:94:1
 returns-4 : tie.Need-returns-4
 returns-4 c = ap (λ (n : ℕ). told n 0) (c .number .ensures) ∙ ap plainlyBy (sym (c .before .before .word .given .1))
 

@@ -4,7 +4,7 @@ use mathlib.Core.Path.{_≡_, refl}
 use Prim.Native.Nat.{ℕ}
 use denote.Enum.Declared.{tagOf}
 use types.Run.{OneOf, miss}
-use Rattle.door.specs.Door.{namedOr0}
+use Rattle.across.specs.Across.{namedOr0}
 use Rattle.replies.proofs.Reply as Reply
 use Rattle.replies.specs.declared.Reply.{Reply}
 use Rattle.replies.specs.declared.Reply.the-variants.{Done, Already, Shape, Counts, Number, Falsity, Supports, Full, Label, Nogoods, Ends, Form, After, Long, Short, Place, Itself, Unheld}
