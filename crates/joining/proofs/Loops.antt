@@ -8,15 +8,15 @@ use native.Mathlib.Omega.{arith}
 use lib.ListN.{getD, length, length-set, replicate, set, take}
 use lib.Seq.{drop-cons, length-take-le, take-suc-set}
 use borrow.Author.Tests.{lt-ltb}
-use Rattle.members.proofs.First.{contains-first}
 use Rattle.joining.proofs.Gathers.{Going, going-end, going-none, member-passed, member-refused, member-visited, under}
 use Rattle.joining.proofs.Lying.{left, left-is, lying-at, lying-length}
 use Rattle.joining.proofs.Reasons.{reason-below}
 use Rattle.joining.proofs.Refusals.{by-late}
 use Rattle.joining.specs.Layout.{Layout, Ranged, lying}
 use Rattle.joining.specs.Pool.{Gathered, Reason, Roomy, boundOf, filled, lateBy, offeredAll}
-use Rattle.members.specs.Promised.{firstWithin}
 use Rattle.joining.specs.declared.pool.Fill.{Fill}
+use Rattle.members.proofs.First.{contains-first}
+use Rattle.members.specs.Promised.{firstWithin}
 use Rattle.sets.specs.Promised.{meet}
 use Rattle.theory.proofs.Sets.{within-refl}
 use Rattle.theory.specs.Limits.{limits}

@@ -8,9 +8,9 @@ use Prim.Native.Nat.{ℕ}
 use lib.Dec.{ltb}
 use lib.ListN.{getD, length, take}
 use borrow.Author.Tests.{lt-ltb, ltb-true, not-true}
-use Rattle.members.proofs.First.{at-mem}
 use Rattle.joining.proofs.Placed.{cut, first-before, mem-take, placed-elim, placed-other, placed-sorted, placed-this, sorted-take}
 use Rattle.joining.specs.Pool.{Filled, Refused, Well, entered, enters, lateBy, offered, offeredAll, placed, purged}
+use Rattle.members.proofs.First.{at-mem}
 use Rattle.theory.proofs.Label.{contains-elim, contains-intro}
 use Rattle.theory.proofs.Lists.{clash, either, not-so, those-elim, those-intro}
 use Rattle.theory.proofs.Order.{before-trans, sorted-those}

@@ -8,14 +8,14 @@ use Prim.Native.Nat.{_+_, _<_, _≤_, ℕ}
 use native.Mathlib.Omega.{arith}
 use lib.ListN.{length, replicate, take}
 use lib.Seq.{length-take-le, take-take}
-use Rattle.labels.proofs.Passes.{begin, pass, pass-grows, pass-prefix, pass-whole, well-begin}
 use Rattle.joining.proofs.Refusals.{by-struck, offered-append, refused-all, refused-more, well-stays}
+use Rattle.joining.specs.Pool.{Filled, Offered, Refused, Roomy, Well, filled, offeredAll}
+use Rattle.joining.specs.declared.pool.Fill.{Fill}
+use Rattle.labels.proofs.Passes.{begin, pass, pass-grows, pass-prefix, pass-whole, well-begin}
 use Rattle.labels.proofs.Selects.{admittedAll, pass-selects, sound-none}
 use Rattle.labels.specs.Moved.{Hushed, Still}
-use Rattle.joining.specs.Pool.{Filled, Offered, Refused, Roomy, Well, filled, offeredAll}
 use Rattle.labels.specs.Promised.{builtOf}
 use Rattle.labels.specs.declared.Built.{Built}
-use Rattle.joining.specs.declared.pool.Fill.{Fill}
 use Rattle.theory.proofs.Label.{contains-elim}
 use Rattle.theory.proofs.Picks.{picks-selection}
 use Rattle.theory.proofs.Select.{Selection}

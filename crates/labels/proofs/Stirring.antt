@@ -8,12 +8,12 @@ use native.Mathlib.Omega.{arith}
 use lib.ListN.{drop, drop-of-length-le, getD, length, take}
 use lib.Seq.{drop-cons, getD-take, length-take-le, take-all}
 use borrow.Author.Tests.{eq-eqb, ne-eqb, not-true}
-use Rattle.labels.proofs.Candidates.{joins-so}
-use Rattle.labels.proofs.Walks.{as-offered, skip-offered}
 use Rattle.joining.specs.Layout.{Ranged}
-use Rattle.labels.specs.Moved.{Hushed, Still, marked, stirs}
 use Rattle.joining.specs.Pool.{Offered, filled}
 use Rattle.joining.specs.declared.pool.Fill.{Fill}
+use Rattle.labels.proofs.Candidates.{joins-so}
+use Rattle.labels.proofs.Walks.{as-offered, skip-offered}
+use Rattle.labels.specs.Moved.{Hushed, Still, marked, stirs}
 use Rattle.theory.proofs.Lists.{clash}
 use Rattle.theory.specs.Limits.{limits}
 use Rattle.theory.specs.Lists.{someOf}

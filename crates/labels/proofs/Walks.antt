@@ -9,9 +9,9 @@ use lib.ListN.{drop, getD, length}
 use lib.Seq.{drop-cons}
 use Rattle.joining.proofs.Gathers.{joins-alone}
 use Rattle.joining.proofs.Refusals.{by-late, late-up, offered-append, offered-skip, refused-stays, well-stays}
-use Rattle.labels.specs.Moved.{Hushed}
 use Rattle.joining.specs.Pool.{Filled, Offered, Refused, Roomy, Well, boundOf, filled, lateBy, offeredAll}
 use Rattle.joining.specs.declared.pool.Fill.{Fill}
+use Rattle.labels.specs.Moved.{Hushed}
 use Rattle.theory.proofs.Sets.{within-zero}
 use Rattle.theory.specs.Stages.{Justification}
 use Rattle.theory.specs.Step.{joins}

@@ -11,10 +11,10 @@ use lib.Dec.{eqb}
 use lib.ListN.{getD, getD-replicate, length, replicate, set, take}
 use lib.Seq.{ext-getD, getD-set-other, getD-set-same}
 use borrow.Author.Tests.{eq-eqb, eqb-false, eqb-true, not-false, not-true}
-use Rattle.members.proofs.First.{at-mem}
-use Rattle.labels.specs.Entries.{between}
 use Rattle.joining.specs.Layout.{lying}
+use Rattle.labels.specs.Entries.{between}
 use Rattle.labels.specs.Moved.{Quiet, Still, marked, stirs}
+use Rattle.members.proofs.First.{at-mem}
 use Rattle.rules.proofs.Laws.{right-range}
 use Rattle.rules.specs.Held.{meaning, saidBy}
 use Rattle.rules.specs.declared.Entry.{Entry}

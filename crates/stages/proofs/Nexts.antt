@@ -10,8 +10,8 @@ use native.Mathlib.Omega.{arith}
 use lib.ListN.{getD, length, length-take, take}
 use lib.Seq.{take-all}
 use borrow.Author.Tests.{le-ltb, lt-ltb}
-use Rattle.labels.specs.Entries.{between, entriesOf}
 use Rattle.joining.specs.Layout.{lying}
+use Rattle.labels.specs.Entries.{between, entriesOf}
 use Rattle.labels.specs.Promised.{Build, builtOf}
 use Rattle.labels.specs.declared.Built.{Built}
 use Rattle.replies.specs.declared.Reply.the-variants.{Done, Label, Nogoods}

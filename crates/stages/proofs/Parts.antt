@@ -11,9 +11,9 @@ use lib.Dec.{eqb, ltb}
 use lib.ListN.{List·getD-map, drop, drop-of-length-le, getD, getD-replicate, length, length-drop, length-map, length-take, replicate, set, take}
 use lib.Seq.{drop-cons, ext-getD, getD-drop, getD-set-other, getD-set-same, getD-take}
 use borrow.Author.Tests.{eq-eqb, eqb-false, eqb-true, le-ltb, lt-ltb, ltb-true, ne-eqb}
+use Rattle.joining.specs.Layout.{Ranged}
 use Rattle.labels.proofs.Ranges.{held-joinable, held-low, joinable-part, part-few, part-ranged}
 use Rattle.labels.specs.Entries.{Few, Joinable, between, entriesOf}
-use Rattle.joining.specs.Layout.{Ranged}
 use Rattle.rules.proofs.Order.{ordered-head, ordered-tail}
 use Rattle.rules.proofs.Scan.{right-elim, right-inside, said-length}
 use Rattle.rules.specs.Held.{meaning, ordered, saidBy, top, vacant}

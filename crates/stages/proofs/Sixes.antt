@@ -7,12 +7,8 @@ use native.Mathlib.Omega.{arith}
 use lib.ListN.{getD, length, length-set, set}
 use lib.Seq.{getD-set-other, getD-set-same}
 use Rattle.labels.specs.Entries.{entriesOf, entryAt}
-use Rattle.rules.proofs.Entries.{length-padded, places}
-use Rattle.rules.proofs.Scan.{right-elim}
 use Rattle.rules.proofs.Steps.{beyond, four}
 use Rattle.rules.specs.declared.Entry.{Entry}
-use Rattle.rules.specs.declared.Held.{Held}
-use Rattle.stages.specs.Judged.{Judgeable}
 use Rattle.theory.proofs.Places.{is-table}
 use Rattle.theory.specs.Limits.{limits}
 

@@ -8,11 +8,11 @@ use native.Mathlib.Omega.{arith}
 use lib.ListN.{getD, length, length-append, length-take, replicate, set, take}
 use lib.Seq.{take-all, take-suc}
 use borrow.Author.Tests.{le-ltb, lt-ltb}
-use Rattle.members.proofs.First.{contains-first, first-most}
 use Rattle.joining.specs.Layout.{lying}
 use Rattle.labels.specs.Promised.{builtOf}
-use Rattle.members.specs.Promised.{firstWithin}
 use Rattle.labels.specs.declared.Built.{Built}
+use Rattle.members.proofs.First.{contains-first, first-most}
+use Rattle.members.specs.Promised.{firstWithin}
 use Rattle.rules.proofs.Entries.{length-padded}
 use Rattle.rules.proofs.Taking.{padded-push, those-append}
 use Rattle.rules.specs.declared.Held.{Held}

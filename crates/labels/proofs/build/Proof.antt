@@ -1,6 +1,6 @@
 -- `labels::build` meets its contract. Assumes nothing.
 use mathlib.Core.List.{map}
-use mathlib.Core.Path.{_∙_, sym}
+use mathlib.Core.Path.{sym}
 use Prim.Native.Nat.{_-_}
 use native.Mathlib.Omega.{arith}
 use lib.Seq.{length-take-le}

@@ -1,9 +1,8 @@
 -- `labels::pooled` meets its contract. Assumes nothing.
 use mathlib.Core.List.{[], _∷_, map}
-use mathlib.Core.Path.{_∙_, _≡_, refl, subst, sym}
+use mathlib.Core.Path.{_∙_, refl, subst, sym}
 use Prim.Native.Nat.{_-_, _<_, _≤_}
 use native.Mathlib.Omega.{arith}
-use lib.ListN.{length}
 use borrow.Author.Needs.{needs}
 use Rattle.labels.proofs.Candidates.{joins-on, joins-over}
 use Rattle.labels.proofs.Ranges.{entries-long, entry-is, part-few, part-hushed, part-ranged}

@@ -1,6 +1,6 @@
 -- `members::first_within` meets its contract. Assumes nothing.
 use mathlib.Core.Path.{_∙_, _≡_, ap, refl, sym}
-use Prim.Native.Nat.{_+_, _-_, _≤_, ℕ}
+use Prim.Native.Nat.{_+_, _-_, _≤_}
 use native.Mathlib.Omega.{arith}
 use lib.ListN.{drop, getD, length}
 use Rattle.members.proofs.First.{first-here, first-none, first-on, none-out, some-out}

@@ -1,13 +1,10 @@
 -- `stages::refuted` meets its contract. Assumes nothing.
-use mathlib.Core.List.{[]}
-use mathlib.Core.Path.{_∙_, ap, refl, subst, sym}
+use mathlib.Core.Path.{_∙_, ap, refl, sym}
 use Prim.Native.Nat.{ℕ}
 use native.Mathlib.Omega.{arith}
-use lib.ListN.{take}
 use lib.Seq.{length-take-le}
 use borrow.Author.Needs.{needs}
 use Rattle.labels.specs.Entries.{between}
-use Rattle.labels.specs.Promised.{Build}
 use Rattle.rules.specs.Held.{meaning}
 use mathlib.Core.List.{map}
 use Rattle.stages.proofs.Keeps.{kept-listed}
