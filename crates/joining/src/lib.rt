@@ -63,17 +63,16 @@ pub fn gather<'a>(
         return pool::enter(pool, fill, joined);
     }
     let i = supports[0] as usize - 1;
-    let size = sizes[i] as usize;
-    let from = LABEL * i;
+    let mut at = LABEL * i;
+    let end = at + sizes[i] as usize;
     let left = &supports[1..];
     let mut spent: [Set; LABEL] = [0; LABEL];
     let mut n = 0;
     let mut why = 0;
     let mut now = fill;
-    let mut k = 0;
-    while k < size {
-        let g = sets::union(joined, members[from + k]);
-        k += 1;
+    while at < end {
+        let g = sets::union(joined, members[at]);
+        at += 1;
         if pool::late(now, g) {
             why = sets::union(why, g);
             continue;

@@ -33,11 +33,11 @@ abbrev gather-below : ℕ → In 4 gather-kinds.ps
 gather-below t = and 4 gather-kinds.ps (falls 4 gather-kinds.ps _<_ μ-gather t) gather.Pre
 
 abbrev gather-Inv-loop : gather-lts.InvT-loop
-gather-Inv-loop members sizes supports struck joined pool₀ count i size from left spent₀ n₀ why₀ now₀ k₀ pool spent n why now k =
-    Turning members sizes supports struck joined pool₀ now₀ pool spent n why now k
+gather-Inv-loop members sizes supports struck joined pool₀ count i at₀ end left spent₀ n₀ why₀ now₀ pool at spent n why now =
+    Turning members sizes supports struck joined pool₀ now₀ pool spent n why now at
 
 abbrev gather-μ-loop : gather-lts.MeasureT-loop
-gather-μ-loop members sizes supports struck joined pool₀ count i size from left spent₀ n₀ why₀ now₀ k₀ pool spent n why now k = size - k
+gather-μ-loop members sizes supports struck joined pool₀ count i at₀ end left spent₀ n₀ why₀ now₀ pool at spent n why now = end - at
 
 abbrev claims : ℕ → gather-lts.Claims
 claims t = (
@@ -118,11 +118,14 @@ module _ (t : ℕ) where
   sub-i : gather-lts.Need-sub-i (claims t) (gather-at t) gather.Post gather-Inv-loop gather-μ-loop
   sub-i c = omega (arith, entry (after-barred (c .before)) .pre .1 .1 .range 0 (c .before .if1 .left) .0)
 
-  cast-size : gather-lts.Need-cast-size (claims t) (gather-at t) gather.Post gather-Inv-loop gather-μ-loop
-  cast-size c = let s = entry (after-barred (c .before .before)) in omega (arith, s .pre .1 .0 .sizes-small (getD (s .args .supports .now) 0 0 - 1))
+  cast-end : gather-lts.Need-cast-end (claims t) (gather-at t) gather.Post gather-Inv-loop gather-μ-loop
+  cast-end c = let s = entry (after-barred (c .before .before)) in omega (arith, s .pre .1 .0 .sizes-small (getD (s .args .supports .now) 0 0 - 1))
 
-  mul-from : gather-lts.Need-mul-from (claims t) (gather-at t) gather.Post gather-Inv-loop gather-μ-loop
-  mul-from c = omega (arith, entry (after-barred (c .before .before)) .pre .1 .1 .range 0 (c .before .before .if1 .left) .1)
+  mul-at : gather-lts.Need-mul-at (claims t) (gather-at t) gather.Post gather-Inv-loop gather-μ-loop
+  mul-at c = omega (arith, entry (after-barred (c .before)) .pre .1 .1 .range 0 (c .before .if1 .left) .1)
+
+  add-end : gather-lts.Need-add-end (claims t) (gather-at t) gather.Post gather-Inv-loop gather-μ-loop
+  add-end c = let s = entry (after-barred (c .before .before)) in omega (arith, s .pre .1 .1 .range 0 (c .before .before .if1 .left) .1, s .pre .1 .0 .sizes-small (getD (s .args .supports .now) 0 0 - 1))
 
   sub-left : gather-lts.Need-sub-left (claims t) (gather-at t) gather.Post gather-Inv-loop gather-μ-loop
   sub-left c = search needs
@@ -136,17 +139,14 @@ module _ (t : ℕ) where
   loop-holds : gather-lts.Need-loop-holds (claims t) (gather-at t) gather.Post gather-Inv-loop gather-μ-loop
   loop-holds c = turning-none _ _ _ _ _ _ _ (entry (after-barred (c .before .before .before)) .pre .1 .2) _
 
-  add-union : gather-lts.Need-add-union (claims t) (gather-at t) gather.Post gather-Inv-loop gather-μ-loop
-  add-union c = let s = entry (after-barred (no1 (c .before))) in omega (arith, s .pre .1 .1 .range 0 (no1 (c .before) .if1 .left) .1, s .pre .1 .0 .sizes-small (getD (s .args .supports .now) 0 0 - 1), c .loop-test .taken)
-
   mul-union : gather-lts.Need-mul-union (claims t) (gather-at t) gather.Post gather-Inv-loop gather-μ-loop
   mul-union c = let s = entry (after-barred (no1 (c .before))) in omega (arith, s .pre .1 .1 .range 0 (no1 (c .before) .if1 .left) .1, s .pre .1 .0 .sizes-small (getD (s .args .supports .now) 0 0 - 1), c .loop-test .taken)
 
   union-requires : gather-lts.Need-union-requires (claims t) (gather-at t) gather.Post gather-Inv-loop gather-μ-loop
   union-requires c κs = search needs
 
-  add-k : gather-lts.Need-add-k (claims t) (gather-at t) gather.Post gather-Inv-loop gather-μ-loop
-  add-k c = let s = entry (after-barred (no1 (head c))) in omega (arith, s .pre .1 .0 .sizes-small (getD (s .args .supports .now) 0 0 - 1), c .before .before .loop-test .taken)
+  add-at : gather-lts.Need-add-at (claims t) (gather-at t) gather.Post gather-Inv-loop gather-μ-loop
+  add-at c = let s = entry (after-barred (no1 (head c))) in omega (arith, s .pre .1 .1 .range 0 (no1 (head c) .if1 .left) .1, s .pre .1 .0 .sizes-small (getD (s .args .supports .now) 0 0 - 1), c .before .before .loop-test .taken)
 
   late-requires : gather-lts.Need-late-requires (claims t) (gather-at t) gather.Post gather-Inv-loop gather-μ-loop
   late-requires c κs = search needs
@@ -161,7 +161,7 @@ module _ (t : ℕ) where
   loop-again c =
       let s = entry (after-barred (no1 (head (c .before .before .before)))) in
       let l = head (c .before .before .before) .loop in
-      turn-late _ _ _ _ _ _ _ (s .pre .1 .0) (s .pre .1 .1) (no1 (head (c .before .before .before)) .if1 .left) _ _ _ _ _ (l .k) (l .inv) (c .before .before .before .before .before .loop-test .taken) _ (c .before .before .before .union .ensures) _ (c .before .before .late .ensures) (c .before .if2 .taken) _ (c .union2 .ensures)
+      turn-late _ _ _ _ _ _ _ (s .pre .1 .0) (s .pre .1 .1) (no1 (head (c .before .before .before)) .if1 .left) _ _ _ _ _ (l .at) (l .inv) (c .before .before .before .before .before .loop-test .taken) _ (c .before .before .before .union .ensures) _ (c .before .before .late .ensures) (c .before .if2 .taken) _ (c .union2 .ensures)
 
   array-share-prefix-spent : gather-lts.Need-array-share-prefix-spent (claims t) (gather-at t) gather.Post gather-Inv-loop gather-μ-loop
   array-share-prefix-spent c = let s = entry (after-barred (no1 (head (after-union c)))) in let l = head (after-union c) .loop in omega (arith, l .inv .few, l .inv .low, l .inv .long, s .pre .1 .0 .sizes-small (getD (s .args .supports .now) 0 0 - 1))
@@ -179,7 +179,7 @@ module _ (t : ℕ) where
   loop-again-2 c =
       let s = entry (after-barred (no1 (head (after-union (c .before .before .before))))) in
       let l = head (after-union (c .before .before .before)) .loop in
-      turn-passed _ _ _ _ _ _ _ (s .pre .1 .0) (s .pre .1 .1) (no1 (head (after-union (c .before .before .before))) .if1 .left) _ _ _ _ _ (l .k) (l .inv) (after-union (c .before .before .before) .before .before .loop-test .taken) _ (after-union (c .before .before .before) .union .ensures) _ (c .before .first-within .ensures) (c .if3 .taken) (omega (arith, l .inv .few, l .inv .low, s .pre .1 .0 .sizes-small (getD (s .args .supports .now) 0 0 - 1)))
+      turn-passed _ _ _ _ _ _ _ (s .pre .1 .0) (s .pre .1 .1) (no1 (head (after-union (c .before .before .before))) .if1 .left) _ _ _ _ _ (l .at) (l .inv) (after-union (c .before .before .before) .before .before .loop-test .taken) _ (after-union (c .before .before .before) .union .ensures) _ (c .before .first-within .ensures) (c .if3 .taken) (omega (arith, l .inv .few, l .inv .low, s .pre .1 .0 .sizes-small (getD (s .args .supports .now) 0 0 - 1)))
 
   gather-requires : gather-lts.Need-gather-requires (claims t) (gather-at t) gather.Post gather-Inv-loop gather-μ-loop
   gather-requires c κs =
@@ -209,7 +209,7 @@ module _ (t : ℕ) where
   loop-again-3 c =
       let s = entry (after-barred (no1 (head (after-union (no2 (c .before .before .before .before)))))) in
       let l = head (after-union (no2 (c .before .before .before .before))) .loop in
-      turn-visited _ _ _ _ _ _ _ (s .pre .1 .0) (s .pre .1 .1) (no1 (head (after-union (no2 (c .before .before .before .before)))) .if1 .left) _ _ _ _ _ (l .k) (l .inv) (after-union (no2 (c .before .before .before .before)) .before .before .loop-test .taken) _ (after-union (no2 (c .before .before .before .before)) .union .ensures) (omega (arith, l .inv .few, after-union (no2 (c .before .before .before .before)) .before .before .loop-test .taken, s .pre .1 .0 .sizes-small (getD (s .args .supports .now) 0 0 - 1))) _ _ (c .before .before .gather .ensures .1) (c .before .before .gather .ensures .0) _ (c .before .union3 .ensures) _ (c .meet .ensures)
+      turn-visited _ _ _ _ _ _ _ (s .pre .1 .0) (s .pre .1 .1) (no1 (head (after-union (no2 (c .before .before .before .before)))) .if1 .left) _ _ _ _ _ (l .at) (l .inv) (after-union (no2 (c .before .before .before .before)) .before .before .loop-test .taken) _ (after-union (no2 (c .before .before .before .before)) .union .ensures) (omega (arith, l .inv .few, after-union (no2 (c .before .before .before .before)) .before .before .loop-test .taken, s .pre .1 .0 .sizes-small (getD (s .args .supports .now) 0 0 - 1))) _ _ (c .before .before .gather .ensures .1) (c .before .before .gather .ensures .0) _ (c .before .union3 .ensures) _ (c .meet .ensures)
 
   because-requires-2 : gather-lts.Need-because-requires-2 (claims t) (gather-at t) gather.Post gather-Inv-loop gather-μ-loop
   because-requires-2 c κs = search needs
@@ -218,10 +218,10 @@ module _ (t : ℕ) where
   returns-3 c =
       let s = entry (after-barred (no1 (c .before .before))) in
       let l = c .before .before .loop in
-      (turning-end _ _ _ _ _ _ _ (s .pre .1 .0) (s .pre .1 .1) (no1 (c .before .before) .if1 .left) _ _ _ _ _ (l .k) (l .inv) (c .before .loop-test .left) _ (c .because2 .ensures), l .inv .same)
+      (turning-end _ _ _ _ _ _ _ (s .pre .1 .0) (s .pre .1 .1) (no1 (c .before .before) .if1 .left) _ _ _ _ _ (l .at) (l .inv) (c .before .loop-test .left) _ (c .because2 .ensures), l .inv .same)
 
-  element-copy-out-size : gather-lts.Need-element-copy-out-size (claims t) (gather-at t) gather.Post gather-Inv-loop gather-μ-loop
-  element-copy-out-size c = omega (arith, entry (after-barred (c .before)) .pre .1 .1 .range 0 (c .before .if1 .left) .1, entry (after-barred (c .before)) .pre .1 .1 .range 0 (c .before .if1 .left) .0)
+  element-copy-out-end : gather-lts.Need-element-copy-out-end (claims t) (gather-at t) gather.Post gather-Inv-loop gather-μ-loop
+  element-copy-out-end c = omega (arith, entry (after-barred (c .before)) .pre .1 .1 .range 0 (c .before .if1 .left) .1, entry (after-barred (c .before)) .pre .1 .1 .range 0 (c .before .if1 .left) .0)
 
   element-copy-out-union : gather-lts.Need-element-copy-out-union (claims t) (gather-at t) gather.Post gather-Inv-loop gather-μ-loop
   element-copy-out-union c = omega (arith, entry (after-barred (no1 (c .before))) .pre .1 .1 .range 0 (no1 (c .before) .if1 .left) .1, entry (after-barred (no1 (c .before))) .pre .1 .1 .range 0 (no1 (c .before) .if1 .left) .0, entry (after-barred (no1 (c .before))) .pre .1 .0 .sizes-small (getD (entry (after-barred (no1 (c .before))) .args .supports .now) 0 0 - 1), c .loop-test .taken)
@@ -239,18 +239,18 @@ pub +gather-spec : {M : Type 1} → statement M
     (shared-slice-read-i t)
     (cast-i t)
     (sub-i t)
-    (element-copy-out-size t)
-    (cast-size t)
-    (mul-from t)
+    (mul-at t)
+    (element-copy-out-end t)
+    (cast-end t)
+    (add-end t)
     (sub-left t)
     (part-left-start t)
     (part-left-end t)
     (loop-holds t)
-    (add-union t)
     (mul-union t)
     (element-copy-out-union t)
     (union-requires t)
-    (add-k t)
+    (add-at t)
     (late-requires t)
     (union-requires-2 t)
     (loop-less t)
