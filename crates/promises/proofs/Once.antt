@@ -57,6 +57,7 @@ once-each = record {
   remove-one = λ κs a r r′ w w′ p q. (p ∙ sym q, refl);
   from-all-one = λ κs a r r′ w w′ p q. (p ∙ sym q, refl);
   first-within-one = λ κs a r r′ w w′ p q. (p ∙ sym q, refl);
+  late-one = λ κs a r r′ w w′ p q. (p ∙ sym q, refl);
   stirred-one = λ κs a r r′ w w′ p q. (p ∙ sym q, refl);
   build-one = λ κs a r r′ w w′ p q. (p ∙ sym q, refl);
   start-one = λ κs a r r′ w w′ p q. (p ∙ sym q, refl);

@@ -17,6 +17,8 @@ use Rattle.items.proofs.header as header-at
 use Rattle.items.proofs.header.Reads as header-reads
 use Rattle.items.proofs.record as record-at
 use Rattle.items.proofs.record.Reads as record-reads
+use Rattle.joining.proofs.pool.late as late-at
+use Rattle.joining.proofs.pool.late.Reads as late-reads
 use Rattle.labels.proofs.build as build-at
 use Rattle.labels.proofs.build.Reads as build-reads
 use Rattle.members.proofs.first_within as first-within-at
@@ -221,6 +223,7 @@ pub record OnceEach : Type 0 where
   pub remove-one : Once remove-at.ended remove-reads.Learnt
   pub from-all-one : Once from-all-at.ended from-all-reads.Learnt
   pub first-within-one : Once first-within-at.ended first-within-reads.Learnt
+  pub late-one : Once late-at.ended late-reads.Learnt
   pub stirred-one : Once stirred-at.ended stirred-reads.Learnt
   pub build-one : Once build-at.ended build-reads.Learnt
   pub start-one : Once start-at.ended start-reads.Learnt
