@@ -9,11 +9,11 @@ use native.Mathlib.Omega.{arith}
 use lib.Dec.{ltb}
 use lib.ListN.{getD, length}
 use borrow.Author.Tests.{le-ltb, lt-ltb, not-true}
-use Rattle.rules.proofs.Order.{ahead-irrefl, mem-same, one-same, ordered-cons, ordered-head, ordered-tail, ordered-unique, same-mem, same-one}
-use Rattle.holding.proofs.Putting.{put-ordered, place-le, put-cases, put-high, put-length, put-low, put-new, put-old}
+use Rattle.holding.proofs.Putting.{place-le, put-cases, put-high, put-length, put-low, put-new, put-old, put-ordered}
+use Rattle.holding.specs.Placing.{placeOf}
+use Rattle.rules.proofs.Order.{ahead-irrefl, one-same, ordered-cons, ordered-head, ordered-tail, ordered-unique, same-mem, same-one}
 use Rattle.rules.specs.Held.{dropped, ordered, put}
 use Rattle.rules.specs.Items.{sameJustification}
-use Rattle.holding.specs.Placing.{placeOf}
 use Rattle.theory.proofs.Lists.{clash, either, those-elim, those-intro}
 use Rattle.theory.specs.Lists.{choose, keep, someOf, those}
 use Rattle.theory.specs.Stages.{Justification, ahead}
@@ -60,13 +60,6 @@ module _ (r : Justification) where
       go true k = ordered-cons t (those other J) (λ j m. ordered-head t J o j (those-elim other J m .0)) k
       go false k = k
 
-  -- dropping what was put in gives the list back
-  pub dropped-put : (J : List Justification) → ordered J ≡ true → someOf (sameJustification r) J ≡ false → dropped r (put r J) ≡ J
-  dropped-put J o n =
-      ordered-unique (dropped r (put r J)) J (dropped-ordered (put r J) (put-ordered r J o n)) o
-      (λ j m. ⊎-elim (λ (q : j ≡ r). absurd (dropped-gone (put r J) (subst (λ (x : Justification). Mem x (dropped r (put r J))) q m))) (λ k. k) (put-cases r J (dropped-from (put r J) m)))
-      (λ j m. dropped-keeps (put-old r m) (λ (q : j ≡ r). clash (mem-same r J (subst (λ (x : Justification). Mem x J) q m)) n))
-
   -- putting in what was dropped gives the list back
   pub put-dropped : (J : List Justification) → ordered J ≡ true → Mem r J → put r (dropped r J) ≡ J
   put-dropped J o h =
@@ -89,11 +82,6 @@ module _ (r : Justification) where
       go : (b : Bool) → length (those other J) ≤ length J → length (keep b t (those other J)) ≤ suc (length J)
       go true h = omega arith
       go false h = omega arith
-
-  -- what is not among them is not dropped
-  pub dropped-none : (J : List Justification) → ordered J ≡ true → (Mem r J → ⊥) → dropped r J ≡ J
-  dropped-none J o n =
-      ordered-unique (dropped r J) J (dropped-ordered J o) o (λ j m. dropped-from J m) (λ j m. dropped-keeps m (λ (q : j ≡ r). n (subst (λ (x : Justification). Mem x J) q m)))
 
   -- ---- the places
 

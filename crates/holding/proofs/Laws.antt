@@ -4,16 +4,15 @@ use mathlib.Core.Logic.{⊎-elim}
 use mathlib.Core.Path.{_≡_, subst, sym}
 use Prim.Native.Nat.{_+_, _<_, ℕ}
 use native.Mathlib.Omega.{arith}
-use Rattle.rules.proofs.Laws.{Ranged, fitting-ranged, held-right, right-range}
 use Rattle.holding.proofs.Dropping.{dropped-few, dropped-from, dropped-ordered}
+use Rattle.holding.proofs.Putting.{put-cases, put-length, put-ordered}
 use Rattle.rules.proofs.Entries.{said-many}
-use Rattle.holding.proofs.Putting.{put-ordered, put-cases, put-length}
+use Rattle.rules.proofs.Laws.{Ranged, fitting-ranged, held-right, right-range}
 use Rattle.rules.proofs.Scan.{right-elim}
 use Rattle.rules.specs.Held.{dropped, fitting, heldOf, heldRight, meaning, put, saidBy}
 use Rattle.rules.specs.Items.{sameJustification}
 use Rattle.rules.specs.declared.Entry.{Entry}
 use Rattle.rules.specs.declared.Held.{Held}
-use Rattle.theory.specs.Cases.{room}
 use Rattle.theory.specs.Limits.{limits}
 use Rattle.theory.specs.Lists.{someOf}
 use Rattle.theory.specs.Stages.{Justification}

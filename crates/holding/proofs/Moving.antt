@@ -8,8 +8,8 @@ use native.Mathlib.Nat.{eq-or-lt-of-le}
 use native.Mathlib.Omega.{arith}
 use lib.ListN.{List·getD-append, drop, getD, length, length-append, length-drop, length-set, set, take}
 use lib.Seq.{ext-getD, getD-append-add, getD-drop, getD-set-other, getD-set-same, getD-take, length-take-le}
-use Rattle.rules.proofs.Steps.{beyond}
 use Rattle.holding.specs.Placing.{insertAt}
+use Rattle.rules.proofs.Steps.{beyond}
 use Rattle.rules.specs.declared.Entry.{Entry}
 
 -- ---- places moved up by one, down to place i
@@ -37,9 +37,6 @@ shift-more l m i n p q r s = record {
 
 -- what stands where after an insertion
 module _ (l : List Entry) (at n : ℕ) (j : Entry) (q : at ≤ n) (o : n < length l) where
-  tail : List Entry
-  tail = take (n - at) (drop at l) ++ drop (suc n) l
-
   front : length (take at l) ≡ at
   front = length-take-le at l (omega arith)
 

@@ -8,17 +8,17 @@ use native.Mathlib.Decide.{decLt}
 use native.Mathlib.Nat.{eq-or-lt-of-le, le-of-suc-le-suc, not-suc-le-zero}
 use native.Mathlib.Omega.{arith}
 use lib.ListN.{List·getD-eq-default, getD, length}
-use Rattle.rules.proofs.Order.{ahead-total, mem-same, ordered-cons, ordered-head, ordered-tail}
-use Rattle.rules.specs.Items.{sameJustification}
-use Rattle.theory.proofs.Lists.{and-intro, clash, either}
-use Rattle.rules.proofs.Entries.{entry-again, entry-at, nothingSaid, places, said-many}
 use Rattle.holding.proofs.Moving.{insert-here, insert-high, insert-length, insert-low, insert-moved}
+use Rattle.holding.specs.Placing.{insertAt, placeOf, withEntries}
+use Rattle.rules.proofs.Entries.{entry-again, entry-at, nothingSaid, places, said-many}
+use Rattle.rules.proofs.Order.{ahead-total, mem-same, ordered-cons, ordered-head, ordered-tail}
 use Rattle.rules.proofs.Scan.{right-elim}
 use Rattle.rules.proofs.Steps.{beyond}
 use Rattle.rules.specs.Held.{entryOf, fitting, heldOf, heldRight, meaning, ordered, put, saidBy, vacant}
-use Rattle.holding.specs.Placing.{insertAt, placeOf, withEntries}
+use Rattle.rules.specs.Items.{sameJustification}
 use Rattle.rules.specs.declared.Entry.{Entry}
 use Rattle.rules.specs.declared.Held.{Held}
+use Rattle.theory.proofs.Lists.{and-intro, clash, either}
 use Rattle.theory.proofs.Places.{is-table}
 use Rattle.theory.specs.Limits.{limits}
 use Rattle.theory.specs.Lists.{choose, someOf}

@@ -12,13 +12,13 @@ use lib.ListN.{List·getD-eq-default, getD, length, length-set, set}
 use lib.Seq.{getD-set-other, getD-set-same}
 use borrow.Author.Tests.{le-ltb, lt-ltb}
 use Rattle.holding.proofs.Dropping.{dropped-at, dropped-length, place-among}
+use Rattle.holding.specs.Placing.{placeOf, removeAt, withEntries}
 use Rattle.rules.proofs.Entries.{entry-at, nothingSaid, places, said-many, vacant-entry}
 use Rattle.rules.proofs.Order.{same-mem}
 use Rattle.rules.proofs.Scan.{right-elim}
 use Rattle.rules.proofs.Steps.{beyond}
 use Rattle.rules.specs.Held.{dropped, entryOf, heldOf, heldRight, meaning, saidBy, vacant}
 use Rattle.rules.specs.Items.{sameJustification}
-use Rattle.holding.specs.Placing.{placeOf, removeAt, withEntries}
 use Rattle.rules.specs.declared.Entry.{Entry}
 use Rattle.rules.specs.declared.Held.{Held}
 use Rattle.theory.proofs.Places.{getD-table, is-table, length-table}

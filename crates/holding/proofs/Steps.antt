@@ -9,19 +9,19 @@ use lib.Dec.{eqb, ltb}
 use lib.ListN.{drop, drop-of-length-le, getD, length, take}
 use lib.Seq.{drop-cons, length-take-le}
 use borrow.Author.Tests.{eq-eqb, le-ltb, lt-ltb, ne-eqb}
-use Rattle.rules.proofs.Scan.{said-at, said-length}
+use Rattle.holding.specs.Placing.{placeOf}
 use Rattle.rules.proofs.Order.{ahead-fewer, ahead-more, ahead-same}
+use Rattle.rules.proofs.Scan.{said-at, said-length}
 use Rattle.rules.proofs.Steps.{beyond}
 use Rattle.rules.specs.Held.{meaning}
-use Rattle.holding.specs.Placing.{placeOf}
+use Rattle.rules.specs.Items.{sameJustification}
 use Rattle.rules.specs.declared.Entry.{Entry}
 use Rattle.slices.proofs.Laws.{any-hit, any-miss, same-length}
 use Rattle.theory.proofs.Places.{any-end}
-use Rattle.theory.specs.Lists.{choose, someOf}
-use Rattle.theory.specs.Stages.{Justification, ahead, lesser}
-use Rattle.rules.specs.Items.{sameJustification}
 use Rattle.theory.specs.Judge.{sameSets}
 use Rattle.theory.specs.Limits.{limits}
+use Rattle.theory.specs.Lists.{choose, someOf}
+use Rattle.theory.specs.Stages.{Justification, ahead, lesser}
 
 -- ---- the order of two lists
 module _ (a b : List ℕ) (i : ℕ) where

@@ -5,10 +5,10 @@ use native.Mathlib.Omega.{arith}
 use lib.ListN.{getD, length, set}
 use borrow.Author.Needs.{needs}
 use Rattle.holding.proofs.Removing.{Closing, close-end, close-more, close-none, right-vacant}
+use Rattle.holding.specs.Placing.{withEntries}
 use Rattle.rules.proofs.Scan.{right-elim}
 use Rattle.rules.proofs.Steps.{beyond, length-mapped}
 use Rattle.rules.specs.Held.{vacant}
-use Rattle.holding.specs.Placing.{withEntries}
 use Rattle.rules.specs.declared.Held.{Held}
 use Rattle.theory.specs.Limits.{limits}
 use Rattle.holding.proofs.closed.Statement.{statement}

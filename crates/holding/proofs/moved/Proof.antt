@@ -5,8 +5,8 @@ use native.Mathlib.Omega.{arith}
 use lib.ListN.{getD, length, set}
 use borrow.Author.Needs.{needs}
 use Rattle.holding.proofs.Moving.{Shifting, shift-more, shift-none, shift-put}
-use Rattle.rules.proofs.Steps.{beyond, length-mapped}
 use Rattle.holding.specs.Placing.{withEntries}
+use Rattle.rules.proofs.Steps.{beyond, length-mapped}
 use Rattle.rules.specs.declared.Held.{Held}
 use Rattle.theory.specs.Limits.{limits}
 use Rattle.holding.proofs.moved.Statement.{statement}

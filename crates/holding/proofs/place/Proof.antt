@@ -7,9 +7,9 @@ use native.Mathlib.Omega.{arith}
 use lib.ListN.{drop, take}
 use borrow.Author.Needs.{needs}
 use Rattle.holding.proofs.Steps.{place-end, place-here, place-more}
+use Rattle.holding.specs.Placing.{placeOf}
 use Rattle.rules.proofs.Scan.{right-count, right-elim, right-inside}
 use Rattle.rules.specs.Held.{meaning}
-use Rattle.holding.specs.Placing.{placeOf}
 use Rattle.holding.proofs.place.Statement.{statement}
 use Rattle.holding.proofs.place.Tie as tie
 

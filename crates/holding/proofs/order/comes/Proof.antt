@@ -4,8 +4,8 @@ use native.Mathlib.Omega.{arith}
 use lib.ListN.{length}
 use lib.Seq.{length-take-le}
 use borrow.Author.Needs.{needs}
-use Rattle.rules.proofs.Order.{ahead-no, ahead-yes}
 use Rattle.holding.proofs.Steps.{as-long, comes-fewer, comes-more, comes-same}
+use Rattle.rules.proofs.Order.{ahead-no, ahead-yes}
 use Rattle.theory.specs.Limits.{limits}
 use Rattle.holding.proofs.order.comes.Statement.{statement}
 use Rattle.holding.proofs.order.comes.Tie as tie
