@@ -21,6 +21,7 @@ use Rattle.store.specs.Shape.{rightShape, top}
 use Rattle.store.specs.declared.Outcome.{Outcome}
 use Rattle.store.specs.declared.Store.{Store}
 use Rattle.theory.specs.Demands.{carries, contradicts}
+use Rattle.theory.specs.Limits.{limits}
 use Rattle.theory.specs.Lists.{choose}
 use Rattle.theory.specs.Places.{table}
 use Rattle.theory.specs.Sets.{inRange}
@@ -40,7 +41,7 @@ wordIn m N n = choose (ltb N n) (Refused Number) (readFrom m n)
 
 -- for each number the first stage at which it follows from E; or the refusal of a call that reads n and E, and no marks
 unfoldable pub followedOf : Store → ℕ → ℕ → Followed
-followedOf s n E = record { reply = refusalOf s n E; marks = choose (isDone (refusalOf s n E)) (table 129 (sinceOf (saidBy (s .held)) E)) (replicate 129 255) }
+followedOf s n E = record { reply = refusalOf s n E; marks = choose (isDone (refusalOf s n E)) (table (limits .numbers + 1) (sinceOf (saidBy (s .held)) E)) (replicate (limits .numbers + 1) 255) }
 
 -- ---- question
 
