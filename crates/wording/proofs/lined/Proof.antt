@@ -1,6 +1,6 @@
 -- `wording::lined` meets its contract. Assumes nothing.
 use mathlib.Core.Path.{_≡_, sym}
-use Prim.Native.Nat.{_-_, _≤_}
+use Prim.Native.Nat.{_*_, _-_, _≤_}
 use native.Mathlib.Omega.{arith}
 use lib.ListN.{getD, length, take}
 use lib.Seq.{length-take-le}
@@ -38,13 +38,13 @@ label : (c : tie.Else1) → let s = c .before .before .before in let l = s .args
     Left (row (limits .assumptions) n (wordOf n x (s .args .follows)) x) 0 out (lineWith l n (s .args .follows)) 0 out
 label c = let s = c .before .before .before in left-as (text-label (s .args .store .lists) (s .args .n) (s .args .follows) (c .if1 .left)) (s .pre .2)
 
-size : (c : tie.Else1) → let s = c .before .before .before in getD (s .args .store .lists .sizes) (s .args .n - 1) 0 ≤ 12
+size : (c : tie.Else1) → let s = c .before .before .before in getD (s .args .store .lists .sizes) (s .args .n - 1) 0 ≤ limits .label
 size c = let s = c .before .before .before in bounded (s .args .store) (s .pre .0) .sizes (s .args .n - 1) (omega arith)
 
 few : (s : tie.Start) → s .args .store .lists .count ≤ length (s .args .store .lists .nogoods)
 few s = bounded (s .args .store) (s .pre .0) .nogoods
 
-long : (s : tie.Start) → length (s .args .store .lists .members) ≡ 1536
+long : (s : tie.Start) → length (s .args .store .lists .members) ≡ limits .numbers * limits .label
 long s = search needs
 
 array-share-prefix-nogoods : tie.Need-array-share-prefix-nogoods
