@@ -1,65 +1,27 @@
 // Calls from a script on standard input, their replies to standard output.
-mod calls;
-mod hands;
-mod plains;
-
-use hands::Hand;
+use calls::hands;
+use calls::hands::Hand;
 use libc::STDIN_FILENO;
 use store::Store;
 ghost use Prim.Native.Nat.{_≤_};
 ghost use lib.ListN.{length};
 
-// What the calls of a script work on: the store, and the list in hand.
-struct Desk {
-    store: Store,
-    hand: Hand,
-}
-
-// The line at its number: the store and the list after its call, or as they were.
-fn command(line: &[u8], number: u32, desk: Desk) -> Desk {
-    let first = script::field(line, 0);
-    let from = first.from;
-    let to = first.to;
-    if to <= from {
-        return desk;
+// A call that leaves the list in hand as it is: the store after it. A blank line and a remark are none.
+fn command(word: &[u8], rest: &[u8], number: u32, store: Store, hand: Hand) -> Store {
+    if word.len() == 0 {
+        return store;
     }
-    if line.len() < to {
-        calls::bad(number);
-        return desk;
-    }
-    if line[from] == b'#' {
-        return desk;
-    }
-    let word = &line[from..to];
-    let rest = &line[to..];
-    let store = desk.store;
-    let hand = desk.hand;
-    if script::same(word, b"rule") {
-        return Desk {
-            store,
-            hand: hands::rule(rest, number, hand),
-        };
-    }
-    if script::same(word, b"forget") {
-        return Desk {
-            store,
-            hand: hands::forget(rest, number, hand),
-        };
+    if word[0] == b'#' {
+        return store;
     }
     if script::same(word, b"season") {
-        return Desk {
-            store: hands::season(rest, number, store, hand),
-            hand,
-        };
+        return hands::season(rest, number, store, hand);
     }
-    if plains::of_hand(word) {
-        plains::bare(word, rest, number, hand);
-        return desk;
+    if bares::of_hand(word) {
+        bares::bare(word, rest, number, hand);
+        return store;
     }
-    Desk {
-        store: called(word, rest, number, store),
-        hand,
-    }
+    called(word, rest, number, store)
 }
 
 // A call on the store alone: the store after it.
@@ -80,7 +42,7 @@ fn called(word: &[u8], rest: &[u8], number: u32, store: Store) -> Store {
         plains::read(word, rest, number, store);
         return store;
     }
-    calls::read(word, rest, number, store);
+    reads::read(word, rest, number, store);
     store
 }
 
@@ -89,14 +51,23 @@ fn replayed(bytes: &[u8])
     requires { ⌜ length (now bytes) ≤ 65536 ⌝ }
 {
     let opened = Store::open(0, 0);
-    let store = opened.store;
-    let hand = hands::empty();
-    let mut desk = Desk { store, hand };
+    let mut store = opened.store;
+    let mut hand = hands::empty();
     let mut at = 0;
     let mut number = 1;
     while at < bytes.len() {
         let end = script::line_end(bytes, at);
-        desk = command(&bytes[at..end], number, desk);
+        let line = &bytes[at..end];
+        let first = script::field(line, 0);
+        let from = first.from;
+        let to = first.to;
+        let word = &line[from..to];
+        let rest = &line[to..];
+        if hands::changes(word) {
+            hand = hands::changed(word, rest, number, hand);
+        } else {
+            store = command(word, rest, number, store, hand);
+        }
         at = end + 1;
         number += 1;
     }

@@ -3,6 +3,10 @@ use handed::Handed;
 use printing::decimal;
 use printing::say;
 use store::Store;
+use telling::MOST;
+use telling::bad;
+use telling::fields;
+use telling::refused;
 use theory::HELD;
 use theory::SUPPORTS;
 ghost use Prim.Native.Nat.{_≤_};
@@ -28,15 +32,15 @@ pub fn empty() -> Hand {
 }
 
 // rule C S..: one item more; a full list has no room.
-pub fn rule(rest: &[u8], number: u32, mut hand: Hand) -> Hand {
-    let mut values = [0u32; super::calls::MOST];
-    let n = super::calls::justification(rest, number, &mut values);
+fn rule(rest: &[u8], number: u32, mut hand: Hand) -> Hand {
+    let mut values = [0u32; MOST];
+    let n = fields(rest, number, &mut values);
     if n < 1 {
         return hand;
     }
     let at = hand.count;
     if HELD <= at {
-        super::calls::bad(number);
+        bad(number);
         return hand;
     }
     hand.items[at] = Handed {
@@ -52,18 +56,34 @@ pub fn rule(rest: &[u8], number: u32, mut hand: Hand) -> Hand {
 fn alone(rest: &[u8], number: u32) -> bool {
     let span = script::field(rest, 0);
     if span.from < span.to {
-        super::calls::bad(number);
+        bad(number);
         return false;
     }
     true
 }
 
 // forget
-pub fn forget(rest: &[u8], number: u32, hand: Hand) -> Hand {
+fn forget(rest: &[u8], number: u32, hand: Hand) -> Hand {
     if !alone(rest, number) {
         return hand;
     }
     empty()
+}
+
+// Whether the word is a call that changes the list.
+pub fn changes(word: &[u8]) -> bool {
+    if script::same(word, b"rule") {
+        return true;
+    }
+    script::same(word, b"forget")
+}
+
+// The list after such a call.
+pub fn changed(word: &[u8], rest: &[u8], number: u32, hand: Hand) -> Hand {
+    if script::same(word, b"rule") {
+        return rule(rest, number, hand);
+    }
+    forget(rest, number, hand)
 }
 
 // The first n bytes as numbers, a space before each.
@@ -83,7 +103,7 @@ pub fn season(rest: &[u8], number: u32, store: Store, hand: Hand) -> Store {
     }
     let n = hand.count;
     if HELD < n {
-        super::calls::bad(number);
+        bad(number);
         return store;
     }
     let items = hand.items;
@@ -91,7 +111,7 @@ pub fn season(rest: &[u8], number: u32, store: Store, hand: Hand) -> Store {
     let out = season::add_some(store, items, n, &mut bytes[..n]);
     let reply = out.reply;
     if replies::number(reply) != 0 {
-        super::calls::refused(reply);
+        refused(reply);
         return store;
     }
     say(b"done");

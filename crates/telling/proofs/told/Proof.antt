@@ -1,10 +1,10 @@
--- `replay::calls::told` is safe and ends. Assumes nothing.
+-- `telling::told` is safe and ends. Assumes nothing.
 use mathlib.Core.Path.{sym}
 use native.Mathlib.Omega.{arith}
 use lib.Seq.{length-take-le}
 use borrow.Author.Needs.{needs}
-use Rattle.replay.proofs.calls.told.Statement.{statement}
-use Rattle.replay.proofs.calls.told.Tie as tie
+use Rattle.telling.proofs.told.Statement.{statement}
+use Rattle.telling.proofs.told.Tie as tie
 
 pub told-spec : {M : Type 1} → statement M
 told-spec =

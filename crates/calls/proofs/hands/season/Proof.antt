@@ -3,8 +3,8 @@ use mathlib.Core.Path.{sym}
 use native.Mathlib.Omega.{arith}
 use lib.Seq.{length-take-le}
 use borrow.Author.Needs.{needs}
-use Rattle.replay.proofs.hands.season.Statement.{statement}
-use Rattle.replay.proofs.hands.season.Tie as tie
+use Rattle.calls.proofs.hands.season.Statement.{statement}
+use Rattle.calls.proofs.hands.season.Tie as tie
 
 pub season-spec : {M : Type 1} → statement M
 season-spec =

@@ -1,10 +1,10 @@
--- `replay::calls::write` is safe and ends. Assumes nothing.
+-- `reads::write` is safe and ends. Assumes nothing.
 use mathlib.Core.Path.{sym}
 use native.Mathlib.Omega.{arith}
 use lib.Seq.{length-take-le}
 use borrow.Author.Needs.{needs}
-use Rattle.replay.proofs.calls.write.Statement.{statement}
-use Rattle.replay.proofs.calls.write.Tie as tie
+use Rattle.reads.proofs.write.Statement.{statement}
+use Rattle.reads.proofs.write.Tie as tie
 
 pub write-spec : {M : Type 1} → statement M
 write-spec =

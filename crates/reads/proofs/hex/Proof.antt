@@ -4,8 +4,8 @@ use Prim.Native.Nat.{_-_, _≤_}
 use native.Mathlib.Omega.{arith}
 use lib.ListN.{length}
 use borrow.Author.Needs.{needs}
-use Rattle.replay.proofs.calls.hex.Statement.{statement}
-use Rattle.replay.proofs.calls.hex.Tie as tie
+use Rattle.reads.proofs.hex.Statement.{statement}
+use Rattle.reads.proofs.hex.Tie as tie
 
 abbrev Inv-loop : tie.InvT-loop
 Inv-loop bytes i₀ t4 t5 i-end i = (i-end ≡ length bytes) × (i ≤ i-end)

@@ -1,10 +1,10 @@
--- `replay::plains::read` meets its contract. Assumes nothing.
+-- `plains::read` meets its contract. Assumes nothing.
 use mathlib.Core.Path.{sym}
 use native.Mathlib.Omega.{arith}
 use lib.Seq.{length-take-le}
 use borrow.Author.Needs.{needs}
-use Rattle.replay.proofs.plains.read.Statement.{statement}
-use Rattle.replay.proofs.plains.read.Tie as tie
+use Rattle.plains.proofs.read.Statement.{statement}
+use Rattle.plains.proofs.read.Tie as tie
 
 pub read-spec : {M : Type 1} → statement M
 read-spec =

@@ -1,9 +1,9 @@
--- `replay::calls::values` is safe and ends. Assumes nothing.
+-- `telling::values` is safe and ends. Assumes nothing.
 use Prim.Native.Nat.{_-_, _≤_}
 use native.Mathlib.Omega.{arith}
 use borrow.Author.Needs.{needs}
-use Rattle.replay.proofs.calls.values.Statement.{statement}
-use Rattle.replay.proofs.calls.values.Tie as tie
+use Rattle.telling.proofs.values.Statement.{statement}
+use Rattle.telling.proofs.values.Tie as tie
 
 abbrev Inv-loop : tie.InvT-loop
 Inv-loop n bytes i₀ t5 t6 i = (n ≤ 129) × (i ≤ n)

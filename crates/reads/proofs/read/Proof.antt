@@ -1,10 +1,10 @@
--- `replay::calls::read` is safe and ends. Assumes nothing.
+-- `reads::read` is safe and ends. Assumes nothing.
 use lib.Seq.{length-take-le}
 use mathlib.Core.Path.{sym}
 use native.Mathlib.Omega.{arith}
 use borrow.Author.Needs.{needs}
-use Rattle.replay.proofs.calls.read.Statement.{statement}
-use Rattle.replay.proofs.calls.read.Tie as tie
+use Rattle.reads.proofs.read.Statement.{statement}
+use Rattle.reads.proofs.read.Tie as tie
 
 pub read-spec : {M : Type 1} → statement M
 read-spec =

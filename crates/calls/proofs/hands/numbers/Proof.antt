@@ -2,8 +2,8 @@
 use Prim.Native.Nat.{_-_, _≤_}
 use native.Mathlib.Omega.{arith}
 use borrow.Author.Needs.{needs}
-use Rattle.replay.proofs.hands.numbers.Statement.{statement}
-use Rattle.replay.proofs.hands.numbers.Tie as tie
+use Rattle.calls.proofs.hands.numbers.Statement.{statement}
+use Rattle.calls.proofs.hands.numbers.Tie as tie
 
 abbrev Inv-loop : tie.InvT-loop
 Inv-loop n bytes i₀ t5 i = (n ≤ 256) × (i ≤ n)
