@@ -1,6 +1,5 @@
 -- The marks of stage 0 of all assumptions together, one assumption after the other. Assumes nothing.
 use mathlib.Core.Bool.{Bool, false, true}
-use mathlib.Core.List.{List}
 use mathlib.Core.Logic.{_⊎_, ⊎-elim}
 use mathlib.Core.Path.{_∙_, _≡_, ap, refl, sym}
 use Prim.Native.Nat.{_+_, _<_, suc, zero, zero-le, ℕ}

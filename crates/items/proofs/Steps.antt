@@ -1,5 +1,5 @@
 -- The header and the supports by their places, case by case, as the code reads them. Assumes nothing.
-use mathlib.Core.Bool.{Bool, _||_, true, false}
+use mathlib.Core.Bool.{Bool, true, false}
 use mathlib.Core.List.{List, [], _∷_, _++_, append-assoc, append-nil}
 use mathlib.Core.Path.{_∙_, _≡_, ap, ap₂, refl, sym}
 use Prim.Native.Nat.{ℕ, _+_, _-_, _<_, _≤_, suc}

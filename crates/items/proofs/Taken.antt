@@ -18,7 +18,7 @@ use Rattle.numbers.specs.Numbers.{Taken, got, bad, andThen, numberAt, numberFro
 use Rattle.numbers.specs.declared.Number.the-variants.{Value, Bad as bad-number}
 use Rattle.replies.proofs.Laws.{zero-done}
 use Rattle.replies.specs.Replies.{numberOf}
-use Rattle.replies.specs.declared.Reply.the-variants.{Counts as Over, Done, Full, Number, Supports}
+use Rattle.replies.specs.declared.Reply.the-variants.{Counts as Over, Done, Full, Supports}
 use Rattle.replies.specs.declared.Reply.{Reply}
 use Rattle.rules.proofs.Entries.{length-padded, unpadded}
 use Rattle.rules.specs.Held.{entryOf}

@@ -1,7 +1,7 @@
 -- The count of ones of a set is the number of its assumptions. Assumes nothing.
 use mathlib.Core.Bool.{Bool, false, true}
 use mathlib.Core.List.{List, [], _++_, _∷_, map}
-use mathlib.Core.Path.{_∙_, _≡_, ap, ap₂, refl, sym}
+use mathlib.Core.Path.{_∙_, _≡_, ap, refl, sym}
 use Prim.Native.Nat.{_%_, _+_, _/_, _<_, _^_, suc, zero, ℕ}
 use native.Mathlib.Nat.{mod-lt, pow-suc, zero-lt-suc}
 use native.Mathlib.Numerals.{one-add}

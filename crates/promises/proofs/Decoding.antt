@@ -1,7 +1,7 @@
 -- Where the decoder goes on after a number: one byte on where it is below 128, else two. Assumes nothing.
 use mathlib.Core.Bool.{Bool, _&&_, false, true}
 use mathlib.Core.List.{List, [], _∷_}
-use mathlib.Core.Logic.{_⊎_, inl, inr}
+use mathlib.Core.Logic.{inl, inr}
 use mathlib.Core.Path.{_≡_, ap, refl}
 use Prim.Native.Nat.{_+_, _-_, _*_, _<_, _≤_, suc, ℕ}
 use native.Mathlib.Omega.{arith}

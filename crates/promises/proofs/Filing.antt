@@ -18,7 +18,6 @@ use Rattle.items.proofs.Taken.{Faultless}
 use Rattle.items.specs.Items.{Header, Item, headerFrom, numbersFrom, recordFrom, unless}
 use Rattle.numbers.proofs.Numbers.{chosen}
 use Rattle.numbers.specs.Numbers.{Taken, andThen, bad, got, numberAt, numberFrom, placed, secondFrom}
-use Rattle.promises.proofs.Form.{case-members, case-ranged}
 use Rattle.promises.proofs.Full.{says-same}
 use Rattle.promises.proofs.Loading.{case-judged}
 use Rattle.promises.proofs.Rows.{Names, by-choice, few-told, given-one, less-test, or-test, stages-name, stages-one, stages-told, unnamed}

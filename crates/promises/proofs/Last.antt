@@ -7,7 +7,7 @@ use Prim.Native.Nat.{_+_, _<_, _≤_, suc, zero, ℕ}
 use native.Mathlib.Decide.{decLt}
 use native.Mathlib.Nat.{le-of-suc-le-suc, not-suc-le-zero}
 use native.Mathlib.Omega.{arith}
-use lib.Dec.{leb, ltb}
+use lib.Dec.{ltb}
 use lib.ListN.{getD, length}
 use borrow.Author.Tests.{le-leb, leb-true, lt-leb, ltb-false, ltb-true}
 use Rattle.following.proofs.Staging.{Placed, ended-129}

@@ -2,8 +2,7 @@
 use mathlib.Core.List.{List}
 use mathlib.Core.Logic.{_↔_}
 use mathlib.Core.Path.{_≡_, ap, refl, subst, sym}
-use Prim.Native.Nat.{_+_, _≤_, ℕ}
-use native.Mathlib.Omega.{arith}
+use Prim.Native.Nat.{_+_, ℕ}
 use Rattle.casefile.proofs.Whole.{Sound}
 use Rattle.casefile.specs.Case.{Case, caseOf, heldBy, whole}
 use Rattle.casefile.specs.Load.{loadOf}

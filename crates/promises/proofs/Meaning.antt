@@ -1,8 +1,8 @@
 -- The words of the demands mean what documents 002 and 003 say. Assumes nothing.
 use mathlib.Core.Bool.{true}
-use mathlib.Core.List.{List, List·Memᴰ as Mem, _∷_}
+use mathlib.Core.List.{List}
 use mathlib.Core.Logic.{_↔_}
-use mathlib.Core.Path.{_∙_, _≡_, ap, refl, sym}
+use mathlib.Core.Path.{_∙_, _≡_, refl, sym}
 use Prim.Native.Nat.{_≤_, suc, zero, ℕ}
 use native.Mathlib.Decide.{decLt}
 use native.Mathlib.Nat.{not-suc-le-zero}
@@ -24,7 +24,7 @@ use Rattle.theory.proofs.Step.{Least, label-step, nogood-step}
 use Rattle.theory.specs.Demands.{carries, contradicts}
 use Rattle.theory.specs.Judge.{consequents, stageAt}
 use Rattle.theory.specs.Sets.{alone, among, together}
-use Rattle.theory.specs.Stages.{Justification, labelAt, labelOf, nogoodsAt, nogoodsOf}
+use Rattle.theory.specs.Stages.{Justification}
 use Rattle.theory.specs.Step.{candidates}
 
 -- ---- stages

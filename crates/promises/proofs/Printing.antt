@@ -1,15 +1,13 @@
 -- What is printed of a file, by what loading it answers; and of two files that say the same. Assumes nothing.
-use mathlib.Core.Bool.{Bool, false, true}
+use mathlib.Core.Bool.{Bool, true}
 use mathlib.Core.List.{List}
 use mathlib.Core.Logic.{_⊎_, ⊎-elim}
-use mathlib.Core.Path.{_∙_, _≡_, ap, ap₂, refl, sym}
+use mathlib.Core.Path.{_∙_, _≡_, ap, ap₂, sym}
 use Prim.Native.Nat.{_<_, _≤_, ℕ}
-use lib.Dec.{eqb, ltb}
 use lib.ListN.{length}
 use borrow.Author.Tests.{eqb-true, le-ltb, lt-ltb}
 use Rattle.casefile.specs.Load.{loadOf}
-use Rattle.casefile.specs.declared.Loaded.{Loaded}
-use Rattle.lent.specs.Lent.{Wrote, fitted}
+use Rattle.lent.specs.Lent.{fitted}
 use Rattle.lines.specs.Lines.{refusalText}
 use Rattle.listing.proofs.Loaded.{loaded-right}
 use Rattle.listing.specs.Listing.{listedOf, listingOf, listingText, loadedText}

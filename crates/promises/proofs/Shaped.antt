@@ -1,21 +1,21 @@
 -- A store has the right shape exactly when every clause of document 01 holds of its places. Assumes nothing.
 use mathlib.Core.Bool.{Bool, _&&_, _||_, false, not, true}
-use mathlib.Core.List.{List, List·Memᴰ as Mem, [], _∷_, map}
+use mathlib.Core.List.{List, [], _∷_, map}
 use mathlib.Core.Logic.{_↔_, inl, inr, ⊎-elim}
 use mathlib.Core.Path.{_∙_, _≡_, ap, ap₂, refl, subst, sym}
 use Prim.Native.Nat.{_*_, _+_, _-_, _<_, _≤_, suc, zero, ℕ}
 use native.Mathlib.Nat.{not-suc-le-zero}
 use native.Mathlib.Omega.{arith}
 use lib.Dec.{eqb, leb, ltb}
-use lib.ListN.{List·getD-map, drop, getD, length, length-drop, length-take, take}
+use lib.ListN.{List·getD-map, drop, getD, length, length-drop, take}
 use lib.Seq.{getD-drop, getD-take, length-take-le}
 use borrow.Author.Tests.{eq-eqb, eqb-true, le-leb, leb-true, lt-ltb, ltb-true, not-true}
 use Rattle.promises.specs.Shaped.{Ahead, Earlier, EntrySays, HeldSays, ListSays, ListsSay, Precedes, ShapeSays}
-use Rattle.rules.proofs.Entries.{Fits, fits-elim as entry-elim, fits-intro, vacant-again, vacant-unused}
+use Rattle.rules.proofs.Entries.{fits-elim as entry-elim, fits-intro, vacant-again, vacant-unused}
 use Rattle.rules.proofs.Order.{ordered-cons, ordered-head, ordered-tail}
-use Rattle.rules.proofs.Scan.{Right, right-elim, right-intro}
+use Rattle.rules.proofs.Scan.{right-elim, right-intro}
 use Rattle.rules.proofs.Steps.{all-at, all-places}
-use Rattle.rules.specs.Held.{climbs, fitting, heldRight, meaning, ordered, saidBy, unusedEntry, vacant}
+use Rattle.rules.specs.Held.{climbs, fitting, meaning, ordered, saidBy, unusedEntry, vacant}
 use Rattle.rules.specs.declared.Entry.{Entry}
 use Rattle.rules.specs.declared.Held.{Held}
 use Rattle.sets.proofs.Membership.{range-members, within-members}

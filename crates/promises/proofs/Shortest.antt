@@ -1,7 +1,7 @@
 -- Whatever serves in its place contains every smallest set, so it is no shorter, and of that length the same. Assumes nothing.
 use mathlib.Core.Bool.{Bool, false, not, true}
 use mathlib.Core.List.{List, List·Memᴰ·cases-cons, List·Memᴰ as Mem, [], _∷_, List·Memᴰ·head as here, List·Memᴰ·tail as there}
-use mathlib.Core.Logic.{_↔_, ⊎-elim}
+use mathlib.Core.Logic.{⊎-elim}
 use mathlib.Core.Path.{_∙_, _≡_, ap, refl, subst, sym}
 use Prim.Native.Nat.{_+_, _<_, _^_, _≤_, suc, zero, zero-le, ℕ}
 use native.Mathlib.Omega.{arith}

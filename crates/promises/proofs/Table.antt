@@ -43,7 +43,7 @@ use Rattle.holding.proofs.Dropping.{dropped-from}
 use Rattle.rules.proofs.Laws.{Ranged, faultless-ranged, right-range}
 use Rattle.rules.proofs.Order.{mem-same, same-mem}
 use Rattle.holding.proofs.Putting.{put-cases, put-new, put-old}
-use Rattle.rules.specs.Held.{dropped, heldOf, put, saidBy}
+use Rattle.rules.specs.Held.{heldOf, put, saidBy}
 use Rattle.rules.specs.Items.{faultOf, sameJustification}
 use Rattle.rules.specs.declared.Held.{Held}
 use Rattle.season.specs.Season.{addAllOf, addedAll}

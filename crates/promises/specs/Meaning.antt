@@ -1,6 +1,6 @@
 -- What the words of the demands mean, in the words of documents 002 and 003: following at some stage, models, the step from one stage to the next. Assumes nothing.
 use mathlib.Core.Bool.{_&&_, _||_, false, not, true}
-use mathlib.Core.List.{List, List·Memᴰ as Mem, _++_, _∷_}
+use mathlib.Core.List.{List, List·Memᴰ as Mem, _++_}
 use mathlib.Core.Logic.{_↔_}
 use mathlib.Core.Path.{_≡_}
 use Prim.Native.Nat.{_<_, _^_, _≤_, suc, ℕ}

@@ -14,7 +14,7 @@ use Rattle.lines.specs.Lines.{lineText}
 use Rattle.wording.specs.Wording.{lineWith, wordOf}
 use Rattle.numbers.specs.Numbers.{numberAt, numberFrom, replied, secondFrom}
 use Rattle.promises.proofs.Answers.{line-by, line-text, member-by, question-by}
-use Rattle.promises.proofs.Form.{Form, form-a, form-settled, made-form}
+use Rattle.promises.proofs.Form.{Form, form-settled, made-form}
 use Rattle.promises.proofs.Right.{form-stage}
 use Rattle.refuted.proofs.Absurdity.{absurdity-depth, absurdity-done, absurdity-labels, absurdity-made, absurdity-nogoods}
 use Rattle.refuted.proofs.Small.{add-done, few-room, made-add, made-open, one-done, one-made}

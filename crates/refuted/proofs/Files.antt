@@ -18,7 +18,6 @@ use Rattle.replies.specs.declared.Reply.{Reply}
 use Rattle.replies.specs.declared.Reply.the-variants.{Done}
 use Rattle.rules.specs.Held.{saidBy}
 use Rattle.stages.specs.Lists.{listsOf}
-use Rattle.stages.specs.declared.Lists.{Lists}
 use Rattle.store.specs.Calls.{isDone}
 use Rattle.store.specs.Shape.{top}
 use Rattle.store.specs.declared.Store.{Store}

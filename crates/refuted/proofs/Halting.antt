@@ -6,7 +6,7 @@ use Prim.Native.Nat.{_+_, ℕ}
 use native.Mathlib.Omega.{arith}
 use lib.ListN.{length, replicate}
 use Rattle.following.specs.First.{sinceOf, upTo}
-use Rattle.lent.specs.Lent.{Wrote, fitted, kept}
+use Rattle.lent.specs.Lent.{fitted, kept}
 use Rattle.lent.specs.declared.Written.{Written}
 use Rattle.lent.specs.declared.Written.the-variants.{Length, Refused}
 use Rattle.promises.proofs.Form.{form-a, form-m, form-said}

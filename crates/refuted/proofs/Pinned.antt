@@ -2,8 +2,8 @@
 use mathlib.Core.Bool.{Bool, true}
 use mathlib.Core.List.{_++_, _∷_, List, [], map}
 use mathlib.Core.Option.{some}
-use mathlib.Core.Path.{_∙_, _≡_, ap, ap₂, refl, sym}
-use Prim.Native.Nat.{_+_, _<_, _≤_, suc, ℕ}
+use mathlib.Core.Path.{_∙_, _≡_, ap, ap₂, refl}
+use Prim.Native.Nat.{_+_, _<_, _≤_, ℕ}
 use Prim.Native.String.{String}
 use native.Mathlib.Omega.{arith}
 use lib.Count.{ones}
@@ -31,7 +31,7 @@ use Rattle.promises.proofs.Form.{Form, form-said}
 use Rattle.promises.proofs.Plain.{plain-path}
 use Rattle.promises.proofs.Standing.{as-they-stand}
 use Rattle.promises.proofs.Truth.{demand-2}
-use Rattle.promises.specs.Calls.{Read, caseLine, context, file, line, ours, over, plainContext, plainly, reads, stageLines, written}
+use Rattle.promises.specs.Calls.{Read, caseLine, context, file, line, ours, over, plainContext, reads, stageLines, written}
 use Rattle.promises.specs.Demand2.{byteBy, carriedBy, contradictedBy, firstText}
 use Rattle.promises.specs.Files.{fileFor}
 use Rattle.promises.specs.Made.{Made, inOrder, putIn}

@@ -1,6 +1,6 @@
 -- Each wrong reading lists a case otherwise than the stages, and as a program is refuted by demand 2. Assumes nothing.
 use mathlib.Core.Bool.{Bool, false, true}
-use mathlib.Core.List.{List, List·Memᴰ as Mem, [], _∷_, List·Memᴰ·head as here}
+use mathlib.Core.List.{List, [], _∷_, List·Memᴰ·head as here}
 use mathlib.Core.Path.{_∙_, _≡_, ap, ap₂, refl, subst, sym}
 use Prim.Native.Nat.{_+_, _≤_, ℕ}
 use native.Mathlib.Omega.{arith}
@@ -18,7 +18,7 @@ use Rattle.promises.specs.Made.{inOrder, putIn}
 use Rattle.refuted.proofs.Files.{file-are, file-form, reading-lists, reading-made}
 use Rattle.refuted.proofs.Small.{few-room}
 use Rattle.refuted.specs.Cases.{listedBytes}
-use Rattle.refuted.specs.Readings.{Readings, ReadingsRefuted, asFound, crossed, eachOther, falseLabels, foundStage, halfBuilt, halfLong, halfRefused, keptStage, listedBy, newNogoods, onceStage, refusingHalf, relisted, satisfying, satisfyingStage, shorter, someHalfLong, stepBy, steps, struckOnce}
+use Rattle.refuted.specs.Readings.{Readings, ReadingsRefuted, asFound, crossed, eachOther, foundStage, halfBuilt, halfLong, halfRefused, keptStage, listedBy, newNogoods, onceStage, refusingHalf, relisted, satisfying, satisfyingStage, shorter, someHalfLong, stepBy, steps, struckOnce}
 use Rattle.replies.specs.Replies.{numberOf}
 use Rattle.replies.specs.declared.Reply.the-variants.{Done, Label}
 use Rattle.rules.specs.Held.{put, saidBy}
@@ -30,7 +30,7 @@ use Rattle.store.specs.Reading.{labelHeld}
 use Rattle.store.specs.Shape.{top}
 use Rattle.store.specs.declared.Store.{Store}
 use Rattle.theory.proofs.Lists.{clash}
-use Rattle.theory.specs.Cases.{at, from, verdict, worked}
+use Rattle.theory.specs.Cases.{at, from, verdict}
 use Rattle.theory.specs.Demands.{carries, contradicts}
 use Rattle.theory.specs.Judge.{Stage, agree, judge, sameSets, settled, stageAt, stageOf}
 use Rattle.theory.specs.Limits.{limits}

@@ -1,7 +1,7 @@
 -- Following no further than the depth, and calling every empty label contradicted, are refuted by a line. Assumes nothing.
 use mathlib.Core.Bool.{Bool, false, true}
 use mathlib.Core.List.{List, [], _∷_, List·Memᴰ·head as here, map}
-use mathlib.Core.Path.{_∙_, _≡_, ap, ap₂, refl, subst, sym}
+use mathlib.Core.Path.{_∙_, _≡_, ap, ap₂, refl, sym}
 use Prim.Native.Nat.{_+_, _<_, _^_, _≤_, suc, zero, ℕ}
 use native.Mathlib.Omega.{arith}
 use lib.Count.{ones}
@@ -22,7 +22,7 @@ use Rattle.promises.specs.Made.{Made, inOrder, loaded, putIn}
 use Rattle.refuted.proofs.Files.{file-are, file-done, file-form}
 use Rattle.refuted.specs.Exchange.{withLine}
 use Rattle.refuted.specs.Wrong.{always, atDepth, linedBy, shallow}
-use Rattle.rules.specs.Held.{put, saidBy}
+use Rattle.rules.specs.Held.{put}
 use Rattle.rules.specs.Items.{faultOf, sameJustification, setOf}
 use Rattle.store.specs.Reading.{labelHeld}
 use Rattle.store.specs.Shape.{rightShape, top}

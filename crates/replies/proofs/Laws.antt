@@ -1,7 +1,7 @@
 -- Done has the number 0, no other reply has; none has the number 10; all numbers have at most two digits. Assumes nothing.
 use mathlib.Core.Logic.{_⊎_, inl, inr, ⊎-elim}
 use mathlib.Core.Path.{_≡_, refl}
-use Prim.Native.Nat.{_<_, ℕ}
+use Prim.Native.Nat.{_<_}
 use native.Mathlib.Omega.{arith}
 use lib.Dec.{lit<}
 use Rattle.replies.specs.Replies.{numberOf}

@@ -6,12 +6,12 @@ use Prim.Native.Nat.{_*_, _+_, _-_, _%_, _/_, _<_, _^_, _≤_, ℕ}
 use native.Mathlib.Decide.{decLt}
 use native.Mathlib.Numerals.{add-one}
 use native.Mathlib.Omega.{arith}
-use lib.Bits.{bitOr, or-lt, or-zero-l, or-zero-r}
+use lib.Bits.{or-lt, or-zero-l, or-zero-r}
 use lib.Dec.{eqb, leb}
 use lib.ListN.{drop, drop-of-length-le, getD, length, length-drop, length-take, take}
 use lib.Pow.{pow-pos}
 use lib.Seq.{drop-cons, getD-drop, getD-take, length-take-le}
-use borrow.Author.Tests.{eq-eqb, eqb-true, le-leb, leb-true, lt-leb, lt-ltb, ltb-true}
+use borrow.Author.Tests.{eqb-true, le-leb, leb-true, lt-leb, lt-ltb, ltb-true}
 use Rattle.members.proofs.First.{at-mem}
 use Rattle.shape.proofs.Elim.{Listed, listed-elim, listed-intro}
 use Rattle.shape.proofs.Runs.{mem-place}
@@ -22,8 +22,8 @@ use Rattle.theory.proofs.Depth.{length-below}
 use Rattle.theory.proofs.Judgement.{at-below}
 use Rattle.theory.proofs.Listing.{below-elim, below-intro, within-below}
 use Rattle.theory.proofs.Lists.{all-elim, all-intro, and-intro, and-left, and-right, same-test}
-use Rattle.theory.proofs.Places.{all-end, all-hit, all-miss, all-step}
-use Rattle.theory.proofs.Sets.{or-assoc, within-le, within-left, within-right}
+use Rattle.theory.proofs.Places.{all-end, all-hit, all-miss}
+use Rattle.theory.proofs.Sets.{or-assoc, within-left, within-right}
 use Rattle.theory.specs.Limits.{limits}
 use Rattle.theory.specs.Lists.{allOf, numbersBelow, sortedBy}
 use Rattle.theory.specs.Sets.{inRange, union}

@@ -22,7 +22,8 @@ use Rattle.theory.proofs.Lists.{and-intro, and-left, and-right, not-so,
 use Rattle.theory.proofs.Sets.{among-within, or-within, within-le}
 use Rattle.theory.proofs.Start.{digit-self, digit-within}
 use Rattle.theory.specs.Demands.{carries, contradicts, fromAll}
-use Rattle.theory.specs.Judge.{Limits, Stage, judge, settled}
+use Rattle.theory.specs.Judge.{Stage, judge, settled}
+use Rattle.theory.specs.Limits.{Limits}
 use Rattle.theory.specs.Sets.{among, contains, digit, together, within}
 use Rattle.theory.specs.Stages.{Justification, follows, labelAt, nogoodsAt}
 use Rattle.theory.specs.Step.{labelIn}

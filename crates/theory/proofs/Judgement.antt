@@ -20,7 +20,8 @@ use Rattle.theory.proofs.Listing.{below-intro}
 use Rattle.theory.proofs.Sameness.{Covered, same-stage}
 use Rattle.theory.proofs.Lists.{and-intro, and-left, and-right, clash}
 use Rattle.theory.specs.Cases.{at}
-use Rattle.theory.specs.Judge.{Limits, Stage, Verdict, agree, consequents, course, judge, labelLong, labelOver, lowestLong, nogoodsLong, nogoodsOver, ruling, sameSets, settled, stageAt, stageOf}
+use Rattle.theory.specs.Judge.{Stage, Verdict, agree, consequents, course, judge, labelLong, labelOver, lowestLong, nogoodsLong, nogoodsOver, ruling, sameSets, settled, stageAt, stageOf}
+use Rattle.theory.specs.Limits.{Limits}
 use Rattle.theory.specs.Lists.{alike, choose, numbersBelow, numbersTo}
 use Rattle.theory.specs.Sets.{contains}
 use Rattle.theory.specs.Stages.{Justification, follows, labelAt, labelOf, nogoodsAt}

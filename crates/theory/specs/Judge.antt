@@ -4,7 +4,7 @@ use mathlib.Core.List.{List, [], _∷_, map}
 use Prim.Native.Nat.{suc, zero, ℕ}
 use lib.Dec.{eqb, ltb}
 use lib.ListN.{length}
-pub use Rattle.theory.specs.Limits.{Limits, limits}
+use Rattle.theory.specs.Limits.{Limits}
 use Rattle.theory.specs.Lists.{alike, choose, numbersTo, someOf}
 use Rattle.theory.specs.Stages.{Justification, follows, labelOf, nogoodsOf}
 

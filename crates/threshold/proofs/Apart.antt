@@ -1,5 +1,4 @@
 -- Nothing is lost at the door: each answer that crossed reads back. Assumes nothing.
-use mathlib.Core.Path.{_≡_}
 use lib.ListN.{length}
 use Rattle.across.specs.Across.{foundBy, plainlyBy, reasonedBy, wroteBy}
 use Rattle.across.specs.declared.Told.{Told}

@@ -20,8 +20,7 @@ use Rattle.lent.specs.Lent.{Wrote, fitted, kept}
 use Rattle.lines.specs.Lines.{caseText, headingOf, lineOf, lineText}
 use Rattle.lent.specs.declared.Written.{Written}
 use Rattle.lent.specs.declared.Written.the-variants.{Length, Refused as Unwritten}
-use Rattle.listing.specs.Listing.{listedOf, listingOf, listingText}
-use Rattle.promises.specs.Calls.{caseLine, context, file, line, listAll, member, ours, plainContext, plainly, question, stageLines}
+use Rattle.listing.specs.Listing.{listedOf, listingText}
 use Rattle.plain.specs.Plainly.{plainBy, plainOf}
 use Rattle.plain.specs.declared.Plain.{Plain}
 use Rattle.plain.specs.declared.Plain.the-variants.{Inconsistent as Contradicted, Refused as Unasked, Supported as Followed, Unsupported as Unreached}

@@ -1,12 +1,11 @@
 -- What crossed of a bare list, read back by what was asked. Assumes nothing.
 use mathlib.Core.Bool.{Bool, _||_, false, not, true, true≢false}
 use mathlib.Core.List.{List, [], _++_, _∷_}
-use mathlib.Core.Path.{_≡_, _∙_, ap, refl, subst, sym}
+use mathlib.Core.Path.{_≡_, ap, refl, subst, sym}
 use Prim.Native.Nat.{_+_, ℕ, suc, zero}
 use lib.Dec.{eqb, ltb}
 use lib.ListN.{drop, length}
 use Rattle.bare.specs.Bare.{Answered, answered, askOf, barely, faultOfItem, faultsOf, refusedAs, tellOf}
-use Rattle.bare.specs.declared.Query.{Query}
 use Rattle.bare.specs.declared.Told.{Told as Barely}
 use Rattle.bare.specs.declared.Told.the-variants.{Filled, Lines, Word}
 use Rattle.across.specs.Across.{barelyBy, queryBy, whatBy}
@@ -16,7 +15,6 @@ use Rattle.handed.specs.Supplied.{suppliedBy}
 use Rattle.handed.specs.declared.Handed.{Handed}
 use Rattle.lent.specs.declared.Written.the-variants.{Refused as Unwritten}
 use Rattle.plain.specs.Plainly.{byteOf, plainBy}
-use Rattle.plain.specs.declared.Plain.{Plain}
 use Rattle.plain.specs.declared.Plain.the-variants.{Refused as Unasked}
 use Rattle.replies.specs.Replies.{numberOf}
 use Rattle.replies.specs.declared.Reply.{Reply}

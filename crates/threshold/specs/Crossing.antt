@@ -63,7 +63,7 @@ use Rattle.across.specs.Across.{barelyBy, foundBy, loadedBy, madeBy, plainlyBy,
 use Rattle.across.specs.declared.Asked.{Asked}
 use Rattle.handed.specs.declared.Handed.{Handed}
 use Rattle.lent.specs.Lent.{fitted}
-use Rattle.promises.specs.Calls.{Calls, Read, caseLine, context, file, line, listAll, member, ours, plainContext, plainly, question, stageLines}
+use Rattle.promises.specs.Calls.{Calls, caseLine, context, file, line, listAll, member, ours, plainContext, plainly, question, stageLines}
 use Rattle.promises.specs.Keeps.{Claim, Tied, Walked}
 use Rattle.promises.specs.Once.{Once}
 use Rattle.replies.specs.Replies.{numberOf}

@@ -5,10 +5,6 @@ use mathlib.Core.Path.{_∙_, ap}
 use borrow.Author.Needs.{needs}
 use Rattle.across.proofs.keep.Statement.{statement}
 use Rattle.across.proofs.keep.Tie as tie
-use Rattle.across.proofs.keep.Reads as reads
-use Rattle.across.proofs.keep.Lts as lts
-use Rattle.across.proofs.named.Reads as named-reads
-use Rattle.replies.proofs.number.Reads as number-reads
 
 returns : tie.Need-returns
 returns c = let a = c .before .before .args in ap (λ (n : ℕ). record { reply = n; named = c .named .result; «record» = a .at; store = a .store }) (c .before .number .ensures) ∙ ap (λ (n : ℕ). record { reply = numberOf (a .reply); named = n; «record» = a .at; store = a .store }) (c .named .ensures)

@@ -5,8 +5,6 @@ use mathlib.Core.Path.{ap, sym}
 use borrow.Author.Needs.{needs}
 use Rattle.across.proofs.named.Statement.{statement}
 use Rattle.across.proofs.named.Tie as tie
-use Rattle.across.proofs.named.Reads as reads
-use Rattle.across.proofs.named.Lts as lts
 
 returns : tie.Need-returns
 returns c = ap namedOr0 (sym (c .before .reply .given .1))

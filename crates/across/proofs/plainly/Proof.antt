@@ -5,9 +5,6 @@ use Rattle.across.specs.Across.{plainlyBy, told}
 use borrow.Author.Needs.{needs}
 use Rattle.across.proofs.plainly.Statement.{statement}
 use Rattle.across.proofs.plainly.Tie as tie
-use Rattle.across.proofs.plainly.Reads as reads
-use Rattle.across.proofs.plainly.Lts as lts
-use Rattle.replies.proofs.number.Reads as number-reads
 
 returns : tie.Need-returns
 returns c = ap plainlyBy (sym (c .enum-told .given .1))

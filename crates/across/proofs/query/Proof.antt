@@ -6,8 +6,6 @@ use Rattle.bare.specs.declared.What.{What}
 use Rattle.bare.specs.declared.What.the-variants.{Stages}
 use Rattle.across.proofs.query.Statement.{statement}
 use Rattle.across.proofs.query.Tie as tie
-use Rattle.across.proofs.query.Reads as reads
-use Rattle.across.proofs.query.Lts as lts
 use Rattle.across.specs.Across.{whatBy}
 use Rattle.across.specs.declared.Asked.{Asked}
 

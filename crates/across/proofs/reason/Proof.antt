@@ -5,9 +5,6 @@ use Rattle.across.specs.Across.{reasoned, reasonedBy}
 use borrow.Author.Needs.{needs}
 use Rattle.across.proofs.reason.Statement.{statement}
 use Rattle.across.proofs.reason.Tie as tie
-use Rattle.across.proofs.reason.Reads as reads
-use Rattle.across.proofs.reason.Lts as lts
-use Rattle.replies.proofs.number.Reads as number-reads
 
 returns : tie.Need-returns
 returns c = ap reasonedBy (sym (c .before .answer .given .1))

@@ -5,9 +5,6 @@ use mathlib.Core.Path.{_∙_, ap, sym}
 use borrow.Author.Needs.{needs}
 use Rattle.across.proofs.written.Statement.{statement}
 use Rattle.across.proofs.written.Tie as tie
-use Rattle.across.proofs.written.Reads as reads
-use Rattle.across.proofs.written.Lts as lts
-use Rattle.replies.proofs.number.Reads as number-reads
 
 returns : tie.Need-returns
 returns c = ap wroteBy (sym (c .before .answer .given .1))

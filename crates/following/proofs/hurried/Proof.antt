@@ -1,9 +1,7 @@
 -- `following::hurried` meets its contract. The invariant: justifications held were gone over. Assumes nothing.
-use mathlib.Core.Path.{_∙_, _≡_}
 use Prim.Native.Nat.{_+_, _-_}
 use native.Mathlib.Omega.{arith}
 use borrow.Author.Needs.{needs}
-use lib.ListN.{length}
 use Rattle.following.proofs.Closing.{hurried-none, hurried-then}
 use Rattle.following.specs.Promised.{Hurried}
 use Rattle.rules.specs.Held.{saidBy}

@@ -1,7 +1,5 @@
 -- `script::with` meets its contract. Assumes nothing.
 use mathlib.Core.Path.{_∙_, ap}
-use native.Mathlib.Omega.{arith}
-use Prim.Native.Nat.{ℕ}
 use borrow.Author.Needs.{needs}
 use Rattle.script.proofs.Taking.{taken-above, taken-so, taken-zero}
 use Rattle.theory.specs.Sets.{union}

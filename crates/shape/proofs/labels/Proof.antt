@@ -1,5 +1,5 @@
 -- `labels` meets its contract: each part of the test in its order. Assumes nothing.
-use mathlib.Core.Path.{_∙_, _≡_, ap, sym}
+use mathlib.Core.Path.{_∙_, ap, sym}
 use Prim.Native.Nat.{_*_}
 use native.Mathlib.Omega.{arith}
 use lib.Dec.{eqb}

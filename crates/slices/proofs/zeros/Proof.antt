@@ -1,6 +1,6 @@
 -- `zeros` meets its contract. The loop: all are zero if what was seen and the rest are. Assumes nothing.
 use mathlib.Core.Bool.{_&&_}
-use mathlib.Core.Path.{_∙_, _≡_, refl, sym}
+use mathlib.Core.Path.{_≡_, refl}
 use Prim.Native.Nat.{_-_, _≤_}
 use native.Mathlib.Omega.{arith}
 use lib.Dec.{eqb}

@@ -3,10 +3,6 @@ use borrow.Author.Needs.{needs}
 use Rattle.store.proofs.Judging.{start-store}
 use Rattle.store.proofs.start.Statement.{statement}
 use Rattle.store.proofs.start.Tie as tie
-use Rattle.store.proofs.start.Reads as reads
-use Rattle.store.proofs.start.Lts as lts
-use Rattle.rules.proofs.Held.nothing.Reads as nothing-reads
-use Rattle.stages.proofs.start.Reads as start-reads
 
 returns : tie.Need-returns
 returns c = let a = c .before .before .args in start-store (a .a) (a .m) _ _ (c .before .nothing .ensures) (c .start .ensures)

@@ -5,11 +5,6 @@ use Rattle.across.specs.Across.{barelyBy, told}
 use borrow.Author.Needs.{needs}
 use Rattle.door.proofs.barely.say.Statement.{statement}
 use Rattle.door.proofs.barely.say.Tie as tie
-use Rattle.door.proofs.barely.say.Reads as reads
-use Rattle.door.proofs.barely.say.Lts as lts
-use Rattle.across.proofs.plainly.Reads as plainly-reads
-use Rattle.across.proofs.written.Reads as written-reads
-use Rattle.replies.proofs.number.Reads as number-reads
 
 returns : tie.Need-returns
 returns c = c .plainly .ensures ∙ ap barelyBy (sym (c .before .before .told .given .1))

@@ -1,13 +1,8 @@
 -- `door::making::door_load` meets its contract: what `casefile::load` answers, as `keep` gives it. Assumes nothing.
 use Rattle.across.specs.Across.{loadedBy}
 use mathlib.Core.Path.{_∙_, ap}
-use borrow.Author.Needs.{needs}
 use Rattle.door.proofs.making.door_load.Statement.{statement}
 use Rattle.door.proofs.making.door_load.Tie as tie
-use Rattle.door.proofs.making.door_load.Reads as reads
-use Rattle.door.proofs.making.door_load.Lts as lts
-use Rattle.casefile.proofs.load.Reads as load-reads
-use Rattle.across.proofs.keep.Reads as keep-reads
 
 returns : tie.Need-returns
 returns c = c .keep .ensures ∙ ap loadedBy (c .before .before .load .ensures)

@@ -1,13 +1,8 @@
 -- `door::making::door_open` meets its contract: what `Store::open` answers, as `made` gives it. Assumes nothing.
 use Rattle.across.specs.Across.{madeBy}
 use mathlib.Core.Path.{_∙_, ap}
-use borrow.Author.Needs.{needs}
 use Rattle.door.proofs.making.door_open.Statement.{statement}
 use Rattle.door.proofs.making.door_open.Tie as tie
-use Rattle.door.proofs.making.door_open.Reads as reads
-use Rattle.door.proofs.making.door_open.Lts as lts
-use Rattle.door.proofs.making.made.Reads as made-reads
-use Rattle.store.proofs.Store.open.Reads as open-reads
 
 returns : tie.Need-returns
 returns c = c .made .ensures ∙ ap madeBy (c .before .«open» .ensures)

@@ -5,10 +5,6 @@ use mathlib.Core.Path.{_∙_, ap}
 use borrow.Author.Needs.{needs}
 use Rattle.door.proofs.reading.door_context.Statement.{statement}
 use Rattle.door.proofs.reading.door_context.Tie as tie
-use Rattle.door.proofs.reading.door_context.Reads as reads
-use Rattle.door.proofs.reading.door_context.Lts as lts
-use Rattle.asking.proofs.context.Reads as context-reads
-use Rattle.replies.proofs.number.Reads as number-reads
 
 returns : tie.Need-returns
 returns c = let said = c .before .before .before .context .ensures in (c .number .ensures ∙ ap (λ (l : Left). numberOf (l .outcome .reply)) said, ap (λ (l : Left). l .bytes) said)

@@ -6,10 +6,6 @@ use mathlib.Core.Path.{_∙_, ap, sym}
 use borrow.Author.Needs.{needs}
 use Rattle.door.proofs.reading.door_member.Statement.{statement}
 use Rattle.door.proofs.reading.door_member.Tie as tie
-use Rattle.door.proofs.reading.door_member.Reads as reads
-use Rattle.door.proofs.reading.door_member.Lts as lts
-use Rattle.asking.proofs.member.Reads as member-reads
-use Rattle.replies.proofs.number.Reads as number-reads
 
 returns : tie.Need-returns
 returns c = ap foundBy (sym (c .before .answer .given .1) ∙ ap (λ (r : Shown). r .answer) (c .before .before .before .member .ensures))

@@ -2,12 +2,8 @@
 use Rattle.plain.specs.declared.Told.{Told as Answered}
 use mathlib.Core.Path.{_∙_, ap}
 use Rattle.across.specs.Across.{plainlyBy}
-use Rattle.across.proofs.plainly.Reads as plainly-reads
 use Rattle.door.proofs.reading.door_plain_question.Statement.{statement}
 use Rattle.door.proofs.reading.door_plain_question.Tie as tie
-use Rattle.door.proofs.reading.door_plain_question.Reads as reads
-use Rattle.door.proofs.reading.door_plain_question.Lts as lts
-use Rattle.plain.proofs.question.Reads as question-reads
 
 returns : tie.Need-returns
 returns c = c .plainly .ensures ∙ ap (λ (r : Answered). plainlyBy (r .answer)) (c .before .question .ensures)

@@ -2,12 +2,8 @@
 use Rattle.asking.specs.declared.Asked.{Asked}
 use mathlib.Core.Path.{_∙_, ap}
 use Rattle.across.specs.Across.{reasonedBy}
-use Rattle.across.proofs.reason.Reads as reason-reads
 use Rattle.door.proofs.reading.door_question.Statement.{statement}
 use Rattle.door.proofs.reading.door_question.Tie as tie
-use Rattle.door.proofs.reading.door_question.Reads as reads
-use Rattle.door.proofs.reading.door_question.Lts as lts
-use Rattle.asking.proofs.question.Reads as question-reads
 
 returns : tie.Need-returns
 returns c = c .reason .ensures ∙ ap (λ (r : Asked). reasonedBy (r .answer)) (c .before .question .ensures)

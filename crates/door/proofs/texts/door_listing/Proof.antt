@@ -5,10 +5,6 @@ use mathlib.Core.Path.{_∙_, ap}
 use borrow.Author.Needs.{needs}
 use Rattle.door.proofs.texts.door_listing.Statement.{statement}
 use Rattle.door.proofs.texts.door_listing.Tie as tie
-use Rattle.door.proofs.texts.door_listing.Reads as reads
-use Rattle.door.proofs.texts.door_listing.Lts as lts
-use Rattle.across.proofs.written.Reads as written-reads
-use Rattle.listing.proofs.listing.Reads as listing-reads
 
 returns : tie.Need-returns
 returns c = let said = c .before .before .before .listing .ensures in (c .written .ensures ∙ ap (λ (r : Listed). wroteBy (r .answer)) (said .0), said .1)

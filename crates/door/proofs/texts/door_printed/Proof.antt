@@ -5,10 +5,6 @@ use mathlib.Core.Path.{_∙_, ap}
 use borrow.Author.Needs.{needs}
 use Rattle.door.proofs.texts.door_printed.Statement.{statement}
 use Rattle.door.proofs.texts.door_printed.Tie as tie
-use Rattle.door.proofs.texts.door_printed.Reads as reads
-use Rattle.door.proofs.texts.door_printed.Lts as lts
-use Rattle.across.proofs.written.Reads as written-reads
-use Rattle.listing.proofs.printed.Reads as printed-reads
 
 returns : tie.Need-returns
 returns c = let said = c .before .before .before .printed .ensures in (c .written .ensures ∙ ap (λ (w : Wrote). wroteBy (w .answer)) said, ap (λ (w : Wrote). w .bytes) said)

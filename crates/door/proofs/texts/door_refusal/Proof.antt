@@ -1,5 +1,5 @@
 -- `door::texts::door_refusal` meets its contract: 30 bytes hold every line of a refusal, and `lent::fit` writes it. Assumes nothing.
-use mathlib.Core.Path.{_∙_, _≡_, ap, sym}
+use mathlib.Core.Path.{_∙_, ap, sym}
 use lib.Seq.{length-take-le}
 use Prim.Native.Nat.{ℕ}
 use mathlib.Core.List.{List}
@@ -11,8 +11,6 @@ use Rattle.text.specs.Texts.{refusal}
 use borrow.Author.Needs.{needs}
 use Rattle.door.proofs.texts.door_refusal.Statement.{statement}
 use Rattle.door.proofs.texts.door_refusal.Tie as tie
-use Rattle.door.proofs.texts.door_refusal.Reads as reads
-use Rattle.door.proofs.texts.door_refusal.Lts as lts
 
 -- The function's entry, from after `refused`.
 abbrev entry : tie.After-refused → tie.Start

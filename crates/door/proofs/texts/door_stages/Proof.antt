@@ -5,10 +5,6 @@ use mathlib.Core.Path.{_∙_, ap}
 use borrow.Author.Needs.{needs}
 use Rattle.door.proofs.texts.door_stages.Statement.{statement}
 use Rattle.door.proofs.texts.door_stages.Tie as tie
-use Rattle.door.proofs.texts.door_stages.Reads as reads
-use Rattle.door.proofs.texts.door_stages.Lts as lts
-use Rattle.across.proofs.written.Reads as written-reads
-use Rattle.stagetext.proofs.lines.Reads as lines-reads
 
 returns : tie.Need-returns
 returns c = let said = c .before .before .before .lines .ensures in (c .written .ensures ∙ ap (λ (r : Listed). wroteBy (r .answer)) (said .0), said .1)

@@ -5,10 +5,6 @@ use mathlib.Core.Path.{_∙_, ap}
 use borrow.Author.Needs.{needs}
 use Rattle.door.proofs.texts.door_write.Statement.{statement}
 use Rattle.door.proofs.texts.door_write.Tie as tie
-use Rattle.door.proofs.texts.door_write.Reads as reads
-use Rattle.door.proofs.texts.door_write.Lts as lts
-use Rattle.across.proofs.written.Reads as written-reads
-use Rattle.writing.proofs.write.Reads as write-reads
 
 returns : tie.Need-returns
 returns c = let said = c .before .before .before .write .ensures in (c .written .ensures ∙ ap (λ (r : Listed). wroteBy (r .answer)) (said .0), said .1)

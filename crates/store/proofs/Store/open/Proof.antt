@@ -7,9 +7,6 @@ use Rattle.store.proofs.Judging.{open-a, open-done, open-m}
 use Rattle.store.specs.Calls.{answer}
 use Rattle.store.proofs.Store.open.Statement.{statement}
 use Rattle.store.proofs.Store.open.Tie as tie
-use Rattle.store.proofs.Store.open.Reads as reads
-use Rattle.store.proofs.Store.open.Lts as lts
-use Rattle.store.proofs.start.Reads as start-reads
 
 returns : tie.Need-returns
 returns c = let a = c .before .before .args in ap (answer Counts) (c .start .ensures) ∙ open-a (a .assumptions) (a .claims) (omega arith)
