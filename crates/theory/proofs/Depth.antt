@@ -57,6 +57,7 @@ Within N J = (r : Justification) → Mem r J → r.consequent ≤ N
 
 pub in_consequents : (J : List Justification) (r : Justification) → Mem r J → Mem r.consequent (consequents J)
 unfolding consequents
+in_consequents [] r m = elim m [ ]
 in_consequents (j ∷ J) r m = go (some_of (eqb j.consequent) (consequents J)) refl (λ k. in_consequents J r k)
   where
     go : (b : Bool) → some_of (eqb j.consequent) (consequents J) ≡ b → (Mem r J → Mem r.consequent (consequents J)) → Mem r.consequent (choose b (consequents J) (j.consequent ∷ consequents J))

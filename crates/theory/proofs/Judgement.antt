@@ -74,9 +74,9 @@ agree_intro s t e = rw e (agree_refl t)
 
 -- ---- the labels of a stage, as a list
 
-map_suc : (l : List ℕ) {n : ℕ} → Mem n l → Mem (suc n) (map suc l)
+map_suc : {n : ℕ} (l : List ℕ) → Mem n l → Mem (suc n) (map suc l)
 map_suc l (here e) = here (ap suc e)
-map_suc l (there {xs = xs} m) = there (map_suc xs m)
+map_suc {n = n} l (there {xs = xs} m) = there (map_suc {n = n} xs m)
 
 pub numbers_to_intro : (N n : ℕ) → n < N → Mem (suc n) (numbers_to N)
 unfolding numbers_to
@@ -175,7 +175,7 @@ long_some limit n (l ∷ ls) m e = go (ltb limit (length l)) refl e (long_some l
           record {
             there_is = omega (arith, r.2.there_is);
             over = r.2.over;
-            lower = λ j. elim j [
+            lower = λ j. elim j as (λ i. i < suc r.0 → length (get_or {A = List ℕ} (l ∷ ls) i []) ≤ limit) [
               | zero ↦ λ h. omega (arith, ltb-false limit (length l) t)
               | suc j' ↦ λ h. r.2.lower j' (le_of_suc-le-suc h)
             ];
