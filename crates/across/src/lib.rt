@@ -1,4 +1,6 @@
 // What goes across the door to programs in C and Rust: replies as numbers, the store by value, and what is asked of a bare list by its number.
+#![tactic(auto)]
+
 ghost use Rattle.std.specs.Prelude.{◌≡◌};
 ghost use Rattle.across.specs.Across.{kept_by, named_or0, plainly_by, query_by, reasoned_by, wrote_by};
 
@@ -11,7 +13,7 @@ use store::Store;
 
 // What a call that makes a store answers: the reply's number, the number that reply 8 names, the record of a file, and the store; 0 where there is none.
 #[repr(C)]
-#[derive(Drop)]
+#[derive(Clone, Copy)]
 pub struct Kept {
     pub reply: u32,
     pub named: u32,
@@ -21,7 +23,7 @@ pub struct Kept {
 
 // What a question answers: the reply's number; 2 for inconsistent, 1 for supported, 0 for unsupported; the set that it names, 0 where it names none.
 #[repr(C)]
-#[derive(Drop)]
+#[derive(Clone, Copy)]
 pub struct Reasoned {
     pub reply: u32,
     pub answer: u32,
@@ -30,7 +32,7 @@ pub struct Reasoned {
 
 // The reply's number, and what goes with reply 0: a set, or the length of a text.
 #[repr(C)]
-#[derive(Drop)]
+#[derive(Clone, Copy)]
 pub struct Told {
     pub reply: u32,
     pub value: usize,
@@ -38,7 +40,7 @@ pub struct Told {
 
 // What is asked of a list, in numbers: what is 0 for the word of a number, 1 for the context, and 2 or more for the stages; the number counts with 0 alone.
 #[repr(C)]
-#[derive(Drop)]
+#[derive(Clone, Copy)]
 pub struct Asked {
     pub assumptions: u32,
     pub claims: u32,

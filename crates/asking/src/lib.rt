@@ -1,4 +1,6 @@
 // Questions to a store, answered from its lists as they stand.
+#![tactic(auto)]
+
 ghost use Rattle.std.specs.Prelude.{◌&&◌, ◌++◌, ◌≡◌, ◌+◌, ◌≤◌, ◌<◌, length, take, drop};
 ghost use Rattle.members.specs.Promised.{first_within};
 ghost use Rattle.following.specs.Marks.{all_marks};
@@ -15,7 +17,7 @@ use store::{Outcome, Store};
 use theory::LABEL;
 
 // What a set is to a number: inconsistent because of a nogood, supported because of a member, or neither.
-#[derive(Drop)]
+#[derive(Clone, Copy)]
 pub enum Answer {
     Inconsistent(Set),
     Supported(Set),
@@ -23,20 +25,20 @@ pub enum Answer {
     Refused(Reply),
 }
 
-#[derive(Drop)]
+#[derive(Clone, Copy)]
 pub struct Asked {
     pub answer: Answer,
     pub store: Store,
 }
 
 // A member, or why there is none.
-#[derive(Drop)]
+#[derive(Clone, Copy)]
 pub enum Found {
     Is(Set),
     Not(Reply),
 }
 
-#[derive(Drop)]
+#[derive(Clone, Copy)]
 pub struct Shown {
     pub answer: Found,
     pub store: Store,

@@ -1,4 +1,6 @@
 // The plain path from a bare list of justifications: the items judged in order, then followed stage by stage.
+#![tactic(auto)]
+
 ghost use Rattle.std.specs.Prelude.{◌||◌, ◌≡◌, ◌+◌, ◌<◌, ◌≤◌, ltb, take};
 ghost use Rattle.theory.specs.Limits.{limits, over_counts};
 ghost use Rattle.theory.specs.Lists.{choose};
@@ -19,7 +21,7 @@ use theory::{ASSUMPTIONS, CLAIMS, HELD, MARKS, NUMBERS, SUPPORTS};
 const LAST: u8 = NUMBERS as u8;
 
 // What is asked of a list: of a number, of every number, or every stage.
-#[derive(Drop)]
+#[derive(Clone, Copy)]
 pub enum What {
     Number(u32),
     Context,
@@ -27,7 +29,7 @@ pub enum What {
 }
 
 // How many assumptions and claims there are, what is asked, and of which set.
-#[derive(Drop)]
+#[derive(Clone, Copy)]
 pub struct Query {
     pub assumptions: u32,
     pub claims: u32,
@@ -36,7 +38,7 @@ pub struct Query {
 }
 
 // The answer, as the call of a store gives it: a word, the reply of the context, or the length of the lines.
-#[derive(Drop)]
+#[derive(Clone, Copy)]
 pub enum Told {
     Word(Plain),
     Filled(Reply),
@@ -44,7 +46,7 @@ pub enum Told {
 }
 
 // A list that is being followed: the reply so far, the item at which it stands, the stage, whether that marked something new, and the marks.
-#[derive(Drop)]
+#[derive(Clone, Copy)]
 struct Chase {
     reply: Reply,
     assumptions: u8,

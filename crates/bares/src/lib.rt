@@ -1,4 +1,6 @@
 // The plain path of the list in hand.
+#![tactic(auto)]
+
 ghost use Rattle.std.specs.Prelude.{◌≤◌, length};
 ghost use Rattle.stagetext.specs.Stagetext.{longest};
 

@@ -9,7 +9,7 @@ use telling::{MOST, bad, fields, refused};
 use theory::{HELD, SUPPORTS};
 
 // The items noted, the first `count` of them.
-#[derive(Drop)]
+#[derive(Clone, Copy)]
 pub struct Hand {
     pub count: usize,
     pub items: [Handed; HELD],

@@ -1,4 +1,6 @@
 // The calls that change the store, one each: its fields read, the call made, its reply printed; and the list in hand.
+#![tactic(auto)]
+
 pub mod hands;
 
 use printing::say;

@@ -1,4 +1,6 @@
 // Case files: what a file spells, and what is held of it.
+#![tactic(auto)]
+
 ghost use Rattle.std.specs.Prelude.{true, ◌≡◌, ◌+◌, ◌<◌, ◌≤◌, length};
 ghost use Rattle.theory.specs.Limits.{limits};
 ghost use Rattle.rules.specs.Held.{fitting, held_of, held_right, meaning, said_by, top};
@@ -12,7 +14,7 @@ use rules::{Entry, Held};
 use store::Store;
 
 // What a file says: done, the announced count and all its justifications held; or the fault and its record.
-#[derive(Drop)]
+#[derive(Clone, Copy)]
 pub struct Parsed {
     pub reply: Reply,
     pub record: u32,
@@ -20,7 +22,7 @@ pub struct Parsed {
 }
 
 // What loading answers: the reply, the record, and the store; a refusal's store means nothing.
-#[derive(Drop)]
+#[derive(Clone, Copy)]
 pub struct Loaded {
     pub reply: Reply,
     pub record: u32,

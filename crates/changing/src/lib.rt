@@ -1,4 +1,6 @@
 // What is held with one justification more, or one less; or the refusal and what was held.
+#![tactic(auto)]
+
 ghost use Rattle.std.specs.Prelude.{true, ◌≡◌, ◌+◌, ◌≤◌};
 ghost use Rattle.theory.specs.Limits.{limits};
 ghost use Rattle.rules.specs.Held.{held_right};
@@ -9,7 +11,7 @@ use rules::Held;
 use theory::HELD;
 
 // A reply, and what is held after it.
-#[derive(Drop)]
+#[derive(Clone, Copy)]
 pub struct Changed {
     pub reply: Reply,
     pub held: Held,

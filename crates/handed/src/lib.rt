@@ -1,8 +1,10 @@
 // A justification as a list hands it over. No set width and no store is in it.
+#![tactic(auto)]
+
 use theory::SUPPORTS;
 
 #[repr(C)]
-#[derive(Drop)]
+#[derive(Clone, Copy)]
 pub struct Handed {
     pub consequent: u32,
     pub count: usize,

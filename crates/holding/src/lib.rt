@@ -1,4 +1,6 @@
 // One justification among those held, which are in their order: whether it is held, put in its place, taken out.
+#![tactic(auto)]
+
 mod order;
 
 ghost use Rattle.std.specs.Prelude.{true, ◌≡◌, ◌+◌, ◌-◌, ◌<◌, ◌≤◌};

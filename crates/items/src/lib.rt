@@ -1,4 +1,6 @@
 // The header and the records of a case file, each at its place.
+#![tactic(auto)]
+
 ghost use Rattle.std.specs.Prelude.{◌≡◌, ◌≤◌, length};
 ghost use Rattle.theory.specs.Limits.{limits};
 ghost use Rattle.items.specs.Steps.{IsHeader, IsRecord, item_of, supports_of, unread_of, within_of};
@@ -15,14 +17,14 @@ const MOST_RECORDS: u32 = HELD as u32;
 const MOST_SUPPORTS: u32 = SUPPORTS as u32;
 
 // A header's counts of assumptions, claims and records, and the place after it; or the fault.
-#[derive(Drop)]
+#[derive(Clone, Copy)]
 pub enum Counts {
     Read(u8, u8, u32, usize),
     Bad(Reply),
 }
 
 // The supports of a record, unused places zero, and the place after them; or the fault.
-#[derive(Drop)]
+#[derive(Clone, Copy)]
 struct Given {
     reply: Reply,
     next: usize,
@@ -30,7 +32,7 @@ struct Given {
 }
 
 // A record's justification in its place, and the place after the record; or the fault.
-#[derive(Drop)]
+#[derive(Clone, Copy)]
 pub struct Entered {
     pub reply: Reply,
     pub next: usize,

@@ -1,4 +1,6 @@
 // The joins of one member of the label of each support, offered to a pool of the smallest sets seen so far.
+#![tactic(auto)]
+
 pub mod pool;
 
 ghost use Rattle.std.specs.Prelude.{false, ◌≡◌, ◌≤◌, length, take};
@@ -14,7 +16,7 @@ use theory::{LABEL, NUMBERS};
 pub const MEMBERS: usize = NUMBERS * LABEL;
 
 // Whether a set struck or of the list lies within e, and which.
-#[derive(Drop)]
+#[derive(Clone, Copy)]
 enum Bar {
     Free,
     By(Set),

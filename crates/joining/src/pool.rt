@@ -12,7 +12,7 @@ use theory::NOGOODS;
 pub const POOL: usize = NOGOODS + 1;
 
 // How many sets a pool holds, whether one went out, and which did last; why what was just offered is refused from now on.
-#[derive(Drop)]
+#[derive(Clone, Copy)]
 pub struct Fill {
     pub count: usize,
     pub out: bool,

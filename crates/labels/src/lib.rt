@@ -1,5 +1,7 @@
 // One list of the next stage, in listing order: by a pool of the smallest candidates seen so far, in one walk over the candidates
 // where nothing went out for want of room, else in several, each of which begins with what the one before found.
+#![tactic(auto)]
+
 ghost use Rattle.std.specs.Prelude.{[], ◌∷◌, map, ◌≡◌, ◌+◌, ◌<◌, ◌≤◌, length, take};
 ghost use Rattle.joining.specs.Layout.{Layout, Ranged, lying};
 ghost use Rattle.joining.specs.Pool.{Offered, Roomy, filled};
@@ -135,7 +137,7 @@ fn pooled<'a>(
 }
 
 // A list as it was built: its members, or full where the count is one above the limit.
-#[derive(Drop)]
+#[derive(Clone, Copy)]
 pub struct Built {
     pub count: usize,
     pub sets: [Set; NOGOODS],

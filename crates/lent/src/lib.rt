@@ -1,18 +1,20 @@
 // What a call that writes into lent bytes answers, and the text into them.
+#![tactic(auto)]
+
 ghost use Rattle.lent.specs.Lent.{Leaves, fitted};
 
 use replies::Reply;
 use store::Store;
 
 // The length of a text, or why there is none.
-#[derive(Drop)]
+#[derive(Clone, Copy)]
 pub enum Written {
     Length(usize),
     Refused(Reply),
 }
 
 // The answer, and the store that came in.
-#[derive(Drop)]
+#[derive(Clone, Copy)]
 pub struct Listed {
     pub answer: Written,
     pub store: Store,

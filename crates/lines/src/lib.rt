@@ -1,4 +1,6 @@
 // The lines of the listing, into lent bytes.
+#![tactic(auto)]
+
 ghost use Rattle.std.specs.Prelude.{true, ◌≡◌, ◌≤◌};
 ghost use Rattle.theory.specs.Limits.{limits};
 ghost use Rattle.store.specs.Reading.{contradicted_in};

@@ -1,4 +1,6 @@
 // The listing program: a case file from standard input, its listing or one refusal to standard output.
+#![tactic(auto)]
+
 use libc::STDIN_FILENO;
 use theory::FILE;
 

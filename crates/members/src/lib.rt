@@ -1,4 +1,6 @@
 // The first member of a list that lies within a set.
+#![tactic(auto)]
+
 ghost use Rattle.members.specs.Promised.{FirstWithin};
 
 use sets::Set;

@@ -1,25 +1,27 @@
 // The numbers of a case file in groups of seven bits, taken from its bytes one after another.
+#![tactic(auto)]
+
 ghost use Rattle.std.specs.Prelude.{◌≡◌};
 ghost use Rattle.numbers.specs.Numbers.{AreNumbers, IsNumber, number_at, past_of};
 
 use replies::Reply;
 
 // A number and the place after it, or the fault.
-#[derive(Drop)]
+#[derive(Clone, Copy)]
 pub enum Number {
     Value(u32, usize),
     Bad(Reply),
 }
 
 // Two numbers one after another; after a fault the second is the first again.
-#[derive(Drop)]
+#[derive(Clone, Copy)]
 pub struct Pair {
     pub first: Number,
     pub second: Number,
 }
 
 // The bytes of a file and a place in them.
-#[derive(Drop)]
+#[derive(Clone, Copy)]
 struct Reader<'a> {
     src: &'a [u8],
     at: usize,

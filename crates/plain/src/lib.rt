@@ -1,4 +1,6 @@
 // The plain path: question and context without labels, from what follows from the set, stage by stage.
+#![tactic(auto)]
+
 ghost use Rattle.std.specs.Prelude.{◌≡◌, ◌≤◌, length};
 ghost use Rattle.theory.specs.Limits.{limits};
 ghost use Rattle.theory.specs.Lists.{choose};
@@ -12,7 +14,7 @@ use store::{Outcome, Store};
 use theory::{MARKS, NUMBERS};
 
 // What a set is to a number.
-#[derive(Drop)]
+#[derive(Clone, Copy)]
 pub enum Plain {
     Inconsistent,
     Supported,
@@ -20,14 +22,14 @@ pub enum Plain {
     Refused(Reply),
 }
 
-#[derive(Drop)]
+#[derive(Clone, Copy)]
 pub struct Told {
     pub answer: Plain,
     pub store: Store,
 }
 
 // The reply to a call that reads, and for each number the first stage at which it follows.
-#[derive(Drop)]
+#[derive(Clone, Copy)]
 pub struct Followed {
     pub reply: Reply,
     pub marks: [u8; MARKS],

@@ -1,4 +1,6 @@
 // Text on standard output; what failed on standard error.
+#![tactic(auto)]
+
 use lent::Written;
 use libc::{STDERR_FILENO, STDIN_FILENO, STDOUT_FILENO};
 use replies::Reply;

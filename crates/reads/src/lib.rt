@@ -1,4 +1,6 @@
 // The calls that read the store, one each: its fields read, the call made, its reply printed.
+#![tactic(auto)]
+
 ghost use Rattle.std.specs.Prelude.{◌≤◌};
 
 use asking::{Answer, Found};

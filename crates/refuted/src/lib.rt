@@ -1,1 +1,2 @@
 // No code: programs that the promises refute, the cases that are proved, and all of it in one.
+#![tactic(auto)]

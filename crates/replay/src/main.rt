@@ -1,4 +1,6 @@
 // Calls from a script on standard input, their replies to standard output.
+#![tactic(auto)]
+
 ghost use Rattle.std.specs.Prelude.{◌≤◌, length};
 
 use calls::hands;

@@ -1,7 +1,9 @@
 // The replies of document 01: done, already held, and each refusal.
+#![tactic(auto)]
+
 ghost use Rattle.replies.specs.Replies.{Numbered};
 
-#[derive(Drop)]
+#[derive(Clone, Copy)]
 pub enum Reply {
     Done,
     Already,

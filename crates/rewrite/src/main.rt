@@ -1,4 +1,6 @@
 // The rewriting program: a case file from standard input, what it holds as a case file to standard output; or one refusal to standard error.
+#![tactic(auto)]
+
 use lent::Written;
 use libc::STDIN_FILENO;
 use replies::Reply;

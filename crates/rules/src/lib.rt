@@ -1,4 +1,6 @@
 // Justifications as a store holds them: one in its place, and all of them in their order. No set width is in it.
+#![tactic(auto)]
+
 mod lists;
 
 ghost use Rattle.std.specs.Prelude.{◌&&◌, true, ◌≡◌, ◌+◌, ◌<◌, ◌≤◌, eqb, drop, length, take};
@@ -18,7 +20,7 @@ const MOST_SUPPORTS: u8 = SUPPORTS as u8;
 
 // A justification in its place: its supports rising, unused places zero.
 #[repr(C)]
-#[derive(Drop)]
+#[derive(Clone, Copy)]
 pub struct Entry {
     pub consequent: u8,
     pub count: u8,
@@ -27,7 +29,7 @@ pub struct Entry {
 
 // The counts of assumptions and claims, and the justifications held, in their order; unused places zero.
 #[repr(C)]
-#[derive(Drop)]
+#[derive(Clone, Copy)]
 pub struct Held {
     pub assumptions: u8,
     pub claims: u8,

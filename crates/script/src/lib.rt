@@ -1,4 +1,6 @@
 // Scripts of commands: the lines of a script, the fields of a line, the numbers that fields are, and the set that numbers make.
+#![tactic(auto)]
+
 ghost use Rattle.std.specs.Prelude.{◌≡◌, eqb};
 ghost use Rattle.script.specs.Promised.{AreBytes, AreNumbers, HasAbove, HasZero, IsField, IsHex, IsLineEnd, IsNumber, IsSame, IsSetOf};
 ghost use Rattle.script.specs.Script.{hex_digit, numeral_of, other, past, taken};
@@ -7,21 +9,21 @@ use sets::Set;
 use theory::ASSUMPTIONS;
 
 // The place of a field's first byte, and the place after its last.
-#[derive(Drop)]
+#[derive(Clone, Copy)]
 pub struct Span {
     pub from: usize,
     pub to: usize,
 }
 
 // The number that a field is.
-#[derive(Drop)]
+#[derive(Clone, Copy)]
 pub enum Numeral {
     Value(u32),
     Bad,
 }
 
 // How many fields were read.
-#[derive(Drop)]
+#[derive(Clone, Copy)]
 pub enum Read {
     Count(usize),
     Bad,

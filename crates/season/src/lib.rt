@@ -1,4 +1,6 @@
 // A list of justifications added in one call: the shape and the room for the bytes once, then item after item.
+#![tactic(auto)]
+
 ghost use Rattle.std.specs.Prelude.{true, ◌≡◌, ◌≤◌, take};
 ghost use Rattle.theory.specs.Limits.{limits};
 ghost use Rattle.store.specs.Calls.{answer};
@@ -11,14 +13,14 @@ use store::{Outcome, Store};
 use theory::{HELD, SUPPORTS};
 
 // A reply number, and the store that goes with it.
-#[derive(Drop)]
+#[derive(Clone, Copy)]
 struct Numbered {
     number: u8,
     store: Store,
 }
 
 // The reply to a whole list, and how many of its items are to be given.
-#[derive(Drop)]
+#[derive(Clone, Copy)]
 struct Begun {
     reply: Reply,
     turns: usize,

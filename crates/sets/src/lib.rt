@@ -1,4 +1,6 @@
 // Sets of assumptions as numbers: assumption k is worth 2^(k-1).
+#![tactic(auto)]
+
 ghost use Rattle.std.specs.Prelude.{◌≤◌};
 ghost use Rattle.theory.specs.Limits.{limits};
 ghost use Rattle.sets.specs.Promised.{Before, Has, Low, Meet, Only, Union, Within, Without};

@@ -1,4 +1,6 @@
 // Tests of lent slices: whether one has a number, has one above another, is zero, is the same as another.
+#![tactic(auto)]
+
 ghost use Rattle.std.specs.Prelude.{◌≡◌, eqb, ltb};
 ghost use Rattle.theory.specs.Judge.{same_sets};
 ghost use Rattle.theory.specs.Lists.{all_of, some_of};

@@ -1,4 +1,6 @@
 // The lists of a stage, from one stage to the next, and the walk to the depth.
+#![tactic(auto)]
+
 ghost use Rattle.std.specs.Prelude.{◌&&◌, not, ◌≡◌, ◌*◌, ◌+◌, ◌<◌, ◌≤◌, eqb, get_or, length, replicate, take};
 ghost use Rattle.std.proofs.Math.Seq.{paste};
 ghost use Rattle.theory.specs.Limits.{limits};
@@ -21,7 +23,7 @@ use theory::{HELD, LABEL, MARKS, NOGOODS, NUMBERS};
 
 // The labels and nogoods of a stage: label n from place n - 1 times its limit on, its size beside it; unused places zero.
 #[repr(C)]
-#[derive(Drop)]
+#[derive(Clone, Copy)]
 pub struct Lists {
     pub sizes: [u8; NUMBERS],
     pub members: [Set; MEMBERS],
@@ -31,7 +33,7 @@ pub struct Lists {
 }
 
 // What the stages say: done, with the lists at the depth, or the refusal, with no lists.
-#[derive(Drop)]
+#[derive(Clone, Copy)]
 pub struct Judged {
     pub reply: Reply,
     pub lists: Lists,
@@ -76,7 +78,7 @@ pub fn start(assumptions: u8) -> Lists
 }
 
 // A step to the next stage: done or the refusal, the nogoods there, and whether no list changed in it.
-#[derive(Drop)]
+#[derive(Clone, Copy)]
 struct Turn {
     reply: Reply,
     count: usize,

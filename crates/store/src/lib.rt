@@ -1,4 +1,6 @@
 // The store by value: its shape, opening, judging what is held, adding, withdrawing.
+#![tactic(auto)]
+
 ghost use Rattle.std.specs.Prelude.{◌≡◌, ◌≤◌};
 ghost use Rattle.theory.specs.Limits.{limits};
 ghost use Rattle.store.specs.Shape.{RightShape, held_fits};
@@ -20,14 +22,14 @@ const MOST_CLAIMS: u8 = CLAIMS as u8;
 
 // What is held, and the labels and nogoods at its depth.
 #[repr(C)]
-#[derive(Drop)]
+#[derive(Clone, Copy)]
 pub struct Store {
     pub held: Held,
     pub lists: Lists,
 }
 
 // A reply, and the store that goes with it.
-#[derive(Drop)]
+#[derive(Clone, Copy)]
 pub struct Outcome {
     pub reply: Reply,
     pub store: Store,

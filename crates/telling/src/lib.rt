@@ -1,4 +1,6 @@
 // What every call of a script tells: a bad line, a refusal, bytes as numbers, a text; and the fields that several read.
+#![tactic(auto)]
+
 ghost use Rattle.std.specs.Prelude.{◌≤◌};
 
 use lent::Written;

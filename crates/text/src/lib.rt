@@ -1,4 +1,6 @@
 // Texts into lent bytes: numbers, words, sets and lists of sets. Each is written from a place on; the answer is the place after it.
+#![tactic(auto)]
+
 ghost use Rattle.std.specs.Prelude.{◌≤◌, ltb};
 ghost use Rattle.theory.specs.Limits.{limits};
 ghost use Rattle.text.specs.Texts.{braced, digits, entered, field, heading, refusal, row, spaced};

@@ -1,4 +1,5 @@
 // What the documents mean, in specs/ and proofs/. In code only the limits: those of specs/Limits, as every contract has them.
+#![tactic(auto)]
 
 // Assumptions, which is the width of a set.
 pub const ASSUMPTIONS: u32 = 32;

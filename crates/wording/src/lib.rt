@@ -1,4 +1,6 @@
 // The text of one line of a store's listing: the number, its word, the members of its list.
+#![tactic(auto)]
+
 ghost use Rattle.std.specs.Prelude.{true, ◌≡◌, ◌≤◌};
 ghost use Rattle.theory.specs.Limits.{limits};
 ghost use Rattle.store.specs.Shape.{right_shape};

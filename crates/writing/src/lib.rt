@@ -1,4 +1,6 @@
 // The case file of a store, into lent bytes. Each part is written from a place on; the answer is the place after it.
+#![tactic(auto)]
+
 ghost use Rattle.std.specs.Prelude.{true, ◌≡◌, ◌<◌, ◌≤◌};
 ghost use Rattle.rules.specs.Held.{meaning};
 ghost use Rattle.store.specs.Shape.{held_fits};
