@@ -1,0 +1,15 @@
+-- `canonical` meets its contract. The loop: the place has the numbers below n that the supports have. Assumes nothing.
+use mathlib.Core.Path.{◌∙◌, ◌≡◌, ap, sym}
+use Prim.Native.Nat.{◌+◌, ◌-◌, ◌≤◌, ℕ}
+use native.Mathlib.Omega.{arith}
+use borrow.Author.Rules.{rules}
+use Rattle.rules.proofs.Faults.{faultless}
+use Rattle.rules.proofs.Taking.{partly_end, partly_head, partly_start}
+use Rattle.rules.specs.Placing.{partly}
+use Rattle.rules.proofs.canonical.Given as goal
+
+abbrev pub invariant-loop-n : goal.invariant-loop-n
+invariant-loop-n l = (l.n ≤ l.top + 1) × (l.entry ≡ partly l.consequent l.supports l.n)
+
+abbrev pub decreases-loop-n : goal.decreases-loop-n
+decreases-loop-n l = l.top + 1 - l.n

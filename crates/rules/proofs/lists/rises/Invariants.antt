@@ -1,0 +1,18 @@
+-- `rises` meets its contract. The loop: the list rises and has no n if the last number is at most the top and the rest rises from it and has none. Assumes nothing.
+use mathlib.Core.Bool.{◌&&◌, not}
+use mathlib.Core.Path.{◌∙◌, ◌≡◌, sym}
+use Prim.Native.Nat.{◌-◌, ◌<◌, ◌≤◌}
+use native.Mathlib.Omega.{arith}
+use lib.Dec.{eqb, leb}
+use lib.ListN.{drop, length}
+use borrow.Author.Rules.{rules}
+use Rattle.rules.proofs.Steps.{rises_end, rises_low, rises_more, rises_own, rises_start}
+use Rattle.rules.specs.Held.{climbs}
+use Rattle.theory.specs.Lists.{some_of}
+use Rattle.rules.proofs.lists.rises.Given as goal
+
+abbrev pub invariant-loop-i : goal.invariant-loop-i
+invariant-loop-i l = (l.i ≤ length l.l) × (l.last < 256) × (climbs l.top 0 l.l && not (some_of (eqb l.n) l.l) ≡ leb l.last l.top && (climbs l.top l.last (drop l.i l.l) && not (some_of (eqb l.n) (drop l.i l.l))))
+
+abbrev pub decreases-loop-i : goal.decreases-loop-i
+decreases-loop-i l = length l.l - l.i
