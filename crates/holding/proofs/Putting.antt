@@ -48,14 +48,14 @@ module _ (r : Justification) where
       go true m = there m
       go false m = here refl
 
-  pub put_old : {l : List Justification} {x : Justification} → Mem x l → Mem x (put r l)
+  pub put_old : {x : Justification} {l : List Justification} → Mem x l → Mem x (put r l)
   unfolding put
   put_old {x = x} (here {x = t} {xs = l} e) = go (ahead t r)
     where
       go : (b : Bool) → Mem x (choose b (t ∷ put r l) (r ∷ t ∷ l))
       go true = here e
       go false = there (here e)
-  put_old {x = x} (there {x = t} {xs = l} m) = go (ahead t r) (put_old m)
+  put_old {x = x} (there {x = t} {xs = l} m) = go (ahead t r) (put_old {x = x} m)
     where
       go : (b : Bool) → Mem x (put r l) → Mem x (choose b (t ∷ put r l) (r ∷ t ∷ l))
       go true n = there n

@@ -1,0 +1,19 @@
+-- `following::closed` meets its contract. Assumes nothing.
+use Rattle.rules.specs.Held.{said_by}
+use Rattle.following.specs.Marks.{sown}
+use Rattle.following.proofs.Closing.{Closes, Closing, closing_end, closing_next, closing_same, closing_start, hurried_closes, hurried_long}
+use Rattle.following.proofs.Passing.{pass_long}
+use Rattle.following.proofs.Places.{held_placed}
+use mathlib.Core.Path.{◌≡◌, sym, ap, ◌∙◌}
+use Prim.Native.Nat.{◌+◌, ◌-◌, ℕ}
+use native.Mathlib.Omega.{arith}
+use borrow.Author.Rules.{rules}
+use lib.ListN.{length}
+use Rattle.theory.specs.Limits.{limits}
+use Rattle.following.proofs.closed.Given as goal
+
+abbrev pub invariant-loop-k : goal.invariant-loop-k
+invariant-loop-k l = (length l.marks ≡ limits.numbers + 1) × Closing (said_by l.held) l.initial.marks l.k l.marks
+
+abbrev pub decreases-loop-k : goal.decreases-loop-k
+decreases-loop-k l = (limits.numbers + 1) - l.k

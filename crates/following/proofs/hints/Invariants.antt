@@ -1,0 +1,16 @@
+-- `following::hints` is safe; its answer is a hint and nothing is said of it but its length. Assumes nothing.
+use mathlib.Core.Path.{◌∙◌, ◌≡◌}
+use Prim.Native.Nat.{◌+◌, ◌-◌, ◌≤◌}
+use native.Mathlib.Omega.{arith}
+use borrow.Author.Rules.{rules}
+use lib.ListN.{length, length-set}
+use Rattle.following.proofs.Places.{entry_first}
+use Rattle.rules.proofs.Scan.{right_elim}
+use Rattle.theory.specs.Limits.{limits}
+use Rattle.following.proofs.hints.Given as goal
+
+abbrev pub invariant-loop-j : goal.invariant-loop-j
+invariant-loop-j l = (l.j ≤ l.count) × (length l.places ≡ limits.numbers + 1)
+
+abbrev pub decreases-loop-j : goal.decreases-loop-j
+decreases-loop-j l = l.count - l.j

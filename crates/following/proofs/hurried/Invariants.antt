@@ -1,0 +1,15 @@
+-- `following::hurried` meets its contract. The invariant: justifications held were gone over. Assumes nothing.
+use Prim.Native.Nat.{◌+◌, ◌-◌}
+use native.Mathlib.Omega.{arith}
+use borrow.Author.Rules.{rules}
+use Rattle.following.proofs.Closing.{hurried_none, hurried_then}
+use Rattle.following.specs.Promised.{Hurried}
+use Rattle.rules.specs.Held.{said_by}
+use Rattle.theory.specs.Limits.{limits}
+use Rattle.following.proofs.hurried.Given as goal
+
+abbrev pub invariant-loop-n : goal.invariant-loop-n
+invariant-loop-n l = Hurried (said_by l.held) l.initial.marks l.marks
+
+abbrev pub decreases-loop-n : goal.decreases-loop-n
+decreases-loop-n l = (limits.numbers + 1) - l.n

@@ -1,0 +1,15 @@
+-- `less` meets its contract. The loop: the lists compare as their rests do. Assumes nothing.
+use mathlib.Core.Path.{◌∙◌, ◌≡◌, refl, sym}
+use Prim.Native.Nat.{◌-◌, ◌≤◌}
+use native.Mathlib.Omega.{arith}
+use lib.ListN.{drop, length}
+use borrow.Author.Rules.{rules}
+use Rattle.holding.proofs.Steps.{less_end, less_more, less_no, less_yes}
+use Rattle.theory.specs.Stages.{lesser}
+use Rattle.holding.proofs.order.less.Given as goal
+
+abbrev pub invariant-loop-i : goal.invariant-loop-i
+invariant-loop-i l = (l.i ≤ length l.a) × (lesser l.a l.b ≡ lesser (drop l.i l.a) (drop l.i l.b))
+
+abbrev pub decreases-loop-i : goal.decreases-loop-i
+decreases-loop-i l = length l.a - l.i

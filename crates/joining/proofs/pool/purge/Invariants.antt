@@ -1,0 +1,16 @@
+-- `joining::pool::purge` meets its contract. Assumes nothing.
+use mathlib.Core.List.{◌++◌}
+use mathlib.Core.Path.{◌∙◌, ◌≡◌, ap, refl}
+use Prim.Native.Nat.{◌-◌, ◌≤◌}
+use native.Mathlib.Omega.{arith}
+use lib.ListN.{drop, length, length-set, take}
+use borrow.Author.Rules.{rules}
+use Rattle.joining.specs.Pool.{purged}
+use Rattle.joining.proofs.Pools.{purge_end, purge_low, purge_turn, rest_all}
+use Rattle.joining.proofs.pool.purge.Given as goal
+
+abbrev pub invariant-loop-i : goal.invariant-loop-i
+invariant-loop-i l = (l.i ≤ l.count) × (l.kept ≤ l.i) × (length l.pool ≡ length l.initial.pool) × (purged l.e (take l.count l.initial.pool) ≡ take l.kept l.pool ++ purged l.e (take (l.count - l.i) (drop l.i l.pool)))
+
+abbrev pub decreases-loop-i : goal.decreases-loop-i
+decreases-loop-i l = l.count - l.i
