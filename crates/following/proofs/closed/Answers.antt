@@ -17,10 +17,6 @@ loop-k-init c =
     let e : length c.args.start ≡ limits.numbers + 1 = search rules in
     (hurried_long _ _ _ c.hurried-marks.ensures ∙ e, closing_start (said_by c.args.held) (held_placed _ c.requires) c.hurried-marks.result)
 
--- the marks at the loop's head are those of stage 0, some justifications gone over
-begun : (c : tie.After-hurried invariant-loop decreases-loop) (E : ℕ) → c.before.args.start ≡ sown E → Closes (said_by c.before.args.held) E 0 c.hurried.result
-begun c E b = let s = c.before in hurried_closes (said_by s.args.held) (held_placed _ s.requires) s.args.start c.hurried.result c.hurried.ensures E b
-
 pub pass-next-requires : goal.pass-next-requires
 pass-next-requires c = c.requires
 
@@ -33,7 +29,7 @@ slice_bounds-equal-end-in-loop-k c = sym c.loop-k.invariant.0
 pub returns-then-equal : goal.returns-then-equal
 returns-then-equal c E b =
     let l = c.loop-k in
-    closing_same (said_by c.args.held) (held_placed _ c.requires) c.hurried-marks.result l.k l.marks c.pass-next.result l.invariant.0 l.invariant.1 c.pass-next.ensures _ c.equal.ensures c.if-equal.true E (begun c E b)
+    closing_same (said_by c.args.held) (held_placed _ c.requires) c.hurried-marks.result l.k l.marks c.pass-next.result l.invariant.0 l.invariant.1 c.pass-next.ensures _ c.equal.ensures c.if-equal.true E ((hurried_closes (said_by c.args.held) (held_placed _ c.requires) c.args.start c.hurried-marks.result c.hurried-marks.ensures E b))
 
 pub overflow_add-k : goal.overflow_add-k
 overflow_add-k c = omega (arith, c.loop-k-test.true)
@@ -49,4 +45,4 @@ loop-k-preserved c =
 pub returns : goal.returns
 returns c E b =
     let l = c.loop-k in
-    closing_end (said_by c.args.held) (held_placed _ c.requires) c.hurried-marks.result l.k l.marks l.invariant.0 c.loop-k-test.false l.invariant.1 E (begun c E b)
+    closing_end (said_by c.args.held) (held_placed _ c.requires) c.hurried-marks.result l.k l.marks l.invariant.0 c.loop-k-test.false l.invariant.1 E ((hurried_closes (said_by c.args.held) (held_placed _ c.requires) c.args.start c.hurried-marks.result c.hurried-marks.ensures E b))
