@@ -15,3 +15,7 @@ invariant-loop-at l = Turning l.members l.sizes l.supports l.struck l.joined l.i
 
 abbrev pub decreases-loop-at : goal.decreases-loop-at
 decreases-loop-at l = l.end - l.at
+
+-- the supports left
+abbrev pub decreases-gather : goal.decreases-gather
+decreases-gather l = length l.supports.now

@@ -16,16 +16,16 @@ squeeze-last-requires c = (search rules, purge_sorted c.args.e _ _ c.purge-kept.
 pub returns-then-room-kept : goal.returns-then-room-kept
 returns-then-room-kept c =
     let e : length c.args.pool.now ≡ limits.nogoods + 1 = search rules in
-    let same = c.squeeze-last.auto.0 ∙ c.purge-kept.auto.0 in (
-      subst (λ (v : ℕ). Entered c.args.pool.now c.args.fill c.args.e c.squeeze-last.new.0 (record { count = v; out = true; bound = c.squeeze-last.result; why = c.args.e })) e
-          (enter_full c.args.pool.now c.purge-kept.new.0 c.squeeze-last.new.0 c.args.fill c.args.e c.purge-kept.result c.squeeze-last.result same c.requires.fits c.purge-kept.ensures.0 c.purge-kept.ensures.1 c.squeeze-last.ensures (omega (arith, e, c.if-room-kept.true))),
+    let same = c.squeeze-last.auto.pool ∙ c.purge-kept.auto.pool in (
+      subst (λ (v : ℕ). Entered c.args.pool.now c.args.fill c.args.e c.squeeze-last.new.pool (record { count = v; out = true; bound = c.squeeze-last.result; why = c.args.e })) e
+          (enter_full c.args.pool.now c.purge-kept.new.pool c.squeeze-last.new.pool c.args.fill c.args.e c.purge-kept.result c.squeeze-last.result same c.requires.fits c.purge-kept.ensures.0 c.purge-kept.ensures.1 c.squeeze-last.ensures (omega (arith, e, c.if-room-kept.true))),
       same,
     )
 
 pub returns : goal.returns
 returns c =
     let e : length c.args.pool.now ≡ limits.nogoods + 1 = search rules in
-    let same = c.squeeze-last.auto.0 ∙ c.purge-kept.auto.0 in (
-      enter_room c.args.pool.now c.purge-kept.new.0 c.squeeze-last.new.0 c.args.fill c.args.e c.purge-kept.result c.squeeze-last.result same c.requires.fits c.purge-kept.ensures.0 c.purge-kept.ensures.1 c.squeeze-last.ensures (omega (arith, e, c.if-room-kept.false)),
-      length-set c.squeeze-last.new.0 _ _ ∙ same,
+    let same = c.squeeze-last.auto.pool ∙ c.purge-kept.auto.pool in (
+      enter_room c.args.pool.now c.purge-kept.new.pool c.squeeze-last.new.pool c.args.fill c.args.e c.purge-kept.result c.squeeze-last.result same c.requires.fits c.purge-kept.ensures.0 c.purge-kept.ensures.1 c.squeeze-last.ensures (omega (arith, e, c.if-room-kept.false)),
+      length-set c.squeeze-last.new.pool _ _ ∙ same,
     )
