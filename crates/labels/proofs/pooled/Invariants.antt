@@ -1,0 +1,24 @@
+-- `labels::pooled` meets its contract. Assumes nothing.
+use mathlib.Core.List.{[], ◌∷◌, map}
+use mathlib.Core.Path.{◌∙◌, refl, subst, sym}
+use Prim.Native.Nat.{◌-◌, ◌<◌, ◌≤◌}
+use native.Mathlib.Omega.{arith}
+use borrow.Author.Rules.{rules}
+use Rattle.labels.proofs.Candidates.{joins_on, joins_over}
+use Rattle.labels.proofs.Ranges.{entries_long, entry_is, part_few, part_hushed, part_ranged}
+use Rattle.labels.proofs.Walks.{Left, left_all, left_end, left_hushed, left_roomy}
+use Rattle.labels.specs.Entries.{Few, between, entries_of}
+use Rattle.joining.specs.Layout.{Ranged, lying}
+use Rattle.labels.specs.Moved.{Hushed}
+use Rattle.joining.specs.Pool.{Offered, filled}
+use Rattle.rules.proofs.Steps.{beyond}
+use Rattle.rules.specs.Held.{meaning}
+use Rattle.rules.specs.declared.Entry.{Entry}
+use Rattle.theory.specs.Step.{joins_for}
+use Rattle.labels.proofs.pooled.Given as goal
+
+abbrev pub invariant-loop-j : goal.invariant-loop-j
+invariant-loop-j l = (l.lo ≤ l.j) × (Left l.struck (joins_for (lying l.members l.sizes) l.n (map meaning (between (entries_of l.rules) l.lo l.hi))) l.initial.pool l.initial.now (joins_for (lying l.members l.sizes) l.n (map meaning (between (entries_of l.rules) l.j l.hi))) l.pool l.now × Hushed (lying l.members l.sizes) (map meaning (between (entries_of l.rules) l.lo l.hi)) l.n l.struck l.moved (filled l.pool l.now))
+
+abbrev pub decreases-loop-j : goal.decreases-loop-j
+decreases-loop-j l = l.hi - l.j
