@@ -1,0 +1,16 @@
+-- `stages::start` meets its contract. Assumes nothing.
+use Rattle.stages.proofs.Stages.{members_more, members_none, members_to, sizes_more, sizes_none, sizes_to, start_made}
+use mathlib.Core.Path.{◌∙◌, ◌≡◌, ap₂, refl}
+use Prim.Native.Nat.{◌-◌, ◌≤◌, ◌<◌, ℕ}
+use lib.ListN.{replicate}
+use Rattle.stages.specs.declared.Lists.{Lists}
+use native.Mathlib.Omega.{arith}
+use borrow.Author.Rules.{rules}
+use Rattle.theory.specs.Limits.{limits}
+use Rattle.stages.proofs.start.Given as goal
+
+abbrev pub invariant-loop-i : goal.invariant-loop-i
+invariant-loop-i l = (l.i ≤ l.assumptions) × (l.lists.sizes ≡ sizes_to l.i) × (l.lists.members ≡ members_to l.i) × (l.lists.count ≡ 0) × (l.lists.nogoods ≡ replicate limits.nogoods 0) × (l.lists.depth ≡ 0)
+
+abbrev pub decreases-loop-i : goal.decreases-loop-i
+decreases-loop-i l = l.assumptions - l.i
