@@ -1,0 +1,16 @@
+-- `all` meets its contract. The loop: what was seen, with the rest, is all of it. Assumes nothing.
+use mathlib.Core.Path.{◌∙◌, ◌≡◌, ap}
+use Prim.Native.Nat.{◌+◌, ◌-◌, ◌≤◌, ℕ}
+use native.Mathlib.Omega.{arith}
+use lib.ListN.{drop, length}
+use borrow.Author.Rules.{rules}
+use Rattle.shape.proofs.Laws.{union_end, union_on, union_start}
+use Rattle.shape.specs.Shape.{union_of}
+use Rattle.theory.specs.Sets.{union}
+use Rattle.shape.proofs.all.Given as goal
+
+abbrev pub invariant-loop-i : goal.invariant-loop-i
+invariant-loop-i l = (l.i ≤ length l.l) × (union l.seen (union_of (drop l.i l.l)) ≡ union_of l.l)
+
+abbrev pub decreases-loop-i : goal.decreases-loop-i
+decreases-loop-i l = length l.l - l.i
