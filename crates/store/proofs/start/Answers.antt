@@ -1,0 +1,7 @@
+-- `start` meets its contract: nothing held, and the lists of nothing. Assumes nothing.
+use borrow.Author.Rules.{rules}
+use Rattle.store.proofs.Judging.{start_store_lem}
+use Rattle.store.proofs.start.Goals as goal
+
+pub returns : goal.returns
+returns c = let a = c.args in start_store_lem a.a a.m _ _ c.nothing-held.ensures c.start-lists.ensures
