@@ -1,4 +1,1 @@
 pub mod Supplied
-pub mod Walked
-pub mod Array
-pub mod First

@@ -71,6 +71,9 @@ module _ (l : List ℕ) (at : ℕ) where
         pub two_bytes : 1 ≤ c → c < 128 → Value (b - 128 + 128 * c) (at + 2) ≡ number_at l at
         two_bytes e g = value (b - 128 + 128 * c) (at + 2) (omega arith) (on ∙ rw (second k, le-leb 1 c e, lt-ltb c 128 g))
 
+-- each case of a number at a place
+pub ruleset cases = (no_first, one_byte, no_second, zero_second, high_second, two_bytes)
+
 -- ---- what a number at a place says of the bytes from there on
 
 -- the bytes from a place on stand at that place

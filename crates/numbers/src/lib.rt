@@ -28,6 +28,7 @@ struct Reader<'a> {
 }
 
 // The number at a place of the bytes.
+#[tactic(auto, using(crate::proofs::Numbers::cases))]
 fn number_at(bytes: &[u8], at: usize) -> Number
     ensures { result ≡ number_at bytes.now at }
 {
