@@ -1,13 +1,9 @@
 -- `text::braces` meets its contract. The invariant: from assumption k on, the rest of the text is left to be written. Assumes nothing.
 use mathlib.Core.Bool.{false}
-use mathlib.Core.List.{[], ◌∷◌}
 use Prim.Native.Nat.{◌+◌, ◌-◌, ◌≤◌}
-use native.Mathlib.Omega.{arith}
 use lib.Dec.{ltb}
-use lib.ListN.{set}
-use Rattle.text.specs.Texts.{braced}
-use Rattle.text.proofs.Rests.{braced_rest, rest, rest_again, rest_over, rest_room, rest_start}
-use Rattle.text.proofs.Writing.{Left, left_as, left_byte, left_none, put_length}
+use Rattle.text.proofs.Rests.{rest}
+use Rattle.text.proofs.Writing.{Left}
 use Rattle.theory.specs.Limits.{limits}
 use Rattle.text.proofs.braces.Given as goal
 

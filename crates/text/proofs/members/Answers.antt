@@ -1,9 +1,8 @@
--- `text::members` meets its contract. The invariant: the text of the rest of the list is left to be written. Assumes nothing.
-use mathlib.Core.List.{[], ◌++◌, ◌∷◌}
-use mathlib.Core.Path.{◌≡◌, refl}
-use Prim.Native.Nat.{◌+◌, ◌-◌, ◌<◌, ◌≤◌}
+-- `text::members` meets its contract. Assumes nothing.
+use mathlib.Core.List.{List, [], ◌++◌, ◌∷◌}
+use mathlib.Core.Path.{refl}
+use Prim.Native.Nat.{◌+◌, ◌<◌, ◌≤◌, ℕ}
 use native.Mathlib.Omega.{arith}
-use borrow.Author.Rules.{scaled_Fits}
 use lib.ListN.{drop, get_or, length}
 use Rattle.text.specs.Texts.{braced, spaced}
 use Rattle.text.proofs.Rests.{spaced_end, spaced_turn}
@@ -11,32 +10,28 @@ use Rattle.text.proofs.Writing.{Left, left_byte, left_none, left_room, left_star
 use Rattle.theory.specs.Limits.{limits}
 use Rattle.text.proofs.members.Goals as goal
 
+-- what is left of the list's text, within it and at its end
+module _ (w : List ℕ) {next at : ℕ} {b b₀ : List ℕ} (i : ℕ) (l : Left (spaced limits.assumptions (drop i w)) next b (spaced limits.assumptions w) at b₀) where
+  turn : i < length w → Left (32 ∷ (braced limits.assumptions (get_or w i 0) ++ spaced limits.assumptions (drop (i + 1) w))) next b (spaced limits.assumptions w) at b₀
+  turn h = rw (← spaced_turn limits.assumptions w i h) l
+
+  ended : length w ≤ i → Left [] next b (spaced limits.assumptions w) at b₀
+  ended h = rw (spaced_end limits.assumptions w i h) at l
+
 pub loop-i-init : goal.loop-i-init
 loop-i-init c = (refl, omega arith, left_start c.requires)
 
 pub bounds-out-next : goal.bounds-out-next
-bounds-out-next c = omega (arith, ((let turn : let i = c.loop-i.i in let l = c.args.list.now in Left (32 ∷ (braced limits.assumptions (get_or l i 0) ++ spaced limits.assumptions (drop (i + 1) l))) c.loop-i.next c.loop-i.out (spaced limits.assumptions l) c.args.at c.args.out.now = rw (← spaced_turn limits.assumptions c.args.list.now c.loop-i.i ((let inside : c.loop-i.i < length c.args.list.now = omega arith in inside))) c.loop-i.invariant.2 in turn)).room)
-
-pub offset_bounds-list-i : goal.offset_bounds-list-i
-offset_bounds-list-i c = scaled_Fits _ _ _ ((let inside : c.loop-i.i < length c.args.list.now = omega arith in inside)) c.good.0.1
-
-pub bounds-list-i : goal.bounds-list-i
-bounds-list-i c = (let inside : c.loop-i.i < length c.args.list.now = omega arith in inside)
+bounds-out-next c = omega (arith, (turn c.args.list.now c.loop-i.i c.loop-i.invariant.2 (omega arith)).room)
 
 pub overflow_add-next : goal.overflow_add-next
-overflow_add-next c = omega (arith, ((let turn : let i = c.loop-i.i in let l = c.args.list.now in Left (32 ∷ (braced limits.assumptions (get_or l i 0) ++ spaced limits.assumptions (drop (i + 1) l))) c.loop-i.next c.loop-i.out (spaced limits.assumptions l) c.args.at c.args.out.now = rw (← spaced_turn limits.assumptions c.args.list.now c.loop-i.i ((let inside : c.loop-i.i < length c.args.list.now = omega arith in inside))) c.loop-i.invariant.2 in turn)).room, ((let turn : let i = c.loop-i.i in let l = c.args.list.now in Left (32 ∷ (braced limits.assumptions (get_or l i 0) ++ spaced limits.assumptions (drop (i + 1) l))) c.loop-i.next c.loop-i.out (spaced limits.assumptions l) c.args.at c.args.out.now = rw (← spaced_turn limits.assumptions c.args.list.now c.loop-i.i ((let inside : c.loop-i.i < length c.args.list.now = omega arith in inside))) c.loop-i.invariant.2 in turn)).same)
+overflow_add-next c = let l = turn c.args.list.now c.loop-i.i c.loop-i.invariant.2 (omega arith) in omega (arith, l.room, l.same)
 
 pub braces-next-requires : goal.braces-next-requires
-braces-next-requires c = left_room (braced limits.assumptions (get_or c.args.list.now c.loop-i.i 0)) _ (left_byte _ _ ((let turn : let i = c.loop-i.i in let l = c.args.list.now in Left (32 ∷ (braced limits.assumptions (get_or l i 0) ++ spaced limits.assumptions (drop (i + 1) l))) c.loop-i.next c.loop-i.out (spaced limits.assumptions l) c.args.at c.args.out.now = rw (← spaced_turn limits.assumptions c.args.list.now c.loop-i.i ((let inside : c.loop-i.i < length c.args.list.now = omega arith in inside))) c.loop-i.invariant.2 in turn)))
-
-pub overflow_step-i : goal.overflow_step-i
-overflow_step-i c = omega (arith, (let inside : c.loop-i.i < length c.args.list.now = omega arith in inside))
+braces-next-requires c = left_room (braced limits.assumptions (get_or c.args.list.now c.loop-i.i 0)) _ (left_byte _ _ (turn c.args.list.now c.loop-i.i c.loop-i.invariant.2 (omega arith)))
 
 pub loop-i-preserved : goal.loop-i-preserved
-loop-i-preserved c = (c.loop-i.invariant.0, omega (arith, (let inside : c.loop-i.i < length c.args.list.now = omega arith in inside)), left_then _ _ (left_byte _ _ ((let turn : let i = c.loop-i.i in let l = c.args.list.now in Left (32 ∷ (braced limits.assumptions (get_or l i 0) ++ spaced limits.assumptions (drop (i + 1) l))) c.loop-i.next c.loop-i.out (spaced limits.assumptions l) c.args.at c.args.out.now = rw (← spaced_turn limits.assumptions c.args.list.now c.loop-i.i ((let inside : c.loop-i.i < length c.args.list.now = omega arith in inside))) c.loop-i.invariant.2 in turn))) c.braces-next.ensures)
-
-pub shape_of-out : goal.shape_of-out
-shape_of-out c = ((let ended : Left [] c.loop-i.next c.loop-i.out (spaced limits.assumptions c.args.list.now) c.args.at c.args.out.now = rw (spaced_end limits.assumptions c.args.list.now c.loop-i.i (omega arith)) at c.loop-i.invariant.2 in ended)).same
+loop-i-preserved c = (c.loop-i.invariant.0, omega arith, left_then _ _ (left_byte _ _ (turn c.args.list.now c.loop-i.i c.loop-i.invariant.2 (omega arith))) c.braces-next.ensures)
 
 pub returns : goal.returns
-returns c = left_none ((let ended : Left [] c.loop-i.next c.loop-i.out (spaced limits.assumptions c.args.list.now) c.args.at c.args.out.now = rw (spaced_end limits.assumptions c.args.list.now c.loop-i.i (omega arith)) at c.loop-i.invariant.2 in ended))
+returns c = left_none (ended c.args.list.now c.loop-i.i c.loop-i.invariant.2 (omega arith))

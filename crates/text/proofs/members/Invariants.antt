@@ -1,13 +1,9 @@
 -- `text::members` meets its contract. The invariant: the text of the rest of the list is left to be written. Assumes nothing.
-use mathlib.Core.List.{[], ◌++◌, ◌∷◌}
-use mathlib.Core.Path.{◌≡◌, refl}
-use Prim.Native.Nat.{◌+◌, ◌-◌, ◌<◌, ◌≤◌}
-use native.Mathlib.Omega.{arith}
-use borrow.Author.Rules.{scaled_Fits}
-use lib.ListN.{drop, get_or, length}
-use Rattle.text.specs.Texts.{braced, spaced}
-use Rattle.text.proofs.Rests.{spaced_end, spaced_turn}
-use Rattle.text.proofs.Writing.{Left, left_byte, left_none, left_room, left_start, left_then}
+use mathlib.Core.Path.{◌≡◌}
+use Prim.Native.Nat.{◌-◌, ◌≤◌}
+use lib.ListN.{drop, length}
+use Rattle.text.specs.Texts.{spaced}
+use Rattle.text.proofs.Writing.{Left}
 use Rattle.theory.specs.Limits.{limits}
 use Rattle.text.proofs.members.Given as goal
 

@@ -3,28 +3,47 @@ use mathlib.Core.List.{List, [], ◌++◌, ◌∷◌}
 use Prim.Native.Nat.{ℕ}
 use native.Mathlib.Omega.{arith}
 use Rattle.text.specs.Texts.{field, refusal, word}
+use Rattle.text.specs.Writing.{Put, Room}
 use Rattle.text.proofs.Writing.{Left, left_byte, left_none, left_room, left_start, left_then}
-use borrow.Author.Rules.{rules}
 use Rattle.text.proofs.refused.Goals as goal
+
+-- what is left to be written of the whole line, from each of its parts on
+module _ (r k : ℕ) {b₀ : List ℕ} (h : Room (refusal r k) 0 b₀) where
+  begun : Left (word "refused" ++ (field r ++ (field k ++ (10 ∷ [])))) 0 b₀ (refusal r k) 0 b₀
+  unfolding refusal word
+  begun = left_start h
+
+  module _ {b₁ : List ℕ} {r₁ : ℕ} (p₁ : Put (word "refused") 0 b₀ b₁ r₁) where
+    worded : Left (field r ++ (field k ++ (10 ∷ []))) r₁ b₁ (refusal r k) 0 b₀
+    worded = left_then (word "refused") _ begun p₁
+
+    module _ {b₂ : List ℕ} {r₂ : ℕ} (p₂ : Put (field r) r₁ b₁ b₂ r₂) where
+      first : Left (field k ++ (10 ∷ [])) r₂ b₂ (refusal r k) 0 b₀
+      first = left_then (field r) _ worded p₂
+
+      second : {b₃ : List ℕ} {r₃ : ℕ} → Put (field k) r₂ b₂ b₃ r₃ → Left (10 ∷ []) r₃ b₃ (refusal r k) 0 b₀
+      second p₃ = left_then (field k) _ first p₃
 
 pub copy-at-requires : goal.copy-at-requires
 unfolding word
-copy-at-requires c = left_room (word "refused") _ ((let begun : Rest c (word "refused" ++ (field c.args.number ++ (field c.args.«record» ++ (10 ∷ [])))) 0 c.args.out.now = left_start c.requires in begun))
+copy-at-requires c = let i = c.args in left_room (word "refused") _ (begun i.number i.«record» c.requires)
 
 pub field-at-requires : goal.field-at-requires
-field-at-requires c = left_room (field c.args.number) _ ((let worded : Rest c (field c.args.number ++ (field c.args.«record» ++ (10 ∷ []))) c.copy-at.result c.copy-at.new.1.1.0 = left_then (word "refused") _ ((let begun : Rest c (word "refused" ++ (field c.args.number ++ (field c.args.«record» ++ (10 ∷ [])))) 0 c.args.out.now = left_start c.requires in begun)) c.copy-at.ensures in worded))
+unfolding word
+field-at-requires c = let i = c.args in left_room (field i.number) _ (worded i.number i.«record» c.requires c.copy-at.ensures)
 
 pub field-at-requires-2 : goal.field-at-requires-2
-field-at-requires-2 c = left_room (field c.args.«record») _ ((let first : Rest c (field c.args.«record» ++ (10 ∷ [])) c.field-at.result c.field-at.new.1.1.0 = left_then _ _ ((let worded : Rest c (field c.args.number ++ (field c.args.«record» ++ (10 ∷ []))) c.copy-at.result c.copy-at.new.1.1.0 = left_then (word "refused") _ ((let begun : Rest c (word "refused" ++ (field c.args.number ++ (field c.args.«record» ++ (10 ∷ [])))) 0 c.args.out.now = left_start c.requires in begun)) c.copy-at.ensures in worded)) c.field-at.ensures in first))
+unfolding word
+field-at-requires-2 c = let i = c.args in left_room (field i.«record») _ (first i.number i.«record» c.requires c.copy-at.ensures c.field-at.ensures)
 
 pub bounds-out-at : goal.bounds-out-at
-bounds-out-at c = omega (arith, ((let second : Rest c (10 ∷ []) c.field-at-2.result c.field-at-2.new.1.1.0 = left_then _ _ ((let first : Rest c (field c.args.«record» ++ (10 ∷ [])) c.field-at.result c.field-at.new.1.1.0 = left_then _ _ ((let worded : Rest c (field c.args.number ++ (field c.args.«record» ++ (10 ∷ []))) c.copy-at.result c.copy-at.new.1.1.0 = left_then (word "refused") _ ((let begun : Rest c (word "refused" ++ (field c.args.number ++ (field c.args.«record» ++ (10 ∷ [])))) 0 c.args.out.now = left_start c.requires in begun)) c.copy-at.ensures in worded)) c.field-at.ensures in first)) c.field-at-2.ensures in second)).room)
+unfolding word
+bounds-out-at c = let i = c.args in omega (arith, (second i.number i.«record» c.requires c.copy-at.ensures c.field-at.ensures c.field-at-2.ensures).room)
 
 pub overflow_add-result : goal.overflow_add-result
-overflow_add-result c = let l = (let second : Rest c (10 ∷ []) c.field-at-2.result c.field-at-2.new.1.1.0 = left_then _ _ ((let first : Rest c (field c.args.«record» ++ (10 ∷ [])) c.field-at.result c.field-at.new.1.1.0 = left_then _ _ ((let worded : Rest c (field c.args.number ++ (field c.args.«record» ++ (10 ∷ []))) c.copy-at.result c.copy-at.new.1.1.0 = left_then (word "refused") _ ((let begun : Rest c (word "refused" ++ (field c.args.number ++ (field c.args.«record» ++ (10 ∷ [])))) 0 c.args.out.now = left_start c.requires in begun)) c.copy-at.ensures in worded)) c.field-at.ensures in first)) c.field-at-2.ensures in second) in omega (arith, l.room, l.same, c.well-formed)
-
-pub shape_of-out : goal.shape_of-out
-shape_of-out c = (left_byte _ _ ((let second : Rest c (10 ∷ []) c.field-at-2.result c.field-at-2.new.1.1.0 = left_then _ _ ((let first : Rest c (field c.args.«record» ++ (10 ∷ [])) c.field-at.result c.field-at.new.1.1.0 = left_then _ _ ((let worded : Rest c (field c.args.number ++ (field c.args.«record» ++ (10 ∷ []))) c.copy-at.result c.copy-at.new.1.1.0 = left_then (word "refused") _ ((let begun : Rest c (word "refused" ++ (field c.args.number ++ (field c.args.«record» ++ (10 ∷ [])))) 0 c.args.out.now = left_start c.requires in begun)) c.copy-at.ensures in worded)) c.field-at.ensures in first)) c.field-at-2.ensures in second))).same
+unfolding word
+overflow_add-result c = let i = c.args in let l = second i.number i.«record» c.requires c.copy-at.ensures c.field-at.ensures c.field-at-2.ensures in omega (arith, l.room, l.same)
 
 pub returns : goal.returns
-returns c = left_none (left_byte _ _ ((let second : Rest c (10 ∷ []) c.field-at-2.result c.field-at-2.new.1.1.0 = left_then _ _ ((let first : Rest c (field c.args.«record» ++ (10 ∷ [])) c.field-at.result c.field-at.new.1.1.0 = left_then _ _ ((let worded : Rest c (field c.args.number ++ (field c.args.«record» ++ (10 ∷ []))) c.copy-at.result c.copy-at.new.1.1.0 = left_then (word "refused") _ ((let begun : Rest c (word "refused" ++ (field c.args.number ++ (field c.args.«record» ++ (10 ∷ [])))) 0 c.args.out.now = left_start c.requires in begun)) c.copy-at.ensures in worded)) c.field-at.ensures in first)) c.field-at-2.ensures in second)))
+unfolding word
+returns c = let i = c.args in left_none (left_byte _ _ (second i.number i.«record» c.requires c.copy-at.ensures c.field-at.ensures c.field-at-2.ensures))
