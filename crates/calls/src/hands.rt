@@ -3,7 +3,7 @@ ghost use Rattle.std.specs.Prelude.{◌≤◌};
 ghost use Rattle.theory.specs.Limits.{limits};
 
 use handed::Handed;
-use printing::{decimal, say};
+use printing::{Console, decimal, say};
 use store::Store;
 use telling::{MOST, bad, fields, refused};
 use theory::{HELD, SUPPORTS};
@@ -29,15 +29,15 @@ pub fn empty() -> Hand {
 }
 
 // rule C S..: one item more; a full list has no room.
-fn rule(rest: &[u8], number: u32, mut hand: Hand) -> Hand {
+fn rule(console: Console, rest: &[u8], number: u32, mut hand: Hand) -> Hand {
     let mut values = [0u32; MOST];
-    let n = fields(rest, number, &mut values);
+    let n = fields(console, rest, number, &mut values);
     if n < 1 {
         return hand;
     }
     let at = hand.count;
     if HELD <= at {
-        bad(number);
+        bad(console, number);
         return hand;
     }
     hand.items[at] = Handed {
@@ -50,18 +50,18 @@ fn rule(rest: &[u8], number: u32, mut hand: Hand) -> Hand {
 }
 
 // Whether a line has no fields more; else it is bad.
-fn alone(rest: &[u8], number: u32) -> bool {
+fn alone(console: Console, rest: &[u8], number: u32) -> bool {
     let span = script::field(rest, 0);
     if span.from < span.to {
-        bad(number);
+        bad(console, number);
         return false;
     }
     true
 }
 
 // forget
-fn forget(rest: &[u8], number: u32, hand: Hand) -> Hand {
-    if !alone(rest, number) {
+fn forget(console: Console, rest: &[u8], number: u32, hand: Hand) -> Hand {
+    if !alone(console, rest, number) {
         return hand;
     }
     empty()
@@ -76,31 +76,31 @@ pub fn changes(word: &[u8]) -> bool {
 }
 
 // The list after such a call.
-pub fn changed(word: &[u8], rest: &[u8], number: u32, hand: Hand) -> Hand {
+pub fn changed(console: Console, word: &[u8], rest: &[u8], number: u32, hand: Hand) -> Hand {
     if script::same(word, b"rule") {
-        return rule(rest, number, hand);
+        return rule(console, rest, number, hand);
     }
-    forget(rest, number, hand)
+    forget(console, rest, number, hand)
 }
 
 // The first n bytes as numbers, a space before each.
-fn numbers(bytes: [u8; HELD], n: usize)
+fn numbers(console: Console, bytes: [u8; HELD], n: usize)
     requires { n ≤ limits.held }
 {
     for i in 0..n {
-        say(b" ");
-        decimal(bytes[i] as u32);
+        say(console, b" ");
+        decimal(console, bytes[i] as u32);
     }
 }
 
 // season
-pub fn season(rest: &[u8], number: u32, store: Store, hand: Hand) -> Store {
-    if !alone(rest, number) {
+pub fn season(console: Console, rest: &[u8], number: u32, store: Store, hand: Hand) -> Store {
+    if !alone(console, rest, number) {
         return store;
     }
     let n = hand.count;
     if HELD < n {
-        bad(number);
+        bad(console, number);
         return store;
     }
     let items = hand.items;
@@ -108,11 +108,11 @@ pub fn season(rest: &[u8], number: u32, store: Store, hand: Hand) -> Store {
     let out = season::add_some(store, items, n, &mut bytes[..n]);
     let reply = out.reply;
     if replies::number(reply) != 0 {
-        refused(reply);
+        refused(console, reply);
         return store;
     }
-    say(b"done");
-    numbers(bytes, n);
-    say(b"\n");
+    say(console, b"done");
+    numbers(console, bytes, n);
+    say(console, b"\n");
     out.store
 }

@@ -3,7 +3,7 @@
 
 pub mod hands;
 
-use printing::say;
+use printing::{Console, say};
 use replies::Reply;
 use script::Read;
 use store::{Outcome, Store};
@@ -11,80 +11,80 @@ use telling::{MOST, bad, fields, refused, unloaded};
 use theory::FILE;
 
 // open A M
-pub fn open(rest: &[u8], number: u32, store: Store) -> Store {
+pub fn open(console: Console, rest: &[u8], number: u32, store: Store) -> Store {
     let mut values = [0u32; MOST];
-    let n = fields(rest, number, &mut values);
+    let n = fields(console, rest, number, &mut values);
     if n < 1 {
         return store;
     }
     if n != 2 {
-        bad(number);
+        bad(console, number);
         return store;
     }
     let out = Store::open(values[0], values[1]);
     let reply = out.reply;
     if replies::number(reply) != 0 {
-        refused(reply);
+        refused(console, reply);
         return store;
     }
-    say(b"done\n");
+    say(console, b"done\n");
     out.store
 }
 
 // load XX ..
-pub fn load(rest: &[u8], number: u32, store: Store) -> Store {
+pub fn load(console: Console, rest: &[u8], number: u32, store: Store) -> Store {
     let mut bytes = [0u8; MOST];
     let read = script::bytes(rest, 0, &mut bytes);
     let Read::Count(n) = read else {
-        bad(number);
+        bad(console, number);
         return store;
     };
     if FILE < n {
-        printing::refused(Reply::Long, 0);
+        printing::refused(console, Reply::Long, 0);
         return store;
     }
     let out = casefile::load(&bytes[..n]);
     let reply = out.reply;
     if replies::number(reply) != 0 {
-        unloaded(reply, out.record);
+        unloaded(console, reply, out.record);
         return store;
     }
-    say(b"done\n");
+    say(console, b"done\n");
     out.store
 }
 
 // What a call that changes the store says, and the store after it.
-fn after(out: Outcome) -> Store {
+fn after(console: Console, out: Outcome) -> Store {
     let reply = out.reply;
     let replied = replies::number(reply);
     if replied == 0 {
-        say(b"done\n");
+        say(console, b"done\n");
         return out.store;
     }
     if replied == 1 {
-        say(b"already held\n");
+        say(console, b"already held\n");
     } else {
-        refused(reply);
+        refused(console, reply);
     }
     out.store
 }
 
 // add C S..
-pub fn add(rest: &[u8], number: u32, store: Store) -> Store {
+pub fn add(console: Console, rest: &[u8], number: u32, store: Store) -> Store {
     let mut values = [0u32; MOST];
-    let n = fields(rest, number, &mut values);
+    let n = fields(console, rest, number, &mut values);
     if n < 1 {
         return store;
     }
-    after(store.add(values[0], &values[1..n]))
+    after(console, store.add(values[0], &values[1..n]))
 }
 
 // withdraw C S..
-pub fn withdraw(rest: &[u8], number: u32, store: Store) -> Store {
+pub fn withdraw(console: Console, rest: &[u8], number: u32, store: Store) -> Store {
     let mut values = [0u32; MOST];
-    let n = fields(rest, number, &mut values);
+    let n = fields(console, rest, number, &mut values);
     if n < 1 {
         return store;
     }
-    after(store.withdraw(values[0], &values[1..n]))
+    after(console, store.withdraw(values[0], &values[1..n]))
 }

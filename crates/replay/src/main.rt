@@ -5,11 +5,18 @@ ghost use Rattle.std.specs.Prelude.{◌≤◌, length};
 
 use calls::hands;
 use calls::hands::Hand;
-use libc::STDIN_FILENO;
+use printing::Console;
 use store::Store;
 
 // A call that leaves the list in hand as it is: the store after it. A blank line and a remark are none.
-fn command(word: &[u8], rest: &[u8], number: u32, store: Store, hand: Hand) -> Store {
+fn command(
+    console: Console,
+    word: &[u8],
+    rest: &[u8],
+    number: u32,
+    store: Store,
+    hand: Hand,
+) -> Store {
     if word.len() == 0 {
         return store;
     }
@@ -17,39 +24,39 @@ fn command(word: &[u8], rest: &[u8], number: u32, store: Store, hand: Hand) -> S
         return store;
     }
     if script::same(word, b"season") {
-        return hands::season(rest, number, store, hand);
+        return hands::season(console, rest, number, store, hand);
     }
     if bares::of_hand(word) {
-        bares::bare(word, rest, number, hand);
+        bares::bare(console, word, rest, number, hand);
         return store;
     }
-    called(word, rest, number, store)
+    called(console, word, rest, number, store)
 }
 
 // A call on the store alone: the store after it.
-fn called(word: &[u8], rest: &[u8], number: u32, store: Store) -> Store {
+fn called(console: Console, word: &[u8], rest: &[u8], number: u32, store: Store) -> Store {
     if script::same(word, b"open") {
-        return calls::open(rest, number, store);
+        return calls::open(console, rest, number, store);
     }
     if script::same(word, b"load") {
-        return calls::load(rest, number, store);
+        return calls::load(console, rest, number, store);
     }
     if script::same(word, b"add") {
-        return calls::add(rest, number, store);
+        return calls::add(console, rest, number, store);
     }
     if script::same(word, b"withdraw") {
-        return calls::withdraw(rest, number, store);
+        return calls::withdraw(console, rest, number, store);
     }
     if plains::of_store(word) {
-        plains::read(word, rest, number, store);
+        plains::read(console, word, rest, number, store);
         return store;
     }
-    reads::read(word, rest, number, store);
+    reads::read(console, word, rest, number, store);
     store
 }
 
 // The lines one after the other, from the store that holds nothing.
-fn replayed(bytes: &[u8])
+fn replayed(console: Console, bytes: &[u8])
     requires { length bytes.now ≤ 65536 }
 {
     let opened = Store::open(0, 0);
@@ -66,25 +73,27 @@ fn replayed(bytes: &[u8])
         let word = &line[from..to];
         let rest = &line[to..];
         if hands::changes(word) {
-            hand = hands::changed(word, rest, number, hand);
+            hand = hands::changed(console, word, rest, number, hand);
         } else {
-            store = command(word, rest, number, store, hand);
+            store = command(console, word, rest, number, store, hand);
         }
         at = end + 1;
         number += 1;
     }
 }
 
-fn main() {
+fn main(rt: HostRuntime) {
+    let console = Console::of(&rt);
+    let mut input = rt.stdin();
     let mut bytes = [0u8; 65537];
-    let got = io::read_full(STDIN_FILENO, &mut bytes);
+    let got = printing::read_full(&mut input, &mut bytes);
     if 65536 < got {
-        printing::say(b"too long\n");
+        printing::say(console, b"too long\n");
         return;
     }
-    if !printing::at_end() {
-        printing::complain(b"replay: the input could not be read to its end\n");
+    if !printing::at_end(&mut input) {
+        printing::complain(console, b"replay: the input could not be read to its end\n");
         return;
     }
-    replayed(&bytes[..got]);
+    replayed(console, &bytes[..got]);
 }

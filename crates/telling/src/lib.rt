@@ -4,7 +4,7 @@
 ghost use Rattle.std.specs.Prelude.{◌≤◌};
 
 use lent::Written;
-use printing::{decimal, say};
+use printing::{Console, decimal, say};
 use replies::Reply;
 use script::Read;
 use theory::MARKS;
@@ -13,101 +13,101 @@ use theory::MARKS;
 pub const MOST: usize = 32769;
 
 // What a line that is no call prints.
-pub fn bad(number: u32) {
-    say(b"bad line ");
-    decimal(number);
-    say(b"\n");
+pub fn bad(console: Console, number: u32) {
+    say(console, b"bad line ");
+    decimal(console, number);
+    say(console, b"\n");
 }
 
 // The number that a refusal names, and the line's end.
-fn naming(reply: Reply) {
+fn naming(console: Console, reply: Reply) {
     if let Reply::Label(n) = reply {
-        say(b" ");
-        decimal(n as u32);
+        say(console, b" ");
+        decimal(console, n as u32);
     }
-    say(b"\n");
+    say(console, b"\n");
 }
 
 // A refusal, and the number that it names.
-pub fn refused(reply: Reply) {
-    say(b"refused ");
-    decimal(replies::number(reply) as u32);
-    naming(reply);
+pub fn refused(console: Console, reply: Reply) {
+    say(console, b"refused ");
+    decimal(console, replies::number(reply) as u32);
+    naming(console, reply);
 }
 
 // A refusal of a file: the record that it stands at, and the number that it names.
-pub fn unloaded(reply: Reply, record: u32) {
-    say(b"refused ");
-    decimal(replies::number(reply) as u32);
-    say(b" ");
-    decimal(record);
-    naming(reply);
+pub fn unloaded(console: Console, reply: Reply, record: u32) {
+    say(console, b"refused ");
+    decimal(console, replies::number(reply) as u32);
+    say(console, b" ");
+    decimal(console, record);
+    naming(console, reply);
 }
 
 // The fields of a line as numbers: how many there are, or 0 where the line is bad: there is none, or one is no number.
-pub fn fields(rest: &[u8], number: u32, values: &mut [u32]) -> usize
+pub fn fields(console: Console, rest: &[u8], number: u32, values: &mut [u32]) -> usize
     ensures { result ≤ 32769 }
 {
     let read = script::numbers(rest, 0, values);
     let Read::Count(n) = read else {
-        bad(number);
+        bad(console, number);
         return 0;
     };
     if n < 1 {
-        bad(number);
+        bad(console, number);
         return 0;
     }
     if MOST < n {
-        bad(number);
+        bad(console, number);
         return 0;
     }
     n
 }
 
 // The first n bytes as numbers, a space between two; a store of more numbers has no shape.
-fn values(bytes: [u8; MARKS], n: usize) {
+fn values(console: Console, bytes: [u8; MARKS], n: usize) {
     if MARKS < n {
-        return refused(Reply::Shape);
+        return refused(console, Reply::Shape);
     }
     for i in 0..n {
         if 0 < i {
-            say(b" ");
+            say(console, b" ");
         }
-        decimal(bytes[i] as u32);
+        decimal(console, bytes[i] as u32);
     }
-    say(b"\n");
+    say(console, b"\n");
 }
 
 // The bytes of a context of so many numbers, or the refusal.
-pub fn filled(reply: Reply, bytes: [u8; MARKS], n: usize) {
+pub fn filled(console: Console, reply: Reply, bytes: [u8; MARKS], n: usize) {
     if replies::number(reply) != 0 {
-        refused(reply);
+        refused(console, reply);
         return;
     }
-    values(bytes, n);
+    values(console, bytes, n);
 }
 
 // The text that a call wrote, or its refusal; none is longer than what was lent.
-pub fn told(answer: Written, text: &[u8]) {
+pub fn told(console: Console, answer: Written, text: &[u8]) {
     match answer {
         Written::Length(length) => {
             if text.len() < length {
-                return refused(Reply::Short);
+                return refused(console, Reply::Short);
             }
-            say(&text[..length]);
+            say(console, &text[..length]);
         }
-        Written::Refused(reply) => refused(reply),
+        Written::Refused(reply) => refused(console, reply),
     }
 }
 
 // Whether the set may be asked of the store: a 0 is a bad line, a number above 32 is refused.
-pub fn sound(set: &[u32], number: u32) -> bool {
+pub fn sound(console: Console, set: &[u32], number: u32) -> bool {
     if script::has_zero(set) {
-        bad(number);
+        bad(console, number);
         return false;
     }
     if script::has_above(set) {
-        refused(Reply::Number);
+        refused(console, Reply::Number);
         return false;
     }
     true
