@@ -1,0 +1,18 @@
+-- `plain::fill` meets its contract. The invariant: the bytes so far. Assumes nothing.
+use mathlib.Core.List.{List, ◌++◌}
+use mathlib.Core.Path.{◌∙◌, ◌≡◌, ap, refl}
+use Prim.Native.Nat.{◌+◌, ◌-◌, ◌≤◌, ℕ}
+use native.Mathlib.Omega.{arith}
+use borrow.Author.Rules.{rules}
+use lib.ListN.{drop, length, length-set, set}
+use Rattle.asking.proofs.Laws.{fill_more, fill_none}
+use Rattle.plain.proofs.Laws.{fill_done, fill_short}
+use Rattle.plain.specs.Plainly.{byte_of, read_from}
+use Rattle.theory.specs.Places.{table}
+use Rattle.plain.proofs.fill.Given as goal
+
+abbrev pub invariant-loop-i : goal.invariant-loop-i
+invariant-loop-i l = (l.i ≤ l.end) × (length l.out ≡ length l.initial.out) × (l.out ≡ table l.i (λ n. byte_of (read_from l.marks n)) ++ drop l.i l.initial.out)
+
+abbrev pub decreases-loop-i : goal.decreases-loop-i
+decreases-loop-i l = l.end - l.i
