@@ -128,9 +128,9 @@ module _ (N : ℕ) where
   gathered_old J (i ∷ l) m = gathered_old (joined (meant N i) J) l (joined_old (meant N i) J m)
 
   -- each item's justification is held
-  pub gathered_has : (J : List Justification) {l : List Item} {i : Item} → Mem i l → Mem (meant N i) (gathered N J l)
+  pub gathered_has : {i : Item} {l : List Item} (J : List Justification) → Mem i l → Mem (meant N i) (gathered N J l)
   unfolding gathered
-  gathered_has J {i = i} (here {x = y} {xs = l} e) = gathered_old (joined (meant N y) J) l (subst (λ (x : Item). Mem (meant N x) (joined (meant N y) J)) (sym e) (joined_has (meant N y) J))
+  gathered_has {i = i} J (here {x = y} {xs = l} e) = gathered_old (joined (meant N y) J) l (subst (λ (x : Item). Mem (meant N x) (joined (meant N y) J)) (sym e) (joined_has (meant N y) J))
   gathered_has J (there {x = y} m) = gathered_has (joined (meant N y) J) m
 
   -- nothing else is
