@@ -1,0 +1,16 @@
+-- `stagetext::rows_width` meets its contract. Assumes nothing.
+use Rattle.text.proofs.Digits.{digits_most}
+use Rattle.stagetext.specs.Stagetext.{rows_of}
+use Rattle.stagetext.proofs.Laws.{body_few, row_length, rows_few, rows_next, rows_none}
+use mathlib.Core.Path.{◌≡◌, ap, ◌∙◌}
+use Prim.Native.Nat.{ℕ, ◌-◌, ◌≤◌}
+use native.Mathlib.Omega.{arith}
+use borrow.Author.Rules.{rules}
+use lib.ListN.{length}
+use Rattle.stagetext.proofs.rows_width.Given as goal
+
+abbrev pub invariant-loop-k : goal.invariant-loop-k
+invariant-loop-k l = (l.k ≤ l.count) × (l.sum ≡ length (rows_of l.end l.marks l.k))
+
+abbrev pub decreases-loop-k : goal.decreases-loop-k
+decreases-loop-k l = l.count - l.k
