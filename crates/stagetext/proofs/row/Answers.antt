@@ -20,7 +20,7 @@ pub overflow_add-result : goal.overflow_add-result
 overflow_add-result c =
     let a = c.args in
     let l = left_then (body_of a.end a.marks a.k) (10 ∷ []) (left_then (digits a.k) _ (row_begun a.marks a.end a.k a.at a.out.now c.requires.1) c.number-numbered.ensures) c.body-full.ensures in
-    omega (arith, l.room, l.same, c.well-formed)
+    omega (arith, l.room, l.same, c.well_formed)
 
 pub shape_of-out : goal.shape_of-out
 shape_of-out c = let a = c.args in (left_byte _ [] (left_then (body_of a.end a.marks a.k) (10 ∷ []) (left_then (digits a.k) _ (row_begun a.marks a.end a.k a.at a.out.now c.requires.1) c.number-numbered.ensures) c.body-full.ensures)).same

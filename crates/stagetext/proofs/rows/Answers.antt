@@ -17,7 +17,7 @@ pub row-next-requires : goal.row-next-requires
 row-next-requires c = let a = c.args in (c.requires.0, step_room (row_of a.end a.marks) a.count 0 a.out.now (rows_room a.marks a.end a.count 0 a.out.now c.requires.1) c.loop-k.k c.loop-k.next c.loop-k.out c.loop-k-test.true c.loop-k.invariant.2)
 
 pub overflow_add-k : goal.overflow_add-k
-overflow_add-k c = omega (arith, c.fits.count, c.loop-k-test.true)
+overflow_add-k c = omega (arith, c.ranges.count, c.loop-k-test.true)
 
 pub loop-k-smaller : goal.loop-k-smaller
 loop-k-smaller c = omega (arith, c.loop-k-test.true)
