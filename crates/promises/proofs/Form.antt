@@ -210,7 +210,8 @@ form_given {A} {M} {H} {s} f h false e = subst (Form A M H) (sym (add_keeps s h.
 form_all : {A M : ℕ} {H : List Justification} {s : Store} → Form A M H s → (l : List Handed) (rest : List ℕ) → Form A M (gained (A + M) l (replies_of s l ++ rest) H) (added_all s l)
 unfolding gained replies_of added_all
 form_all f [] rest = f
-form_all {s = s} f (h ∷ l) rest = form_all (form_given f h (is_done (give_of s h).reply) refl) l rest
+form_all {A = A} {M = M} {H = H} {s = s} f (h ∷ l) rest =
+    form_all {H = choose (is_done (give_of s h).reply) (justification_of (A + M) h.consequent (supplied_by h) ∷ H) H} (form_given f h (is_done (give_of s h).reply) refl) l rest
 
 -- answered 0, every item was given
 pub all_given : (s t : Store) (l : List Handed) (out : List ℕ) → add_all_of s l out ≡ answer Done t → (added_all s l ≡ t) × (bytes_after s l out ≡ replies_of s l ++ drop (length l) out)

@@ -35,12 +35,12 @@ module _ (i : Justification) (J : List Justification) where
   with_ordered true e o = o
   with_ordered false e o = put_ordered i J o e
 
-pub in_order_to : {H : List Justification} {j : Justification} → Mem j H → Mem j (in_order H)
+pub in_order_to : {j : Justification} {H : List Justification} → Mem j H → Mem j (in_order H)
 unfolding in_order
 in_order_to {j = j} (here {x = i} {xs = H} e) =
     let b : Bool = some_of (same_justification i) (in_order H) in
     subst (λ (k : Justification). Mem k (with_it i (in_order H) b)) (sym e) (with_new i (in_order H) b refl)
-in_order_to (there {x = i} {xs = H} m) = with_old i (in_order H) (some_of (same_justification i) (in_order H)) (in_order_to m)
+in_order_to {j = j} (there {x = i} {xs = H} m) = with_old i (in_order H) (some_of (same_justification i) (in_order H)) (in_order_to {j = j} m)
 
 pub in_order_from : (H : List Justification) {j : Justification} → Mem j (in_order H) → Mem j H
 unfolding in_order

@@ -6,7 +6,8 @@ use contract.Adequate.{Satisfies}
 use contract.BorrowModel.{logic₀}
 use contract.Lifetimes.{Lfts}
 use contract.Monad.{fact_mono, fm→mono}
-use contract.Running.{alone, real}
+use contract.Closed.{model⁺, real⁺, real⁺_strict}
+use contract.Running.{tables, within}
 use denote.Triple.Adequate.{adequate}
 use denote.Triple.Clauses.{AtExit, Ended, closing}
 use denote.Triple.Entry.{Args, Res}
@@ -18,19 +19,20 @@ use ghost.Model as closed
 use mir.Val.{Val}
 use prog.Machine.{done}
 use prog.Memory.{Memory}
-use prog.Routine.{Routine, anyName}
+use prog.Routine.{Callee, Env, step}
+use prog.Wired.{Code, Wired}
 use Rattle.promises.specs.Keeps.{Claim, Keeps, telling}
 
 -- a claim that follows is kept
-pub keeping : (T : Ended) (f : Routine) (P Q : Claim T) → ((κs : Lfts T.signature.lifetimes) (a : Args T.signature κs) (r : Res T.signature κs) (e : AtExit T κs) → P κs a r e → Q κs a r e) → Keeps T f P → Keeps T f Q
-keeping T f P Q to kept M 𝓤 𝓛 𝓜 𝓡 =
-    weaken 𝓛 T (telling 𝓤 T P) (λ κs a. (telling 𝓤 T Q κs a).ensures) (λ κs a g r ws. fact_mono 𝓤 _ _ (to κs a r _)) (𝓡.run f) (λ vs. fm→mono 𝓤 (𝓡.run f vs) (run_framed 𝓤 𝓛.H 𝓜 𝓡 f vs)) (kept M 𝓤 𝓛 𝓜 𝓡)
+pub keeping : (T : Ended) (c : Code) (k : Callee) (P Q : Claim T) → ((κs : Lfts T.signature.lifetimes) (a : Args T.signature κs) (r : Res T.signature κs) (e : AtExit T κs) → P κs a r e → Q κs a r e) → Keeps T c k P → Keeps T c k Q
+keeping T c k P Q to kept M 𝓤 𝓛 𝓜 𝓡 wired =
+    weaken 𝓛 T (telling 𝓤 T P) (λ κs a. (telling 𝓤 T Q κs a).ensures) (λ κs a g r ws. fact_mono 𝓤 _ _ (to κs a r _)) (𝓡.run (𝓡.env k)) (λ vs. fm→mono 𝓤 (𝓡.run (𝓡.env k) vs) (run_framed 𝓤 𝓛.H 𝓜 𝓡 (𝓡.env k) vs)) (kept M 𝓤 𝓛 𝓜 𝓡 wired)
 
 -- at the machine: from a memory that holds the arguments the routine's own run returns, in a memory of which the claim is said
 abbrev pub said : (T : Ended) → Claim T → Contract closed.𝓤
 said T P = triple_of logic₀ T.signature (closing logic₀ T (telling closed.𝓤 T P))
 
-pub runs : (T : Ended) (f : Routine) (P : Claim T) → Keeps T f P → (x : (said T P).Ghost) (σ : Memory) (F : SProp closed.𝓤) → Satisfies closed.𝓤 closed.H closed.model σ (sep closed.𝓤 ((said T P).pre x) F)
-    → ∥ ((n : ℕ) × (v : Val) × (σ' : Memory) × (f.step n ((said T P).args x) σ ≡ done (v, σ')) × Satisfies closed.𝓤 closed.H closed.model σ' (sep closed.𝓤 ((said T P).post x v) F)) ∥₁
-unfolding alone
-runs T f P kept = adequate closed.𝓤 closed.H closed.model (alone closed.𝓤 closed.H closed.model (real closed.𝓤 closed.H closed.model) f) anyName (said T P) (kept _ closed.𝓤 logic₀ closed.model (real closed.𝓤 closed.H closed.model))
+pub runs : (T : Ended) (c : Code) (k : Callee) (P : Claim T) → Keeps T c k P → (γ : Env) → Wired γ c → (x : (said T P).Ghost) (σ : Memory) (F : SProp closed.𝓤) → Satisfies closed.𝓤 closed.H model⁺ σ (sep closed.𝓤 ((said T P).pre x) F)
+    → ∥ ((n : ℕ) × (v : Val) × (σ' : Memory) × (step (γ k) n ((said T P).args x) σ ≡ done (v, σ')) × Satisfies closed.𝓤 closed.H model⁺ σ' (sep closed.𝓤 ((said T P).post x v) F)) ∥₁
+runs T c k P kept γ wired =
+    adequate closed.𝓤 closed.H model⁺ (tables closed.𝓤 closed.H model⁺ real⁺ γ) real⁺_strict k (said T P) (kept _ closed.𝓤 logic₀ model⁺ (within closed.𝓤 closed.H model⁺ real⁺ γ) wired)

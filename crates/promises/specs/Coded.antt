@@ -121,43 +121,43 @@ bare_asked C κs a r e = answered r e.1.1.0.now ≡ C.bare a.0 a.1.0.now a.1.1.0
 -- ---- the functions: a the arguments, r the result, e the parameters at exit
 
 pub record Coded (C : Calls) : Type 2 where
-  pub opening : Tied open_at.ended open_code.routine open-reads.Asked open-reads.Learnt
+  pub opening : Tied open_at.ended open_code.code open_code.name open-reads.Asked open-reads.Learnt
       (λ κs a r e. r ≡ C.opening a.0 a.1.0)
-  pub loading : Tied load_at.ended load_code.routine load-reads.Asked load-reads.Learnt
+  pub loading : Tied load_at.ended load_code.code load_code.name load-reads.Asked load-reads.Learnt
       (λ κs a r e. r ≡ C.loading a.0.now)
-  pub adding : Tied add_at.ended add-code.routine add_reads.Asked add_reads.Learnt
+  pub adding : Tied add_at.ended add-code.code add-code.name add_reads.Asked add_reads.Learnt
       (λ κs a r e. r ≡ C.adding a.0 a.1.0 a.1.1.0.now)
-  pub adding_all : Walked add-all-at.ended add-all-code.routine (λ M. add-all-at.clauses) (all_added C)
-  pub withdrawing : Tied withdraw-at.ended withdraw-code.routine withdraw-reads.Asked withdraw-reads.Learnt
+  pub adding_all : Walked add-all-at.ended add-all-code.code add-all-code.name (λ M 𝓤 𝓛. add-all-at.clauses 𝓛) (all_added C)
+  pub withdrawing : Tied withdraw-at.ended withdraw-code.code withdraw-code.name withdraw-reads.Asked withdraw-reads.Learnt
       (λ κs a r e. r ≡ C.withdrawing a.0 a.1.0 a.1.1.0.now)
-  pub question : Tied question-at.ended question-code.routine question-reads.Asked question-reads.Learnt
+  pub question : Tied question-at.ended question-code.code question-code.name question-reads.Asked question-reads.Learnt
       (λ κs a r e. r ≡ asked (C.reading a.0 (question a.1.0 a.1.1.0)))
-  pub context : Tied context-at.ended context-code.routine context-reads.Asked context-reads.Learnt
+  pub context : Tied context-at.ended context-code.code context-code.name context-reads.Asked context-reads.Learnt
       (λ κs a r e. left r e.1.1.0.now ≡ contexted (C.reading a.0 (context a.1.0 a.1.1.0.now)))
-  pub member : Tied member_at_lem.ended member-code.routine member-reads.Asked member-reads.Learnt
+  pub member : Tied member_at_lem.ended member-code.code member-code.name member-reads.Asked member-reads.Learnt
       (λ κs a r e. r ≡ shown (C.reading a.0 (member a.1.0 a.1.1.0)))
-  pub line : Tied line_at_lem.ended line_code.routine line_reads_lem.Asked line_reads_lem.Learnt
+  pub line : Tied line_at_lem.ended line_code.code line_code.name line_reads_lem.Asked line_reads_lem.Learnt
       (λ κs a r e. (r ≡ lined (C.reading a.0 (line a.1.0 a.1.1.0.now))) × (e.1.1.0.now ≡ (C.reading a.0 (line a.1.0 a.1.1.0.now)).bytes))
-  pub case_line : Tied case-line-at.ended case-line-code.routine case-line-reads.Asked case-line-reads.Learnt
+  pub case_line : Tied case-line-at.ended case-line-code.code case-line-code.name case-line-reads.Asked case-line-reads.Learnt
       (λ κs a r e. (r ≡ headed (C.reading a.0 (case_line a.1.0.now))) × (e.1.0.now ≡ (C.reading a.0 (case_line a.1.0.now)).bytes))
-  pub listing : Tied listing-at.ended listing-code.routine listing-reads.Asked listing-reads.Learnt
+  pub listing : Tied listing-at.ended listing-code.code listing-code.name listing-reads.Asked listing-reads.Learnt
       (λ κs a r e. (r ≡ listed_by (C.reading a.0 (list_all a.1.0.now))) × (e.1.0.now ≡ (C.reading a.0 (list_all a.1.0.now)).bytes))
-  pub writing : Tied write-at.ended write-code.routine write-reads.Asked write-reads.Learnt
+  pub writing : Tied write-at.ended write-code.code write-code.name write-reads.Asked write-reads.Learnt
       (λ κs a r e. (r ≡ filed (C.reading a.0 (file a.1.0.now))) × (e.1.0.now ≡ (C.reading a.0 (file a.1.0.now)).bytes))
-  pub printing : Tied printed-at.ended printed-code.routine printed-reads.Asked printed-reads.Learnt
+  pub printing : Tied printed-at.ended printed-code.code printed-code.name printed-reads.Asked printed-reads.Learnt
       (λ κs a r e. wrote r e.1.0.now ≡ C.printing a.0.now a.1.0.now)
-  pub judging : Tied judged-at.ended judged-code.routine judged-reads.Asked judged-reads.Learnt
+  pub judging : Tied judged-at.ended judged-code.code judged-code.name judged-reads.Asked judged-reads.Learnt
       (λ κs a r e. r ≡ C.judging a.0)
-  pub shape : Tied shape_at.ended shape-code.routine shape-reads.Asked shape-reads.Learnt
+  pub shape : Tied shape_at.ended shape-code.code shape-code.name shape-reads.Asked shape-reads.Learnt
       (λ κs a r e. r ≡ C.shape a.0)
-  pub refusal : Tied refusal-at.ended refusal-code.routine refusal-reads.Asked refusal-reads.Learnt
+  pub refusal : Tied refusal-at.ended refusal-code.code refusal-code.name refusal-reads.Asked refusal-reads.Learnt
       (λ κs a r e. wrote r e.1.1.0.now ≡ C.refusal a.0 a.1.0 a.1.1.0.now)
-  pub decoding : Tied read_at.ended read-code.routine read-reads.Asked read-reads.Learnt
+  pub decoding : Tied read_at.ended read-code.code read-code.name read-reads.Asked read-reads.Learnt
       (λ κs a r e. r ≡ C.decoding a.0.now a.1.0)
-  pub plainly : Tied plainly-at.ended plainly-code.routine plainly-reads.Asked plainly-reads.Learnt
+  pub plainly : Tied plainly-at.ended plainly-code.code plainly-code.name plainly-reads.Asked plainly-reads.Learnt
       (λ κs a r e. r ≡ told (C.reading a.0 (plainly a.1.0 a.1.1.0)))
-  pub plain_context : Tied plain-context-at.ended plain-context-code.routine plain-context-reads.Asked plain-context-reads.Learnt
+  pub plain_context : Tied plain-context-at.ended plain-context-code.code plain-context-code.name plain-context-reads.Asked plain-context-reads.Learnt
       (λ κs a r e. left r e.1.1.0.now ≡ plain_contexted (C.reading a.0 (plain_context a.1.0 a.1.1.0.now)))
-  pub stage_lines : Tied stage-lines-at.ended stage-lines-code.routine stage-lines-reads.Asked stage-lines-reads.Learnt
+  pub stage_lines : Tied stage-lines-at.ended stage-lines-code.code stage-lines-code.name stage-lines-reads.Asked stage-lines-reads.Learnt
       (λ κs a r e. (r ≡ staged (C.reading a.0 (stage_lines a.1.0 a.1.1.0.now))) × (e.1.1.0.now ≡ (C.reading a.0 (stage_lines a.1.0 a.1.1.0.now)).bytes))
-  pub bare : Walked bare-at.ended bare-code.routine (λ M. bare-at.clauses) (bare_asked C)
+  pub bare : Walked bare-at.ended bare-code.code bare-code.name (λ M 𝓤 𝓛. bare-at.clauses 𝓛) (bare_asked C)
