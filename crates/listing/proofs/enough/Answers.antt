@@ -13,7 +13,9 @@ use Rattle.theory.specs.Limits.{limits}
 use Rattle.listing.proofs.enough.Goals as goal
 
 pub returns-then-given-ge-LONGEST : goal.returns-then-given-ge-LONGEST
-returns-then-given-ge-LONGEST c = sym (le-leb (length (listing_text c.args.store)) c.args.given (omega (arith, (let most : length (listing_text c.args.store) ≤ longest_listing =  let e : length c.args.store.lists.nogoods ≡ limits.nogoods = search rules in listing_length c.args.store c.requires.0 (omega arith) in most), c.if-given-ge-LONGEST.true)))
+returns-then-given-ge-LONGEST c =
+    let most : length (listing_text c.args.store) ≤ longest_listing = let e : length c.args.store.lists.nogoods ≡ limits.nogoods = search rules in listing_length c.args.store c.requires.0 (omega arith) in
+    sym (le-leb (length (listing_text c.args.store)) c.args.given (omega (arith, most, c.if-given-ge-LONGEST.true)))
 
 pub overflow_add-held : goal.overflow_add-held
 overflow_add-held c = let k = bounded c.args.store c.requires.0 in omega (arith, k.assumptions, k.claims)
@@ -22,7 +24,12 @@ pub measured-rest-requires : goal.measured-rest-requires
 measured-rest-requires c = let k = bounded c.args.store c.requires.0 in (c.requires.0, c.requires.1, omega (arith, k.assumptions, k.claims))
 
 pub overflow_add-result : goal.overflow_add-result
-overflow_add-result c = omega (arith, (let sum : c.headed-first.result + c.measured-rest.result ≡ length (listing_text c.args.store) = listing_sum c.args.store _ _ c.headed-first.ensures c.measured-rest.ensures in sum), (let most : length (listing_text c.args.store) ≤ longest_listing =  let e : length c.args.store.lists.nogoods ≡ limits.nogoods = search rules in listing_length c.args.store c.requires.0 (omega arith) in most))
+overflow_add-result c =
+    let sum : c.headed-first.result + c.measured-rest.result ≡ length (listing_text c.args.store) = listing_sum c.args.store _ _ c.headed-first.ensures c.measured-rest.ensures in
+    let most : length (listing_text c.args.store) ≤ longest_listing = let e : length c.args.store.lists.nogoods ≡ limits.nogoods = search rules in listing_length c.args.store c.requires.0 (omega arith) in
+    omega (arith, sum, most)
 
 pub returns : goal.returns
-returns c = ap (λ (n : ℕ). leb n c.args.given) ((let sum : c.headed-first.result + c.measured-rest.result ≡ length (listing_text c.args.store) = listing_sum c.args.store _ _ c.headed-first.ensures c.measured-rest.ensures in sum))
+returns c =
+    let sum : c.headed-first.result + c.measured-rest.result ≡ length (listing_text c.args.store) = listing_sum c.args.store _ _ c.headed-first.ensures c.measured-rest.ensures in
+    ap (λ (n : ℕ). leb n c.args.given) sum

@@ -1,5 +1,4 @@
 -- `headed` meets its contract. Assumes nothing.
-use borrow.Author.Rules.{rules}
 use native.Mathlib.Omega.{arith}
 use Rattle.wording.proofs.Bounds.{bounded}
 use Rattle.lines.proofs.Longest.{case_length}

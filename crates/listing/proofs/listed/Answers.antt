@@ -1,8 +1,6 @@
 -- `listed` meets its contract. Assumes nothing.
 use mathlib.Core.Path.{sym}
-use borrow.Author.Rules.{rules}
 use Rattle.lines.proofs.Follows.{followable}
-use borrow.Author.Tests.{not-false, not-true}
 use Rattle.listing.specs.Listing.{listing_text}
 use Rattle.listing.proofs.Laws.{listed_long, listed_room, listed_short}
 use Rattle.listing.proofs.Lines.{marked_long}
@@ -19,13 +17,17 @@ pub enough-requires : goal.enough-requires
 enough-requires c = (c.requires, c.from_all-marks.ensures)
 
 pub returns-then-not-enough : goal.returns-then-not-enough
-returns-then-not-enough c = listed_short c.args.store c.args.out.now _ c.enough.ensures (not-true _ c.if-not-enough.true-raw)
+returns-then-not-enough c = listed_short c.args.store c.args.out.now _ c.enough.ensures (c.if-not-enough.true)
 
 pub slice_bounds-whole-end : goal.slice_bounds-whole-end
 slice_bounds-whole-end c = sym (marked_long c.args.store _ c.from_all-marks.ensures)
 
 pub whole-length-requires : goal.whole-length-requires
-whole-length-requires c = (c.requires, c.from_all-marks.ensures, (let room : Room (listing_text c.args.store) 0 c.args.out.now = listed_room c.args.store c.args.out.now _ c.enough.ensures (not-false _ c.if-not-enough.false-raw) in room))
+whole-length-requires c =
+    let room : Room (listing_text c.args.store) 0 c.args.out.now = listed_room c.args.store c.args.out.now _ c.enough.ensures (c.if-not-enough.false) in
+    (c.requires, c.from_all-marks.ensures, room)
 
 pub returns : goal.returns
-returns c = listed_long c.args.store c.args.out.now ((let room : Room (listing_text c.args.store) 0 c.args.out.now = listed_room c.args.store c.args.out.now _ c.enough.ensures (not-false _ c.if-not-enough.false-raw) in room)) c.whole-length.ensures
+returns c =
+    let room : Room (listing_text c.args.store) 0 c.args.out.now = listed_room c.args.store c.args.out.now _ c.enough.ensures (c.if-not-enough.false) in
+    listed_long c.args.store c.args.out.now room c.whole-length.ensures

@@ -1,5 +1,4 @@
 -- `measured` meets its contract. Assumes nothing.
-use borrow.Author.Rules.{rules}
 use Rattle.lines.specs.Lines.{longest}
 use Rattle.listing.proofs.Longest.{blank}
 use Rattle.listing.proofs.measured.Goals as goal

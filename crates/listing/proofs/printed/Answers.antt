@@ -1,6 +1,5 @@
 -- `printed` meets its contract. Assumes nothing.
 use mathlib.Core.Path.{◌∙◌, sym}
-use borrow.Author.Rules.{rules}
 use Rattle.listing.proofs.Laws.{print_done, print_long, print_refused, print_right}
 use Rattle.listing.proofs.printed.Goals as goal
 

@@ -1,6 +1,5 @@
 -- `row` meets its contract. Assumes nothing.
 use native.Mathlib.Omega.{arith}
-use borrow.Author.Rules.{rules}
 use Rattle.listing.proofs.Lines.{part_put}
 use Rattle.listing.proofs.row.Goals as goal
 

@@ -1,17 +1,9 @@
 -- `rows` meets its contract. The invariant: the lines of the numbers so far are written. Assumes nothing.
-use mathlib.Core.List.{List}
-use mathlib.Core.Path.{◌∙◌, ◌≡◌, refl, subst, sym}
-use Prim.Native.Nat.{◌+◌, ◌-◌, ◌<◌, ◌≤◌, ℕ}
-use native.Mathlib.Omega.{arith}
-use lib.Dec.{eqb}
-use lib.ListN.{get_or, length}
-use Rattle.lines.specs.Lines.{line_text}
-use Rattle.wording.specs.Wording.{line_with}
+use mathlib.Core.Path.{◌≡◌}
+use Prim.Native.Nat.{◌-◌, ◌≤◌}
+use lib.ListN.{length}
 use Rattle.listing.specs.Listing.{lines_below}
-use Rattle.listing.proofs.Lines.{below_again, below_length, below_room, below_start, marked_line, marked_long}
-use Rattle.text.proofs.Writing.{put_length}
-use Rattle.text.specs.Writing.{Put, Room}
-use Rattle.theory.specs.Limits.{limits}
+use Rattle.text.specs.Writing.{Put}
 use Rattle.listing.proofs.rows.Given as goal
 
 abbrev pub invariant-loop-n : goal.invariant-loop-n

@@ -2,7 +2,7 @@
 use borrow.Author.Rules.{rules}
 use mathlib.Core.List.{List}
 use mathlib.Core.Path.{◌∙◌, ◌≡◌, ap, refl, subst}
-use Prim.Native.Nat.{◌-◌, ◌<◌, ◌≤◌, ℕ}
+use Prim.Native.Nat.{◌<◌, ◌≤◌, ℕ}
 use native.Mathlib.Omega.{arith}
 use lib.Dec.{eqb}
 use lib.ListN.{get_or, length}
@@ -21,25 +21,57 @@ pub loop-n-init : goal.loop-n-init
 loop-n-init c = (omega arith, refl, omega (arith, ap length (below_none c.args.store)))
 
 pub overflow_cast-follows : goal.overflow_cast-follows
-overflow_cast-follows c = omega (arith, (let low : c.loop-n.n ≤ limits.numbers = omega (arith, (let inside : c.loop-n.n < c.args.end = omega arith in inside), c.requires.2) in low))
+overflow_cast-follows c =
+    let inside : c.loop-n.n < c.args.end = omega arith in
+    let low : c.loop-n.n ≤ limits.numbers = omega (arith, inside, c.requires.2) in
+    omega (arith, low)
 
 pub bounds-marks-n : goal.bounds-marks-n
-bounds-marks-n c = omega (arith, (let low : c.loop-n.n ≤ limits.numbers = omega (arith, (let inside : c.loop-n.n < c.args.end = omega arith in inside), c.requires.2) in low), marked_long c.args.store c.args.marks.now c.requires.1)
+bounds-marks-n c =
+    let inside : c.loop-n.n < c.args.end = omega arith in
+    let low : c.loop-n.n ≤ limits.numbers = omega (arith, inside, c.requires.2) in
+    omega (arith, low, marked_long c.args.store c.args.marks.now c.requires.1)
 
 pub lined-sum-requires : goal.lined-sum-requires
-lined-sum-requires c = (c.requires.0, (let low : c.loop-n.n ≤ limits.numbers = omega (arith, (let inside : c.loop-n.n < c.args.end = omega arith in inside), c.requires.2) in low), (let line_room : Room ((let line : List ℕ = let n = c.loop-n.n in line_with c.args.store.lists n (eqb (get_or c.args.marks.now n 0) 0) in line)) 0 c.loop-n.text = omega (arith, (let line_most : length ((let line : List ℕ = let n = c.loop-n.n in line_with c.args.store.lists n (eqb (get_or c.args.marks.now n 0) 0) in line)) ≤ longest = line_length c.args.store c.loop-n.n _ c.requires.0 ((let nogoods : length c.args.store.lists.nogoods ≤ limits.nogoods = let e : length c.args.store.lists.nogoods ≡ limits.nogoods = search rules in omega arith in nogoods)) ((let low : c.loop-n.n ≤ limits.numbers = omega (arith, (let inside : c.loop-n.n < c.args.end = omega arith in inside), c.requires.2) in low)) in line_most), c.requires.3, c.loop-n.invariant.1) in line_room))
+lined-sum-requires c =
+    let inside : c.loop-n.n < c.args.end = omega arith in
+    let low : c.loop-n.n ≤ limits.numbers = omega (arith, inside, c.requires.2) in
+    let nogoods : length c.args.store.lists.nogoods ≤ limits.nogoods = let e : length c.args.store.lists.nogoods ≡ limits.nogoods = search rules in omega arith in
+    let line : List ℕ = let n = c.loop-n.n in line_with c.args.store.lists n (eqb (get_or c.args.marks.now n 0) 0) in
+    let line_most : length line ≤ longest = line_length c.args.store c.loop-n.n _ c.requires.0 nogoods low in
+    let line_room : Room line 0 c.loop-n.text = omega (arith, line_most, c.requires.3, c.loop-n.invariant.1) in
+    (c.requires.0, low, line_room)
 
 pub overflow_add-sum : goal.overflow_add-sum
-overflow_add-sum c = omega (arith, (let line_most : length ((let line : List ℕ = let n = c.loop-n.n in line_with c.args.store.lists n (eqb (get_or c.args.marks.now n 0) 0) in line)) ≤ longest = line_length c.args.store c.loop-n.n _ c.requires.0 ((let nogoods : length c.args.store.lists.nogoods ≤ limits.nogoods = let e : length c.args.store.lists.nogoods ≡ limits.nogoods = search rules in omega arith in nogoods)) ((let low : c.loop-n.n ≤ limits.numbers = omega (arith, (let inside : c.loop-n.n < c.args.end = omega arith in inside), c.requires.2) in low)) in line_most), c.loop-n.invariant.2, c.lined-sum.ensures.next, below_few c.args.store c.requires.0 ((let nogoods : length c.args.store.lists.nogoods ≤ limits.nogoods = let e : length c.args.store.lists.nogoods ≡ limits.nogoods = search rules in omega arith in nogoods)) c.loop-n.n (omega (arith, (let low : c.loop-n.n ≤ limits.numbers = omega (arith, (let inside : c.loop-n.n < c.args.end = omega arith in inside), c.requires.2) in low))))
+overflow_add-sum c =
+    let nogoods : length c.args.store.lists.nogoods ≤ limits.nogoods = let e : length c.args.store.lists.nogoods ≡ limits.nogoods = search rules in omega arith in
+    let inside : c.loop-n.n < c.args.end = omega arith in
+    let low : c.loop-n.n ≤ limits.numbers = omega (arith, inside, c.requires.2) in
+    let line : List ℕ = let n = c.loop-n.n in line_with c.args.store.lists n (eqb (get_or c.args.marks.now n 0) 0) in
+    let line_most : length line ≤ longest = line_length c.args.store c.loop-n.n _ c.requires.0 nogoods low in
+    omega (arith, line_most, c.loop-n.invariant.2, c.lined-sum.ensures.next, below_few c.args.store c.requires.0 nogoods c.loop-n.n (omega (arith, low)))
 
 pub overflow_step-n : goal.overflow_step-n
-overflow_step-n c = omega (arith, (let low : c.loop-n.n ≤ limits.numbers = omega (arith, (let inside : c.loop-n.n < c.args.end = omega arith in inside), c.requires.2) in low))
+overflow_step-n c =
+    let inside : c.loop-n.n < c.args.end = omega arith in
+    let low : c.loop-n.n ≤ limits.numbers = omega (arith, inside, c.requires.2) in
+    omega (arith, low)
 
 pub loop-n-smaller : goal.loop-n-smaller
-loop-n-smaller c = omega (arith, (let inside : c.loop-n.n < c.args.end = omega arith in inside))
+loop-n-smaller c =
+    let inside : c.loop-n.n < c.args.end = omega arith in
+    omega (arith, inside)
 
 pub loop-n-preserved : goal.loop-n-preserved
-loop-n-preserved c = (omega (arith, (let inside : c.loop-n.n < c.args.end = omega arith in inside)), put_length ((let line_room : Room ((let line : List ℕ = let n = c.loop-n.n in line_with c.args.store.lists n (eqb (get_or c.args.marks.now n 0) 0) in line)) 0 c.loop-n.text = omega (arith, (let line_most : length ((let line : List ℕ = let n = c.loop-n.n in line_with c.args.store.lists n (eqb (get_or c.args.marks.now n 0) 0) in line)) ≤ longest = line_length c.args.store c.loop-n.n _ c.requires.0 ((let nogoods : length c.args.store.lists.nogoods ≤ limits.nogoods = let e : length c.args.store.lists.nogoods ≡ limits.nogoods = search rules in omega arith in nogoods)) ((let low : c.loop-n.n ≤ limits.numbers = omega (arith, (let inside : c.loop-n.n < c.args.end = omega arith in inside), c.requires.2) in low)) in line_most), c.requires.3, c.loop-n.invariant.1) in line_room)) c.lined-sum.ensures ∙ c.loop-n.invariant.1, omega (arith, below_length c.args.store c.loop-n.n, ap length ((let line_is : (let line : List ℕ = let n = c.loop-n.n in line_with c.args.store.lists n (eqb (get_or c.args.marks.now n 0) 0) in line) ≡ line_text c.args.store c.loop-n.n = marked_line c.args.store c.args.marks.now c.requires.1 c.loop-n.n ((let low : c.loop-n.n ≤ limits.numbers = omega (arith, (let inside : c.loop-n.n < c.args.end = omega arith in inside), c.requires.2) in low)) in line_is)), c.loop-n.invariant.2, c.lined-sum.ensures.next))
+loop-n-preserved c =
+    let inside : c.loop-n.n < c.args.end = omega arith in
+    let nogoods : length c.args.store.lists.nogoods ≤ limits.nogoods = let e : length c.args.store.lists.nogoods ≡ limits.nogoods = search rules in omega arith in
+    let low : c.loop-n.n ≤ limits.numbers = omega (arith, inside, c.requires.2) in
+    let line : List ℕ = let n = c.loop-n.n in line_with c.args.store.lists n (eqb (get_or c.args.marks.now n 0) 0) in
+    let line_most : length line ≤ longest = line_length c.args.store c.loop-n.n _ c.requires.0 nogoods low in
+    let line_room : Room line 0 c.loop-n.text = omega (arith, line_most, c.requires.3, c.loop-n.invariant.1) in
+    let line_is : line ≡ line_text c.args.store c.loop-n.n = marked_line c.args.store c.args.marks.now c.requires.1 c.loop-n.n low in
+    (omega (arith, inside), put_length line_room c.lined-sum.ensures ∙ c.loop-n.invariant.1, omega (arith, below_length c.args.store c.loop-n.n, ap length line_is, c.loop-n.invariant.2, c.lined-sum.ensures.next))
 
 pub shape_of-text : goal.shape_of-text
 shape_of-text c = c.loop-n.invariant.1

@@ -2,7 +2,6 @@
 use mathlib.Core.List.{List, ◌++◌}
 use Prim.Native.Nat.{◌+◌, ℕ}
 use native.Mathlib.Omega.{arith}
-use borrow.Author.Rules.{rules}
 use Rattle.wording.proofs.Bounds.{bounded}
 use Rattle.listing.specs.Listing.{lines_below, listing_text}
 use Rattle.listing.proofs.Longest.{listing_parts}
@@ -21,13 +20,21 @@ pub overflow_cast-held-3 : goal.overflow_cast-held-3
 overflow_cast-held-3 c = let k = bounded c.args.store c.requires.0 in omega (arith, k.held)
 
 pub head-at-requires : goal.head-at-requires
-head-at-requires c = left_room (first c.args.store) (after c.args.store) ((let begun : Left (first c.args.store ++ after c.args.store) 0 c.args.out.now (listing_text c.args.store) 0 c.args.out.now = left_as (listing_parts c.args.store) c.requires.2 in begun))
+head-at-requires c =
+    let begun : Left (first c.args.store ++ after c.args.store) 0 c.args.out.now (listing_text c.args.store) 0 c.args.out.now = left_as (listing_parts c.args.store) c.requires.2 in
+    left_room (first c.args.store) (after c.args.store) begun
 
 pub overflow_add-held : goal.overflow_add-held
 overflow_add-held c = let k = bounded c.args.store c.requires.0 in omega (arith, k.assumptions, k.claims)
 
 pub rows-requires : goal.rows-requires
-rows-requires c = let k = bounded c.args.store c.requires.0 in (c.requires.0, c.requires.1, omega (arith, k.assumptions, k.claims), ((let headed : Left (after c.args.store) c.head-at.result c.head-at.new.out (listing_text c.args.store) 0 c.args.out.now = left_then (first c.args.store) (after c.args.store) ((let begun : Left (first c.args.store ++ after c.args.store) 0 c.args.out.now (listing_text c.args.store) 0 c.args.out.now = left_as (listing_parts c.args.store) c.requires.2 in begun)) c.head-at.ensures in headed)).room)
+rows-requires c =
+    let begun : Left (first c.args.store ++ after c.args.store) 0 c.args.out.now (listing_text c.args.store) 0 c.args.out.now = left_as (listing_parts c.args.store) c.requires.2 in
+    let headed : Left (after c.args.store) c.head-at.result c.head-at.new.out (listing_text c.args.store) 0 c.args.out.now = left_then (first c.args.store) (after c.args.store) begun c.head-at.ensures in
+    let k = bounded c.args.store c.requires.0 in (c.requires.0, c.requires.1, omega (arith, k.assumptions, k.claims), headed.room)
 
 pub returns : goal.returns
-returns c = ((let headed : Left (after c.args.store) c.head-at.result c.head-at.new.out (listing_text c.args.store) 0 c.args.out.now = left_then (first c.args.store) (after c.args.store) ((let begun : Left (first c.args.store ++ after c.args.store) 0 c.args.out.now (listing_text c.args.store) 0 c.args.out.now = left_as (listing_parts c.args.store) c.requires.2 in begun)) c.head-at.ensures in headed)).done _ _ c.rows.ensures
+returns c =
+    let begun : Left (first c.args.store ++ after c.args.store) 0 c.args.out.now (listing_text c.args.store) 0 c.args.out.now = left_as (listing_parts c.args.store) c.requires.2 in
+    let headed : Left (after c.args.store) c.head-at.result c.head-at.new.out (listing_text c.args.store) 0 c.args.out.now = left_then (first c.args.store) (after c.args.store) begun c.head-at.ensures in
+    headed.done _ _ c.rows.ensures

@@ -2,7 +2,7 @@
 use Rattle.stagetext.specs.Stagetext.{body_of}
 use Rattle.stagetext.proofs.Laws.{body_few, body_next, body_none}
 use mathlib.Core.Path.{◌≡◌, ap, ◌∙◌}
-use Prim.Native.Nat.{ℕ, ◌+◌, ◌-◌, ◌≤◌}
+use Prim.Native.Nat.{ℕ, ◌+◌}
 use native.Mathlib.Omega.{arith}
 use lib.ListN.{length}
 use Rattle.stagetext.proofs.body_width.Goals as goal

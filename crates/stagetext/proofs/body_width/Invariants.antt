@@ -1,9 +1,7 @@
 -- `stagetext::body_width` meets its contract. Assumes nothing.
 use Rattle.stagetext.specs.Stagetext.{body_of}
-use Rattle.stagetext.proofs.Laws.{body_few, body_next, body_none}
-use mathlib.Core.Path.{◌≡◌, ap, ◌∙◌}
-use Prim.Native.Nat.{ℕ, ◌+◌, ◌-◌, ◌≤◌}
-use native.Mathlib.Omega.{arith}
+use mathlib.Core.Path.{◌≡◌}
+use Prim.Native.Nat.{◌-◌, ◌≤◌}
 use lib.ListN.{length}
 use Rattle.stagetext.proofs.body_width.Given as goal
 

@@ -1,11 +1,10 @@
 -- `stagetext::last` meets its contract. Assumes nothing.
 use Rattle.stagetext.specs.Stagetext.{latest}
 use Rattle.stagetext.proofs.Laws.{latest_end, latest_next}
-use mathlib.Core.Path.{◌≡◌, refl, sym, ap, ◌∙◌}
-use Prim.Native.Nat.{ℕ, ◌+◌, ◌-◌, ◌≤◌}
+use mathlib.Core.Path.{refl, sym, ap, ◌∙◌}
+use Prim.Native.Nat.{ℕ, ◌+◌}
 use native.Mathlib.Omega.{arith}
-use borrow.Author.Rules.{rules}
-use lib.ListN.{length, drop}
+use lib.ListN.{drop}
 use Rattle.stagetext.proofs.last.Goals as goal
 
 pub loop-i-preserved : goal.loop-i-preserved

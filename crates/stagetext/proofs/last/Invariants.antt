@@ -1,10 +1,7 @@
 -- `stagetext::last` meets its contract. Assumes nothing.
 use Rattle.stagetext.specs.Stagetext.{latest}
-use Rattle.stagetext.proofs.Laws.{latest_end, latest_next}
-use mathlib.Core.Path.{◌≡◌, refl, sym, ap, ◌∙◌}
-use Prim.Native.Nat.{ℕ, ◌+◌, ◌-◌, ◌≤◌}
-use native.Mathlib.Omega.{arith}
-use borrow.Author.Rules.{rules}
+use mathlib.Core.Path.{◌≡◌}
+use Prim.Native.Nat.{◌-◌, ◌≤◌}
 use lib.ListN.{length, drop}
 use Rattle.stagetext.proofs.last.Given as goal
 

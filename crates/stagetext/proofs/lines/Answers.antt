@@ -1,7 +1,6 @@
 -- `stagetext::lines` meets its contract: the refusals, then the rows. Assumes nothing.
 use mathlib.Core.Path.{◌∙◌, sym}
 use native.Mathlib.Omega.{arith}
-use borrow.Author.Rules.{rules}
 use Rattle.plain.proofs.Laws.{followed_marks, followed_reply}
 use Rattle.stagetext.proofs.Laws.{lines_put, lines_refused}
 use Rattle.store.proofs.Reading.{Readable, readable}

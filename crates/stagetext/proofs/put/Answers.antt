@@ -2,7 +2,6 @@
 use mathlib.Core.Path.{ap}
 use Prim.Native.Nat.{◌+◌, ℕ}
 use native.Mathlib.Omega.{arith}
-use borrow.Author.Rules.{rules}
 use Rattle.stagetext.proofs.Laws.{latest_low, put_above, put_done, put_short}
 use Rattle.stagetext.proofs.put.Goals as goal
 

@@ -5,9 +5,8 @@ use Rattle.text.specs.Writing.{Put}
 use Rattle.stagetext.proofs.Upto.{put_next, put_start, step_room, upto}
 use Rattle.text.proofs.Writing.{put_length}
 use mathlib.Core.Path.{◌≡◌, refl, ◌∙◌, subst}
-use Prim.Native.Nat.{ℕ, ◌-◌, ◌≤◌}
+use Prim.Native.Nat.{ℕ}
 use native.Mathlib.Omega.{arith}
-use lib.ListN.{length}
 use Rattle.stagetext.proofs.rows.Goals as goal
 
 pub loop-k-init : goal.loop-k-init

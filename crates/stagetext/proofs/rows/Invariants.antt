@@ -1,12 +1,9 @@
 -- `stagetext::rows` meets its contract. Assumes nothing.
-use Rattle.stagetext.proofs.Laws.{rows_put, rows_room}
 use Rattle.stagetext.specs.Stagetext.{row_of}
 use Rattle.text.specs.Writing.{Put}
-use Rattle.stagetext.proofs.Upto.{put_next, put_start, step_room, upto}
-use Rattle.text.proofs.Writing.{put_length}
-use mathlib.Core.Path.{◌≡◌, refl, ◌∙◌, subst}
-use Prim.Native.Nat.{ℕ, ◌-◌, ◌≤◌}
-use native.Mathlib.Omega.{arith}
+use Rattle.stagetext.proofs.Upto.{upto}
+use mathlib.Core.Path.{◌≡◌}
+use Prim.Native.Nat.{◌-◌, ◌≤◌}
 use lib.ListN.{length}
 use Rattle.stagetext.proofs.rows.Given as goal
 

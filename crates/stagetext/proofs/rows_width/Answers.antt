@@ -3,9 +3,8 @@ use Rattle.text.proofs.Digits.{digits_most}
 use Rattle.stagetext.specs.Stagetext.{rows_of}
 use Rattle.stagetext.proofs.Laws.{body_few, row_length, rows_few, rows_next, rows_none}
 use mathlib.Core.Path.{◌≡◌, ap, ◌∙◌}
-use Prim.Native.Nat.{ℕ, ◌-◌, ◌≤◌}
+use Prim.Native.Nat.{ℕ}
 use native.Mathlib.Omega.{arith}
-use borrow.Author.Rules.{rules}
 use lib.ListN.{length}
 use Rattle.stagetext.proofs.rows_width.Goals as goal
 

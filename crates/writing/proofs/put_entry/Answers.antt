@@ -6,9 +6,7 @@ use native.Mathlib.Omega.{arith}
 use lib.ListN.{length, take}
 use lib.Seq.{length-take-le}
 use Rattle.rules.specs.Held.{meaning}
-use Rattle.rules.specs.declared.Entry.{Entry}
 use Rattle.text.proofs.Writing.{Left, left_as, left_room, left_then}
-use Rattle.text.specs.Writing.{Put, Room}
 use Rattle.theory.specs.Limits.{limits}
 use Rattle.theory.specs.Lists.{each}
 use Rattle.writing.proofs.Turns.{record_parts}
@@ -16,55 +14,51 @@ use Rattle.writing.specs.Writing.{bytes_of, record_for}
 use borrow.Author.Rules.{rules}
 use Rattle.writing.proofs.put_entry.Goals as goal
 
-module _ (e : Entry) (at₀ : ℕ) (b₀ : List ℕ) (inside : e.count ≤ length e.supports) (room : Room (each bytes_of (record_for (meaning e))) at₀ b₀) where
-  -- what is left to be written of the record
-  abbrev Rest : List ℕ → ℕ → List ℕ → Type 0
-  Rest t at b = Left t at b (each bytes_of (record_for (meaning e))) at₀ b₀
-
-  begun : Rest (bytes_of e.consequent ++ (bytes_of e.count ++ each bytes_of (take e.count e.supports))) at₀ b₀
-  begun = left_as (record_parts e inside) room
-
-  counted : {at : ℕ} {b : List ℕ} → Put (bytes_of e.consequent) at₀ b₀ b at → Rest (bytes_of e.count ++ each bytes_of (take e.count e.supports)) at b
-  counted p = left_then _ _ begun p
-
-  listed : {at at' : ℕ} {b b' : List ℕ} → Put (bytes_of e.consequent) at₀ b₀ b at → Put (bytes_of e.count) at b b' at' → Rest (each bytes_of (take e.count e.supports)) at' b'
-  listed p q = left_then _ _ (counted p) q
-
-inside_lem : (e : Entry) → length e.supports ≡ limits.supports → e.count ≤ limits.supports → e.count ≤ length e.supports
-inside_lem e l h = omega (arith, l, h)
-
 pub put_number-counted-requires : goal.put_number-counted-requires
 put_number-counted-requires c =
-    let e = c.args.entry in
-    let long : length e.supports ≡ limits.supports = search rules in
-    (omega (arith, c.requires.0), left_room (bytes_of e.consequent) _ (begun e _ _ (inside_lem e long c.requires.1) c.requires.2))
+    let long : length c.args.entry.supports ≡ limits.supports = search rules in
+    let inside : c.args.entry.count ≤ length c.args.entry.supports = omega (arith, long, c.requires.1) in
+    let Rest : List ℕ → ℕ → List ℕ → Type 0 = (λ t at out. Left t at out (each bytes_of (record_for (meaning c.args.entry))) c.args.at c.args.out.now) in
+    let begun : let e = c.args.entry in Rest (bytes_of e.consequent ++ (bytes_of e.count ++ each bytes_of (take e.count e.supports))) c.args.at c.args.out.now = left_as (record_parts c.args.entry inside) c.requires.2 in
+    (omega (arith, c.requires.0), left_room (bytes_of c.args.entry.consequent) _ begun)
 
 pub put_number-listed-requires : goal.put_number-listed-requires
 put_number-listed-requires c =
-    let e = c.args.entry in
-    let long : length e.supports ≡ limits.supports = search rules in
-    (omega (arith, c.requires.1), left_room (bytes_of e.count) _ (counted e _ _ (inside_lem e long c.requires.1) c.requires.2 c.put_number-counted.ensures))
+    let long : length c.args.entry.supports ≡ limits.supports = search rules in
+    let inside : c.args.entry.count ≤ length c.args.entry.supports = omega (arith, long, c.requires.1) in
+    let Rest : List ℕ → ℕ → List ℕ → Type 0 = (λ t at out. Left t at out (each bytes_of (record_for (meaning c.args.entry))) c.args.at c.args.out.now) in
+    let begun : let e = c.args.entry in Rest (bytes_of e.consequent ++ (bytes_of e.count ++ each bytes_of (take e.count e.supports))) c.args.at c.args.out.now = left_as (record_parts c.args.entry inside) c.requires.2 in
+    let counted : let e = c.args.entry in Rest (bytes_of e.count ++ each bytes_of (take e.count e.supports)) c.put_number-counted.result c.put_number-counted.new.out = left_then _ _ begun c.put_number-counted.ensures in
+    (omega (arith, c.requires.1), left_room (bytes_of c.args.entry.count) _ counted)
 
 pub slice_bounds-supports-end : goal.slice_bounds-supports-end
 slice_bounds-supports-end c =
-    let e = c.args.entry in
-    let long : length e.supports ≡ limits.supports = search rules in
-    inside_lem e long c.requires.1
+    let long : length c.args.entry.supports ≡ limits.supports = search rules in
+    let inside : c.args.entry.count ≤ length c.args.entry.supports = omega (arith, long, c.requires.1) in
+    inside
 
 pub slice_bounds-put_numbers-end : goal.slice_bounds-put_numbers-end
 slice_bounds-put_numbers-end c =
-    let e = c.args.entry in
-    let long : length e.supports ≡ limits.supports = search rules in
-    sym (length-take-le _ e.supports (inside_lem e long c.requires.1))
+    let long : length c.args.entry.supports ≡ limits.supports = search rules in
+    let inside : c.args.entry.count ≤ length c.args.entry.supports = omega (arith, long, c.requires.1) in
+    sym (length-take-le _ c.args.entry.supports inside)
 
 pub put_numbers-requires : goal.put_numbers-requires
 put_numbers-requires c =
-    let e = c.args.entry in
-    let long : length e.supports ≡ limits.supports = search rules in
-    (listed e _ _ (inside_lem e long c.requires.1) c.requires.2 c.put_number-counted.ensures c.put_number-listed.ensures).room
+    let long : length c.args.entry.supports ≡ limits.supports = search rules in
+    let inside : c.args.entry.count ≤ length c.args.entry.supports = omega (arith, long, c.requires.1) in
+    let Rest : List ℕ → ℕ → List ℕ → Type 0 = (λ t at out. Left t at out (each bytes_of (record_for (meaning c.args.entry))) c.args.at c.args.out.now) in
+    let begun : let e = c.args.entry in Rest (bytes_of e.consequent ++ (bytes_of e.count ++ each bytes_of (take e.count e.supports))) c.args.at c.args.out.now = left_as (record_parts c.args.entry inside) c.requires.2 in
+    let counted : let e = c.args.entry in Rest (bytes_of e.count ++ each bytes_of (take e.count e.supports)) c.put_number-counted.result c.put_number-counted.new.out = left_then _ _ begun c.put_number-counted.ensures in
+    let listed : let e = c.args.entry in Rest (each bytes_of (take e.count e.supports)) c.put_number-listed.result c.put_number-listed.new.out = left_then _ _ counted c.put_number-listed.ensures in
+    listed.room
 
 pub returns : goal.returns
 returns c =
-    let e = c.args.entry in
-    let long : length e.supports ≡ limits.supports = search rules in
-    (listed e _ _ (inside_lem e long c.requires.1) c.requires.2 c.put_number-counted.ensures c.put_number-listed.ensures).done _ _ c.put_numbers.ensures
+    let long : length c.args.entry.supports ≡ limits.supports = search rules in
+    let inside : c.args.entry.count ≤ length c.args.entry.supports = omega (arith, long, c.requires.1) in
+    let Rest : List ℕ → ℕ → List ℕ → Type 0 = (λ t at out. Left t at out (each bytes_of (record_for (meaning c.args.entry))) c.args.at c.args.out.now) in
+    let begun : let e = c.args.entry in Rest (bytes_of e.consequent ++ (bytes_of e.count ++ each bytes_of (take e.count e.supports))) c.args.at c.args.out.now = left_as (record_parts c.args.entry inside) c.requires.2 in
+    let counted : let e = c.args.entry in Rest (bytes_of e.count ++ each bytes_of (take e.count e.supports)) c.put_number-counted.result c.put_number-counted.new.out = left_then _ _ begun c.put_number-counted.ensures in
+    let listed : let e = c.args.entry in Rest (each bytes_of (take e.count e.supports)) c.put_number-listed.result c.put_number-listed.new.out = left_then _ _ counted c.put_number-listed.ensures in
+    listed.done _ _ c.put_numbers.ensures

@@ -1,4 +1,4 @@
--- The invariant of `writing::put_held`: the records from here on are left to be written. Assumes nothing.
+-- `writing::put_held` meets its contract. The invariant: the records from here on are left to be written. Assumes nothing.
 use Prim.Native.Nat.{◌-◌, ◌≤◌}
 use lib.ListN.{drop}
 use Rattle.rules.specs.Held.{said_by}

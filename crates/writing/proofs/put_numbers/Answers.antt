@@ -13,25 +13,20 @@ use Rattle.writing.proofs.put_numbers.Goals as goal
 pub loop-i-init : goal.loop-i-init
 loop-i-init c = (refl, omega arith, left_start c.requires)
 
-pub bounds-list-i : goal.bounds-list-i
-bounds-list-i c = (let inside : c.loop-i.i < length c.args.list.now = omega arith in inside)
-
-pub overflow_cast-list : goal.overflow_cast-list
-overflow_cast-list c = omega (arith, c.shared_slice_known-in-loop-i-1.given c.loop-i.i)
-
 pub put_number-next-requires : goal.put_number-next-requires
 put_number-next-requires c =
+    let inside : c.loop-i.i < length c.args.list.now = omega arith in
+    let turn : let i = c.loop-i.i in let l = c.args.list.now in Left (bytes_of (get_or l i 0) ++ each bytes_of (drop (i + 1) l)) c.loop-i.next c.loop-i.out (each bytes_of l) c.args.at c.args.out.now = rw (← each_turn bytes_of c.args.list.now c.loop-i.i 0 inside) c.loop-i.invariant.2 in
     let i = c.loop-i.i in
-    (omega (arith, c.shared_slice_known-in-loop-i-1.given i), left_room (bytes_of (get_or c.args.list.now i 0)) _ ((let turn : let i = c.loop-i.i in let l = c.args.list.now in Left (bytes_of (get_or l i 0) ++ each bytes_of (drop (i + 1) l)) c.loop-i.next c.loop-i.out (each bytes_of l) c.args.at c.args.out.now = rw (← each_turn bytes_of c.args.list.now c.loop-i.i 0 ((let inside : c.loop-i.i < length c.args.list.now = omega arith in inside))) c.loop-i.invariant.2 in turn)))
-
-pub overflow_step-i : goal.overflow_step-i
-overflow_step-i c = omega (arith, (let inside : c.loop-i.i < length c.args.list.now = omega arith in inside))
+    (omega (arith, c.type_inv.list i), left_room (bytes_of (get_or c.args.list.now i 0)) _ turn)
 
 pub loop-i-preserved : goal.loop-i-preserved
-loop-i-preserved c = (c.loop-i.invariant.0, omega (arith, (let inside : c.loop-i.i < length c.args.list.now = omega arith in inside)), left_then _ _ ((let turn : let i = c.loop-i.i in let l = c.args.list.now in Left (bytes_of (get_or l i 0) ++ each bytes_of (drop (i + 1) l)) c.loop-i.next c.loop-i.out (each bytes_of l) c.args.at c.args.out.now = rw (← each_turn bytes_of c.args.list.now c.loop-i.i 0 ((let inside : c.loop-i.i < length c.args.list.now = omega arith in inside))) c.loop-i.invariant.2 in turn)) c.put_number-next.ensures)
-
-pub shape_of-out : goal.shape_of-out
-shape_of-out c = ((let ended : Left [] c.loop-i.next c.loop-i.out (each bytes_of c.args.list.now) c.args.at c.args.out.now = rw (each_end bytes_of c.args.list.now c.loop-i.i (omega arith)) at c.loop-i.invariant.2 in ended)).same
+loop-i-preserved c =
+    let inside : c.loop-i.i < length c.args.list.now = omega arith in
+    let turn : let i = c.loop-i.i in let l = c.args.list.now in Left (bytes_of (get_or l i 0) ++ each bytes_of (drop (i + 1) l)) c.loop-i.next c.loop-i.out (each bytes_of l) c.args.at c.args.out.now = rw (← each_turn bytes_of c.args.list.now c.loop-i.i 0 inside) c.loop-i.invariant.2 in
+    (c.loop-i.invariant.0, omega (arith, inside), left_then _ _ turn c.put_number-next.ensures)
 
 pub returns : goal.returns
-returns c = left_none ((let ended : Left [] c.loop-i.next c.loop-i.out (each bytes_of c.args.list.now) c.args.at c.args.out.now = rw (each_end bytes_of c.args.list.now c.loop-i.i (omega arith)) at c.loop-i.invariant.2 in ended))
+returns c =
+    let ended : Left [] c.loop-i.next c.loop-i.out (each bytes_of c.args.list.now) c.args.at c.args.out.now = rw (each_end bytes_of c.args.list.now c.loop-i.i (omega arith)) at c.loop-i.invariant.2 in
+    left_none ended
