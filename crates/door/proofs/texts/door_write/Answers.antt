@@ -1,0 +1,15 @@
+-- `door::texts::door_write` meets its contract: what `writing::write` writes, and its answer as `written` gives it. Assumes nothing.
+use Rattle.lent.specs.declared.Listed.{Listed}
+use Rattle.across.specs.Across.{wrote_by}
+use mathlib.Core.Path.{◌∙◌, ap}
+use borrow.Author.Rules.{rules}
+use Rattle.door.proofs.texts.door_write.Goals as goal
+
+pub returns : goal.returns
+returns c = let said = c.write-told.ensures in (c.written.ensures ∙ ap (λ (r : Listed). wrote_by r.answer) said.0, said.1)
+
+pub write-told-requires : goal.write-told-requires
+write-told-requires c = tt
+
+pub written-requires : goal.written-requires
+written-requires c = tt
