@@ -82,43 +82,43 @@ bare_asked C κs a r e =
     × (e.1.1.0.now ≡ (C.bare (query_by a.0) a.1.0.now a.1.1.0.now).bytes)
 
 pub record Crosses (C : Calls) : Type 2 where
-  pub opening : Tied open_at.ended open_code.routine open-reads.Asked open-reads.Learnt
+  pub opening : Tied open_at.ended open_code.code open_code.name open-reads.Asked open-reads.Learnt
       (λ κs a r e. r ≡ made_by (C.opening a.0 a.1.0))
-  pub loading : Tied load_at.ended load_code.routine load-reads.Asked load-reads.Learnt
+  pub loading : Tied load_at.ended load_code.code load_code.name load-reads.Asked load-reads.Learnt
       (λ κs a r e. r ≡ loaded_by (C.loading a.0.now))
-  pub adding : Tied add_at.ended add-code.routine add_reads.Asked add_reads.Learnt
+  pub adding : Tied add_at.ended add-code.code add-code.name add_reads.Asked add_reads.Learnt
       (λ κs a r e. r ≡ made_by (C.adding a.0 a.1.0 a.1.1.0.now))
-  pub adding_all : Walked add-all-at.ended add-all-code.routine (λ M. add-all-at.clauses) (all_added C)
-  pub withdrawing : Tied withdraw-at.ended withdraw-code.routine withdraw-reads.Asked withdraw-reads.Learnt
+  pub adding_all : Walked add-all-at.ended add-all-code.code add-all-code.name (λ M 𝓤 𝓛. add-all-at.clauses 𝓛) (all_added C)
+  pub withdrawing : Tied withdraw-at.ended withdraw-code.code withdraw-code.name withdraw-reads.Asked withdraw-reads.Learnt
       (λ κs a r e. r ≡ made_by (C.withdrawing a.0 a.1.0 a.1.1.0.now))
-  pub shape : Tied shape_at.ended shape-code.routine shape-reads.Asked shape-reads.Learnt
+  pub shape : Tied shape_at.ended shape-code.code shape-code.name shape-reads.Asked shape-reads.Learnt
       (λ κs a r e. r ≡ C.shape a.0)
-  pub question : Tied question-at.ended question-code.routine question-reads.Asked question-reads.Learnt
+  pub question : Tied question-at.ended question-code.code question-code.name question-reads.Asked question-reads.Learnt
       (λ κs a r e. r ≡ reasoned_by (C.reading a.0 (question a.1.0 a.1.1.0)).said)
-  pub context : Tied context-at.ended context-code.routine context-reads.Asked context-reads.Learnt
+  pub context : Tied context-at.ended context-code.code context-code.name context-reads.Asked context-reads.Learnt
       (λ κs a r e. (r ≡ number_of (C.reading a.0 (context a.1.0 a.1.1.0.now)).said) × (e.1.1.0.now ≡ (C.reading a.0 (context a.1.0 a.1.1.0.now)).bytes))
-  pub member : Tied member_at_lem.ended member-code.routine member-reads.Asked member-reads.Learnt
+  pub member : Tied member_at_lem.ended member-code.code member-code.name member-reads.Asked member-reads.Learnt
       (λ κs a r e. r ≡ found_by (C.reading a.0 (member a.1.0 a.1.1.0)).said)
-  pub line : Tied line_at_lem.ended line_code.routine line_reads_lem.Asked line_reads_lem.Learnt
+  pub line : Tied line_at_lem.ended line_code.code line_code.name line_reads_lem.Asked line_reads_lem.Learnt
       (λ κs a r e. (r ≡ wrote_by (C.reading a.0 (line a.1.0 a.1.1.0.now)).said) × (e.1.1.0.now ≡ (C.reading a.0 (line a.1.0 a.1.1.0.now)).bytes))
-  pub case_line : Tied case-line-at.ended case-line-code.routine case-line-reads.Asked case-line-reads.Learnt
+  pub case_line : Tied case-line-at.ended case-line-code.code case-line-code.name case-line-reads.Asked case-line-reads.Learnt
       (λ κs a r e. (r ≡ wrote_by (C.reading a.0 (case_line a.1.0.now)).said) × (e.1.0.now ≡ (C.reading a.0 (case_line a.1.0.now)).bytes))
-  pub listing : Tied listing-at.ended listing-code.routine listing-reads.Asked listing-reads.Learnt
+  pub listing : Tied listing-at.ended listing-code.code listing-code.name listing-reads.Asked listing-reads.Learnt
       (λ κs a r e. (r ≡ wrote_by (C.reading a.0 (list_all a.1.0.now)).said) × (e.1.0.now ≡ (C.reading a.0 (list_all a.1.0.now)).bytes))
-  pub plainly : Tied plainly-at.ended plainly-code.routine plainly-reads.Asked plainly-reads.Learnt
+  pub plainly : Tied plainly-at.ended plainly-code.code plainly-code.name plainly-reads.Asked plainly-reads.Learnt
       (λ κs a r e. r ≡ plainly_by (C.reading a.0 (plainly a.1.0 a.1.1.0)).said)
-  pub plain_context : Tied plain-context-at.ended plain-context-code.routine plain-context-reads.Asked plain-context-reads.Learnt
+  pub plain_context : Tied plain-context-at.ended plain-context-code.code plain-context-code.name plain-context-reads.Asked plain-context-reads.Learnt
       (λ κs a r e. (r ≡ number_of (C.reading a.0 (plain_context a.1.0 a.1.1.0.now)).said) × (e.1.1.0.now ≡ (C.reading a.0 (plain_context a.1.0 a.1.1.0.now)).bytes))
-  pub stage_lines : Tied stages_at.ended stages-code.routine stages-reads.Asked stages-reads.Learnt
+  pub stage_lines : Tied stages_at.ended stages-code.code stages-code.name stages-reads.Asked stages-reads.Learnt
       (λ κs a r e. (r ≡ wrote_by (C.reading a.0 (stage_lines a.1.0 a.1.1.0.now)).said) × (e.1.1.0.now ≡ (C.reading a.0 (stage_lines a.1.0 a.1.1.0.now)).bytes))
-  pub bare : Walked bare-at.ended bare-code.routine (λ M. bare-at.clauses) (bare_asked C)
-  pub file : Tied write-at.ended write-code.routine write-reads.Asked write-reads.Learnt
+  pub bare : Walked bare-at.ended bare-code.code bare-code.name (λ M 𝓤 𝓛. bare-at.clauses 𝓛) (bare_asked C)
+  pub file : Tied write-at.ended write-code.code write-code.name write-reads.Asked write-reads.Learnt
       (λ κs a r e. (r ≡ wrote_by (C.reading a.0 (file a.1.0.now)).said) × (e.1.0.now ≡ (C.reading a.0 (file a.1.0.now)).bytes))
-  pub refusal : Tied refusal-at.ended refusal-code.routine refusal-reads.Asked refusal-reads.Learnt
+  pub refusal : Tied refusal-at.ended refusal-code.code refusal-code.name refusal-reads.Asked refusal-reads.Learnt
       (λ κs a r e. (r ≡ wrote_by (fitted (refusalLine a.0 a.1.0) a.1.1.0.now).answer) × (e.1.1.0.now ≡ (fitted (refusalLine a.0 a.1.0) a.1.1.0.now).bytes))
   -- .. which at each reply's number is the call's own line
   pub refusals : (r : Reply) (k : ℕ) (out : List ℕ) → C.refusal r k out ≡ fitted (refusalLine (number_of r) k) out
-  pub printing : Tied printed-at.ended printed-code.routine printed-reads.Asked printed-reads.Learnt
+  pub printing : Tied printed-at.ended printed-code.code printed-code.name printed-reads.Asked printed-reads.Learnt
       (λ κs a r e. (r ≡ wrote_by (C.printing a.0.now a.1.0.now).answer) × (e.1.0.now ≡ (C.printing a.0.now a.1.0.now).bytes))
 
 -- ---- a contract allows one answer
