@@ -24,7 +24,7 @@ use Rattle.rules.specs.declared.Entry.{Entry}
 use Rattle.rules.specs.declared.Held.{Held}
 use Rattle.theory.proofs.Listing.{below_elim}
 use Rattle.theory.proofs.Lists.{all_elim, all_intro, and_intro, and_left, and_right, clash, not_so, some_elim, those_elim}
-use Rattle.theory.proofs.Order.{below_sorted, rising, sorted_head, sorted_tail, sorted_those}
+use Rattle.theory.proofs.Order.{below_sorted, sorted_head, sorted_tail, sorted_those}
 use Rattle.theory.proofs.Places.{is_table}
 use Rattle.theory.specs.Limits.{limits}
 use Rattle.theory.specs.Lists.{all_of, numbers_below, some_of, sorted_by, those}

@@ -15,7 +15,6 @@ use lib.ListN.{get_or, get_or-replicate, length, replicate, set, take}
 use lib.Seq.{ext_get_or, get_or-set_other, get_or-set_same}
 use borrow.Author.Tests.{eq-eqb, eqb-false, eqb-true, not-false, not-true}
 use Rattle.joining.specs.Layout.{lying}
-use Rattle.labels.specs.Entries.{between}
 use Rattle.labels.specs.Moved.{Quiet, Still, marked, stirs}
 use Rattle.members.proofs.First.{at_mem}
 use Rattle.rules.proofs.Laws.{right_range}

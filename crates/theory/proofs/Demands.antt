@@ -2,7 +2,6 @@
 use mathlib.Core.Bool.{Bool, false, not, true}
 use mathlib.Core.List.{List}
 use mathlib.Core.Logic.{◌↔◌}
-use mathlib.Core.Option.{none}
 use mathlib.Core.Path.{◌∙◌, ◌≡◌, ap, sym}
 use Prim.Native.Nat.{◌+◌, ◌-◌, ◌<◌, ◌^◌, ◌≤◌, suc, zero, ℕ}
 use native.Mathlib.Decide.{dec_lt}

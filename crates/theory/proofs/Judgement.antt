@@ -21,7 +21,6 @@ use Rattle.theory.proofs.Label.{inconsistent, label_elim, supported}
 use Rattle.theory.proofs.Listing.{below_intro}
 use Rattle.theory.proofs.Sameness.{Covered, same_stage}
 use Rattle.theory.proofs.Lists.{and_intro, and_left, and_right, clash}
-use Rattle.theory.specs.Cases.{at}
 use Rattle.theory.specs.Judge.{Stage, Verdict, agree, consequents, course, judge, label_long, label_over, lowest_long, nogoods_long, nogoods_over, ruling, same_sets, settled, stage_at, stage_of}
 use Rattle.theory.specs.Limits.{Limits}
 use Rattle.theory.specs.Lists.{alike, choose, numbers_below, numbers_to}

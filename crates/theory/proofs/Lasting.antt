@@ -8,7 +8,6 @@ use Prim.Native.Nat.{◌≤◌, suc, zero, ℕ}
 use native.Mathlib.Decide.{le_ind}
 use lib.Dec.{eqb}
 use Rattle.theory.proofs.Lists.{each_same, those_by_members, those_elim}
-use Rattle.theory.proofs.Sameness.{same_nogoods}
 use Rattle.theory.proofs.Step.{Least, label_step, label_cands, nogood_step, nogood_cands}
 use Rattle.theory.specs.Lists.{each, those}
 use Rattle.theory.specs.Sets.{contains, listing, union}

@@ -6,7 +6,6 @@ use mathlib.Core.List.Memᴰ.{tail as there}
 use mathlib.Core.List.{List, Memᴰ as Mem, [], ◌∷◌}
 use mathlib.Core.Logic.{◌⊎◌, inl, inr, ⊎_elim}
 use mathlib.Core.Path.{◌∙◌, ◌≡◌, ap, refl, sym}
-use Rattle.theory.specs.Cases.{at}
 use Rattle.theory.specs.Lists.{all_of, each, keep, some_of, those}
 
 -- ---- tests

@@ -11,7 +11,6 @@ use lib.Arith.{bin_ind}
 use lib.Bits.{or_zero_r}
 use lib.Count.{ones, ones_step}
 use lib.Dec.{eqb, ltb}
-use lib.Ieee.{odd}
 use denote.Struct.Rest.{rest}
 use borrow.Author.Tests.{eqb-false, eqb-true, ltb-false, ltb-true}
 use Rattle.theory.proofs.Label.{contains_elim, contains_intro}
@@ -21,7 +20,6 @@ use Rattle.theory.proofs.Sets.{or_half, or_odd, or_within, within_antisym, withi
 use Rattle.theory.proofs.Step.{Inside}
 use Rattle.theory.specs.Lists.{sorted_by}
 use Rattle.theory.specs.Sets.{before, contains, union, within}
-use types.Run.{first}
 
 half_within : (F E : ℕ) → within F E ≡ true → within (F / 2) (E / 2) ≡ true
 half_within F E w = or_within (F / 2) (E / 2) (sym (or_half F E) ∙ ap (λ (x : ℕ). x / 2) (within_or F E w))

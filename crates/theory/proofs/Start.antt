@@ -17,7 +17,6 @@ use Rattle.theory.proofs.Order.{label_sorted, nogoods_sorted, sorted_unique}
 use Rattle.theory.proofs.Select.{Selection}
 use Rattle.theory.proofs.Sets.{or_within, within_antisym, within_le, within_or}
 use Rattle.theory.proofs.Step.{label_sound, label_step, label_cands, nogood_sound, nogood_step, nogood_cands}
-use Rattle.theory.specs.Cases.{from}
 use Rattle.theory.specs.Lists.{all_of, sorted_by}
 use Rattle.theory.specs.Sets.{among, contains, digit, union, within}
 use Rattle.theory.specs.Stages.{Justification, follows, label_at, nogoods_at}

@@ -16,7 +16,6 @@ use Rattle.theory.proofs.Label.{clean_below, inconsistent, label_above, label_be
 use Rattle.theory.proofs.Listing.{within_below}
 use Rattle.theory.proofs.Lists.{clash, each_elim, each_intro, either, not_so, those_elim, those_intro}
 use Rattle.theory.proofs.Sets.{within_antisym, within_join, within_left, within_refl, within_right, within_trans, within_zero}
-use Rattle.theory.specs.Cases.{at, from}
 use Rattle.theory.specs.Lists.{each, those}
 use Rattle.theory.specs.Sets.{contains, union, within}
 use Rattle.theory.specs.Stages.{Justification, follows, label_at, nogoods_at}

@@ -1,8 +1,6 @@
 -- `asking::byte` meets its contract. Assumes nothing.
 use mathlib.Core.Bool.{◌&&◌}
 use mathlib.Core.Path.{◌∙◌, ap, sym}
-use Prim.Native.Nat.{ℕ}
-use borrow.Author.Rules.{rules}
 use Rattle.asking.specs.Asking.{byte_of}
 use Rattle.asking.specs.declared.Answer.{Answer}
 use Rattle.store.specs.Reading.{unlabelled}

@@ -1,10 +1,9 @@
 -- `asking::fill` meets its contract. The invariant: the bytes so far. Assumes nothing.
 use mathlib.Core.List.{List, ◌++◌}
 use mathlib.Core.Path.{◌∙◌, ◌≡◌, ap, refl}
-use Prim.Native.Nat.{◌+◌, ◌-◌, ◌≤◌, ℕ}
+use Prim.Native.Nat.{◌+◌, ℕ}
 use native.Mathlib.Omega.{arith}
 use lib.ListN.{drop, length, length-set, set}
-use borrow.Author.Rules.{rules}
 use Rattle.asking.proofs.Laws.{byte_at, bytes_told, fill_more, fill_none}
 use Rattle.following.proofs.Sowing.{marks_long}
 use Rattle.rules.specs.Held.{said_by}

@@ -1,15 +1,9 @@
 -- `asking::fill` meets its contract. The invariant: the bytes so far. Assumes nothing.
-use mathlib.Core.List.{List, ◌++◌}
-use mathlib.Core.Path.{◌∙◌, ◌≡◌, ap, refl}
-use Prim.Native.Nat.{◌+◌, ◌-◌, ◌≤◌, ℕ}
-use native.Mathlib.Omega.{arith}
-use lib.ListN.{drop, length, length-set, set}
-use borrow.Author.Rules.{rules}
-use Rattle.asking.proofs.Laws.{byte_at, bytes_told, fill_more, fill_none}
-use Rattle.following.proofs.Sowing.{marks_long}
-use Rattle.rules.specs.Held.{said_by}
-use Rattle.theory.specs.Demands.{follows_from_all}
-use Rattle.theory.specs.Limits.{limits}
+use mathlib.Core.List.{◌++◌}
+use mathlib.Core.Path.{◌≡◌}
+use Prim.Native.Nat.{◌-◌, ◌≤◌}
+use lib.ListN.{drop, length}
+use Rattle.asking.proofs.Laws.{byte_at}
 use Rattle.theory.specs.Places.{table}
 use Rattle.asking.proofs.fill.Given as goal
 

@@ -1,5 +1,4 @@
 -- `reach` meets its contract: the part that it hands on has count sets. Assumes nothing.
-use borrow.Author.Rules.{rules}
 use Rattle.asking.proofs.Laws.{reach_law}
 use Rattle.asking.proofs.reach.Goals as goal
 

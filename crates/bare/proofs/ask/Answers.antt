@@ -1,5 +1,5 @@
 -- `bare::ask` meets its contract: a turn does one item, and the list followed to its end answers what is asked. Assumes nothing.
-use Rattle.std.proofs.Common.{◌∙◌, arith}
+use Rattle.std.proofs.Common.{◌∙◌}
 use Rattle.bare.proofs.Answers.{finish_answers}
 use Rattle.bare.proofs.Chased.{begun_stands, going, step_left, step_stands}
 use Rattle.bare.proofs.ask.Goals as goal

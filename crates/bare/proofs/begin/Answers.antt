@@ -2,7 +2,6 @@
 use mathlib.Core.Path.{◌∙◌, sym}
 use Prim.Native.Nat.{◌≤◌}
 use native.Mathlib.Omega.{arith}
-use borrow.Author.Rules.{rules}
 use Rattle.bare.proofs.Steps.{begun_first, begun_over, counts_low}
 use Rattle.theory.specs.Limits.{limits}
 use Rattle.bare.proofs.begin.Goals as goal

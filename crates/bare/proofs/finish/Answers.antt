@@ -1,6 +1,5 @@
 -- `bare::finish` meets its contract: the fault, the set, then what the marks say. Assumes nothing.
 use mathlib.Core.Path.{◌∙◌, sym}
-use borrow.Author.Rules.{rules}
 use borrow.Author.Tests.{not-false, not-true}
 use Rattle.bare.proofs.Steps.{finish_fault, finish_set, finish_told}
 use Rattle.bare.proofs.finish.Goals as goal

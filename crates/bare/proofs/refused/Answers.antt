@@ -1,6 +1,5 @@
 -- `bare::refused` meets its contract. Assumes nothing.
 use Rattle.bare.proofs.Steps.{refused_fill, refused_lines, refused_word}
-use borrow.Author.Rules.{rules}
 use Rattle.bare.proofs.refused.Goals as goal
 
 pub returns-in-Number : goal.returns-in-Number

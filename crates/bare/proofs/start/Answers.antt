@@ -2,7 +2,6 @@
 use mathlib.Core.Bool.{Bool}
 use mathlib.Core.Path.{◌∙◌, ap, sym}
 use Rattle.theory.specs.Lists.{choose}
-use borrow.Author.Rules.{rules}
 use Rattle.bare.proofs.start.Goals as goal
 
 pub returns-then-low : goal.returns-then-low

@@ -2,7 +2,6 @@
 use mathlib.Core.Path.{◌∙◌, sym}
 use Rattle.bare.proofs.Items.{is_zero}
 use Rattle.bare.proofs.Steps.{step_follow, step_halt}
-use borrow.Author.Rules.{rules}
 use Rattle.bare.proofs.step.Goals as goal
 
 pub returns-then-number-ne0 : goal.returns-then-number-ne0

@@ -1,5 +1,4 @@
 -- `bare::tell` meets its contract, one way of asking after the other. Assumes nothing.
-use borrow.Author.Rules.{rules}
 use Rattle.bare.proofs.Steps.{told_fill, told_lines, told_word}
 use Rattle.bare.proofs.tell.Goals as goal
 

@@ -1,6 +1,5 @@
 -- `changing::less` meets its contract: the fault, then what is held. Assumes nothing.
 use mathlib.Core.Path.{◌∙◌, sym}
-use borrow.Author.Rules.{rules}
 use borrow.Author.Tests.{not-false, not-true}
 use Rattle.changing.proofs.Laws.{Item, Told, faultless, item, less_done, less_fault, less_unheld}
 use Rattle.rules.proofs.Steps.{fitting_count}

@@ -1,6 +1,5 @@
 -- `changing::more` meets its contract: the fault, then what is held. Assumes nothing.
 use mathlib.Core.Path.{◌∙◌, sym}
-use borrow.Author.Rules.{rules}
 use Rattle.changing.proofs.Laws.{Item, Told, faultless, item, more_done, more_fault, more_full, more_held}
 use Rattle.rules.proofs.Steps.{fitting_count}
 use Rattle.changing.proofs.more.Goals as goal

@@ -1,11 +1,10 @@
 -- `following::closed` meets its contract. Assumes nothing.
 use Rattle.rules.specs.Held.{said_by}
-use Rattle.following.specs.Marks.{sown}
-use Rattle.following.proofs.Closing.{Closes, Closing, closing_end, closing_next, closing_same, closing_start, hurried_closes, hurried_long}
+use Rattle.following.proofs.Closing.{closing_end, closing_next, closing_same, closing_start, hurried_closes, hurried_long}
 use Rattle.following.proofs.Passing.{pass_long}
 use Rattle.following.proofs.Places.{held_placed}
 use mathlib.Core.Path.{◌≡◌, sym, ap, ◌∙◌}
-use Prim.Native.Nat.{◌+◌, ◌-◌, ℕ}
+use Prim.Native.Nat.{◌+◌}
 use native.Mathlib.Omega.{arith}
 use borrow.Author.Rules.{rules}
 use lib.ListN.{length}

@@ -1,5 +1,4 @@
 -- `following::from_all` meets its contract. Assumes nothing.
-use borrow.Author.Rules.{rules}
 use Rattle.theory.specs.Demands.{follows_from_all}
 use Rattle.theory.specs.Sets.{together}
 use Rattle.following.proofs.from_all.Goals as goal

@@ -1,12 +1,10 @@
 -- `following::hints` is safe; its answer is a hint and nothing is said of it but its length. Assumes nothing.
-use mathlib.Core.Path.{◌∙◌, ◌≡◌}
-use Prim.Native.Nat.{◌+◌, ◌-◌, ◌≤◌}
+use mathlib.Core.Path.{◌∙◌}
 use native.Mathlib.Omega.{arith}
 use borrow.Author.Rules.{rules}
-use lib.ListN.{length, length-set}
+use lib.ListN.{length-set}
 use Rattle.following.proofs.Places.{entry_first}
 use Rattle.rules.proofs.Scan.{right_elim}
-use Rattle.theory.specs.Limits.{limits}
 use Rattle.following.proofs.hints.Goals as goal
 
 pub loop-j-init : goal.loop-j-init

@@ -1,11 +1,7 @@
 -- `following::hints` is safe; its answer is a hint and nothing is said of it but its length. Assumes nothing.
-use mathlib.Core.Path.{◌∙◌, ◌≡◌}
+use mathlib.Core.Path.{◌≡◌}
 use Prim.Native.Nat.{◌+◌, ◌-◌, ◌≤◌}
-use native.Mathlib.Omega.{arith}
-use borrow.Author.Rules.{rules}
-use lib.ListN.{length, length-set}
-use Rattle.following.proofs.Places.{entry_first}
-use Rattle.rules.proofs.Scan.{right_elim}
+use lib.ListN.{length}
 use Rattle.theory.specs.Limits.{limits}
 use Rattle.following.proofs.hints.Given as goal
 

@@ -1,8 +1,5 @@
 -- `following::hurried` meets its contract. The invariant: justifications held were gone over. Assumes nothing.
 use Prim.Native.Nat.{◌+◌, ◌-◌}
-use native.Mathlib.Omega.{arith}
-use borrow.Author.Rules.{rules}
-use Rattle.following.proofs.Closing.{hurried_none, hurried_then}
 use Rattle.following.specs.Promised.{Hurried}
 use Rattle.rules.specs.Held.{said_by}
 use Rattle.theory.specs.Limits.{limits}

@@ -1,14 +1,10 @@
 -- `following::pass` meets its contract. Assumes nothing.
 use Rattle.rules.proofs.Scan.{right_count, right_elim, right_inside}
-use Rattle.rules.specs.Held.{said_by}
-use Rattle.following.specs.Marks.{pass_over}
 use Rattle.following.proofs.Places.{entry_low, entry_supports, pass_end, pass_turn}
-use mathlib.Core.Path.{◌≡◌, refl, sym, ◌∙◌}
-use Prim.Native.Nat.{◌+◌, ◌-◌, ◌≤◌}
+use mathlib.Core.Path.{refl, sym, ◌∙◌}
 use native.Mathlib.Omega.{arith}
 use borrow.Author.Rules.{rules}
-use lib.ListN.{length, drop, length-set}
-use Rattle.theory.specs.Limits.{limits}
+use lib.ListN.{length-set}
 use Rattle.following.proofs.pass.Goals as goal
 
 pub loop-j-init : goal.loop-j-init

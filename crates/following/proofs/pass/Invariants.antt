@@ -1,13 +1,9 @@
 -- `following::pass` meets its contract. Assumes nothing.
-use Rattle.rules.proofs.Scan.{right_count, right_elim, right_inside}
 use Rattle.rules.specs.Held.{said_by}
 use Rattle.following.specs.Marks.{pass_over}
-use Rattle.following.proofs.Places.{entry_low, entry_supports, pass_end, pass_turn}
-use mathlib.Core.Path.{◌≡◌, refl, sym, ◌∙◌}
+use mathlib.Core.Path.{◌≡◌}
 use Prim.Native.Nat.{◌+◌, ◌-◌, ◌≤◌}
-use native.Mathlib.Omega.{arith}
-use borrow.Author.Rules.{rules}
-use lib.ListN.{length, drop, length-set}
+use lib.ListN.{length, drop}
 use Rattle.theory.specs.Limits.{limits}
 use Rattle.following.proofs.pass.Given as goal
 

@@ -1,12 +1,8 @@
 -- `following::stages` meets its contract. Assumes nothing.
 use Rattle.rules.specs.Held.{said_by}
-use Rattle.following.proofs.First.{stages_end, stages_next, stages_same}
 use Rattle.following.specs.First.{stages_from}
-use Rattle.following.proofs.Passing.{pass_long}
-use mathlib.Core.Path.{◌≡◌, refl, sym, ap, ◌∙◌}
+use mathlib.Core.Path.{◌≡◌}
 use Prim.Native.Nat.{◌+◌, ◌-◌}
-use native.Mathlib.Omega.{arith}
-use borrow.Author.Rules.{rules}
 use lib.ListN.{length}
 use Rattle.theory.specs.Limits.{limits}
 use Rattle.following.proofs.stages.Given as goal

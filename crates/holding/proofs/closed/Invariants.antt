@@ -1,15 +1,8 @@
 -- `closed` meets its contract. The loop: the places from `at` to i hold what was one above. Assumes nothing.
-use mathlib.Core.Path.{◌∙◌, ◌≡◌, ap, refl, subst}
-use Prim.Native.Nat.{◌+◌, ◌-◌, ◌<◌, ◌≤◌, ℕ}
-use native.Mathlib.Omega.{arith}
-use lib.ListN.{get_or, length, set}
-use borrow.Author.Rules.{rules}
-use Rattle.holding.proofs.Removing.{Closing, close_end, close_more, close_none, right_vacant}
+use mathlib.Core.Path.{◌≡◌}
+use Prim.Native.Nat.{◌-◌, ◌<◌, ◌≤◌}
+use Rattle.holding.proofs.Removing.{Closing}
 use Rattle.holding.specs.Placing.{with_entries}
-use Rattle.rules.proofs.Scan.{right_elim}
-use Rattle.rules.proofs.Steps.{beyond, length_mapped}
-use Rattle.rules.specs.Held.{vacant}
-use Rattle.rules.specs.declared.Held.{Held}
 use Rattle.theory.specs.Limits.{limits}
 use Rattle.holding.proofs.closed.Given as goal
 

@@ -1,15 +1,10 @@
 -- `holds` meets its contract. The loop: it is held if it is held from here on. Assumes nothing.
-use mathlib.Core.List.{map}
-use mathlib.Core.Path.{◌∙◌, ◌≡◌, refl, sym}
-use Prim.Native.Nat.{◌-◌, ◌≤◌}
+use mathlib.Core.Path.{◌∙◌, refl, sym}
 use native.Mathlib.Omega.{arith}
-use lib.ListN.{drop, take}
-use borrow.Author.Rules.{rules}
 use Rattle.holding.proofs.Steps.{held_end, held_hit, held_miss}
 use Rattle.rules.proofs.Scan.{right_count, right_elim, right_inside}
 use Rattle.rules.specs.Held.{meaning}
 use Rattle.rules.specs.Items.{same_justification}
-use Rattle.theory.specs.Lists.{some_of}
 use Rattle.holding.proofs.holds.Goals as goal
 
 pub offset_bounds-held-j : goal.offset_bounds-held-j

@@ -1,6 +1,6 @@
 -- `moved` meets its contract. The loop: the places above i hold what was one below. Assumes nothing.
 use mathlib.Core.Path.{◌∙◌, ◌≡◌, ap, refl, subst}
-use Prim.Native.Nat.{◌+◌, ◌-◌, ◌≤◌, ℕ}
+use Prim.Native.Nat.{◌+◌, ◌-◌, ℕ}
 use native.Mathlib.Omega.{arith}
 use lib.ListN.{get_or, length, set}
 use borrow.Author.Rules.{rules}

@@ -1,14 +1,8 @@
 -- `moved` meets its contract. The loop: the places above i hold what was one below. Assumes nothing.
-use mathlib.Core.Path.{◌∙◌, ◌≡◌, ap, refl, subst}
-use Prim.Native.Nat.{◌+◌, ◌-◌, ◌≤◌, ℕ}
-use native.Mathlib.Omega.{arith}
-use lib.ListN.{get_or, length, set}
-use borrow.Author.Rules.{rules}
-use Rattle.holding.proofs.Moving.{Shifting, shift_more, shift_none, shift_put}
+use mathlib.Core.Path.{◌≡◌}
+use Prim.Native.Nat.{◌≤◌}
+use Rattle.holding.proofs.Moving.{Shifting}
 use Rattle.holding.specs.Placing.{with_entries}
-use Rattle.rules.proofs.Steps.{beyond, length_mapped}
-use Rattle.rules.specs.declared.Held.{Held}
-use Rattle.theory.specs.Limits.{limits}
 use Rattle.holding.proofs.moved.Given as goal
 
 abbrev pub invariant-loop-i : goal.invariant-loop-i

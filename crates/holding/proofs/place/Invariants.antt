@@ -1,14 +1,9 @@
 -- `place` meets its contract. The loop: its place is as many passed, and its place among the rest. Assumes nothing.
 use mathlib.Core.List.{map}
-use mathlib.Core.Path.{◌∙◌, ◌≡◌, sym}
+use mathlib.Core.Path.{◌≡◌}
 use Prim.Native.Nat.{◌+◌, ◌-◌, ◌≤◌}
-use native.Mathlib.Nat.{zero-add}
-use native.Mathlib.Omega.{arith}
 use lib.ListN.{drop, take}
-use borrow.Author.Rules.{rules}
-use Rattle.holding.proofs.Steps.{place_end, place_here, place_more}
 use Rattle.holding.specs.Placing.{place_of}
-use Rattle.rules.proofs.Scan.{right_count, right_elim, right_inside}
 use Rattle.rules.specs.Held.{meaning}
 use Rattle.holding.proofs.place.Given as goal
 

@@ -1,12 +1,12 @@
 -- `joining::gather` meets its contract: its measure is the number of supports left. Assumes nothing.
 use mathlib.Core.Path.{◌∙◌, refl, sym}
-use Prim.Native.Nat.{◌-◌, ◌<◌, ℕ}
+use Prim.Native.Nat.{◌-◌}
 use native.Mathlib.Omega.{arith}
-use lib.ListN.{get_or, length}
+use lib.ListN.{get_or}
 use lib.Seq.{length-take-le}
 use borrow.Author.Rules.{rules}
 use Rattle.joining.proofs.Gathers.{gather_barred, gather_end}
-use Rattle.joining.proofs.Loops.{Turning, turn_late, turn_passed, turn_visited, turning_end, turning_none, turning_roomy}
+use Rattle.joining.proofs.Loops.{turn_late, turn_passed, turn_visited, turning_end, turning_none, turning_roomy}
 use Rattle.joining.proofs.Lying.{left_fewer, left_ranged}
 use Rattle.joining.proofs.+gather.Goals as goal
 

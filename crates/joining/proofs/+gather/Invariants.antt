@@ -1,13 +1,7 @@
 -- `joining::gather` meets its contract: its measure is the number of supports left. Assumes nothing.
-use mathlib.Core.Path.{◌∙◌, refl, sym}
-use Prim.Native.Nat.{◌-◌, ◌<◌, ℕ}
-use native.Mathlib.Omega.{arith}
-use lib.ListN.{get_or, length}
-use lib.Seq.{length-take-le}
-use borrow.Author.Rules.{rules}
-use Rattle.joining.proofs.Gathers.{gather_barred, gather_end}
-use Rattle.joining.proofs.Loops.{Turning, turn_late, turn_passed, turn_visited, turning_end, turning_none, turning_roomy}
-use Rattle.joining.proofs.Lying.{left_fewer, left_ranged}
+use Prim.Native.Nat.{◌-◌}
+use lib.ListN.{length}
+use Rattle.joining.proofs.Loops.{Turning}
 use Rattle.joining.proofs.+gather.Given as goal
 
 abbrev pub invariant-loop-at : goal.invariant-loop-at

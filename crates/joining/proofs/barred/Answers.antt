@@ -8,7 +8,6 @@ use lib.Seq.{get_or-take, length-take-le}
 use Rattle.theory.specs.Sets.{within}
 use Rattle.theory.specs.Step.{free}
 use Rattle.joining.proofs.Bars.{bar_list, bar_none, bar_struck}
-use borrow.Author.Rules.{rules}
 use Rattle.joining.proofs.barred.Goals as goal
 
 pub returns-then-i-struck : goal.returns-then-i-struck

@@ -1,15 +1,11 @@
 -- `labels::build` meets its contract. Assumes nothing.
 use mathlib.Core.List.{map}
-use mathlib.Core.Path.{sym}
 use Prim.Native.Nat.{◌-◌}
-use native.Mathlib.Omega.{arith}
-use lib.Seq.{length-take-le}
-use borrow.Author.Tests.{not-false, not-true}
-use Rattle.labels.proofs.Rounds.{Rounding, half_hushed, half_roomy, rounding_done, rounding_full, rounding_more, rounding_none, rounding_on, rounding_roomy}
+use Rattle.labels.proofs.Rounds.{Rounding}
 use Rattle.labels.specs.Entries.{between, entries_of}
 use Rattle.joining.specs.Layout.{lying}
 use Rattle.rules.specs.Held.{meaning}
-use Rattle.theory.specs.Step.{candidates, joins_for}
+use Rattle.theory.specs.Step.{joins_for}
 use Rattle.labels.proofs.build.Given as goal
 
 abbrev pub invariant-loop-pool : goal.invariant-loop-pool

@@ -1,8 +1,6 @@
 -- `labels::drawn` meets its contract. Assumes nothing.
 use Prim.Native.Nat.{◌+◌, ◌-◌}
-use native.Mathlib.Omega.{arith}
-use borrow.Author.Rules.{rules}
-use Rattle.labels.proofs.Drawing.{Drawn, drawn_all, drawn_full, drawn_more, drawn_none}
+use Rattle.labels.proofs.Drawing.{Drawn}
 use Rattle.theory.specs.Limits.{limits}
 use Rattle.labels.proofs.drawn.Given as goal
 

@@ -1,13 +1,12 @@
 -- `labels::pooled` meets its contract. Assumes nothing.
-use mathlib.Core.List.{[], ◌∷◌, map}
+use mathlib.Core.List.{[], ◌∷◌}
 use mathlib.Core.Path.{◌∙◌, refl, subst, sym}
-use Prim.Native.Nat.{◌-◌, ◌<◌, ◌≤◌}
+use Prim.Native.Nat.{◌<◌}
 use native.Mathlib.Omega.{arith}
-use borrow.Author.Rules.{rules}
 use Rattle.labels.proofs.Candidates.{joins_on, joins_over}
 use Rattle.labels.proofs.Ranges.{entries_long, entry_is, part_few, part_hushed, part_ranged}
-use Rattle.labels.proofs.Walks.{Left, left_all, left_end, left_hushed, left_roomy}
-use Rattle.labels.specs.Entries.{Few, between, entries_of}
+use Rattle.labels.proofs.Walks.{left_all, left_end, left_hushed, left_roomy}
+use Rattle.labels.specs.Entries.{Few, entries_of}
 use Rattle.joining.specs.Layout.{Ranged, lying}
 use Rattle.labels.specs.Moved.{Hushed}
 use Rattle.joining.specs.Pool.{Offered, filled}

@@ -1,12 +1,10 @@
 -- `labels::pour` meets its contract. Assumes nothing.
 use mathlib.Core.List.{[], ◌∷◌}
 use mathlib.Core.Path.{◌∙◌, refl, sym}
-use Prim.Native.Nat.{◌-◌, ◌≤◌}
 use native.Mathlib.Omega.{arith}
-use lib.ListN.{drop, drop_of_length-le, length}
-use borrow.Author.Rules.{rules}
+use lib.ListN.{drop_of_length-le}
 use Rattle.joining.proofs.Lying.{ranged_none}
-use Rattle.labels.proofs.Walks.{Left, alone_offered, late_offered, left_all, left_end, left_roomy, left_turn, list_on}
+use Rattle.labels.proofs.Walks.{alone_offered, late_offered, left_all, left_end, left_roomy, left_turn, list_on}
 use Rattle.labels.proofs.pour.Goals as goal
 
 pub loop-i-init : goal.loop-i-init

@@ -1,12 +1,9 @@
 -- `labels::stirred` meets its contract. Assumes nothing.
 use mathlib.Core.Path.{◌≡◌}
-use Prim.Native.Nat.{◌-◌, ◌≤◌}
 use native.Mathlib.Omega.{arith}
-use lib.ListN.{drop, length, take}
+use lib.ListN.{length}
 use borrow.Author.Rules.{rules}
 use Rattle.labels.proofs.Stirring.{stirs_first, stirs_here, stirs_none, stirs_on, stirs_rest, support_low}
-use Rattle.labels.specs.Moved.{marked, stirs}
-use Rattle.theory.specs.Lists.{some_of}
 use Rattle.labels.proofs.stirred.Goals as goal
 
 pub bounds-moved-0 : goal.bounds-moved-0

@@ -1,10 +1,7 @@
 -- `labels::stirred` meets its contract. Assumes nothing.
 use mathlib.Core.Path.{◌≡◌}
 use Prim.Native.Nat.{◌-◌, ◌≤◌}
-use native.Mathlib.Omega.{arith}
-use lib.ListN.{drop, length, take}
-use borrow.Author.Rules.{rules}
-use Rattle.labels.proofs.Stirring.{stirs_first, stirs_here, stirs_none, stirs_on, stirs_rest, support_low}
+use lib.ListN.{drop, take}
 use Rattle.labels.specs.Moved.{marked, stirs}
 use Rattle.theory.specs.Lists.{some_of}
 use Rattle.labels.proofs.stirred.Given as goal

@@ -1,12 +1,9 @@
 -- `members::first_within` meets its contract. Assumes nothing.
-use mathlib.Core.Path.{◌∙◌, ◌≡◌, ap, refl, sym}
-use Prim.Native.Nat.{◌+◌, ◌-◌, ◌≤◌}
+use mathlib.Core.Path.{◌∙◌, ap, refl, sym}
 use native.Mathlib.Omega.{arith}
-use lib.ListN.{drop, get_or, length}
+use lib.ListN.{get_or}
 use Rattle.members.proofs.First.{first_here, first_none, first_on, none_out, some_out}
-use Rattle.members.specs.Promised.{first_within}
 use Rattle.sets.specs.Promised.{meet}
-use borrow.Author.Rules.{rules}
 use Rattle.theory.specs.Limits.{limits}
 use Rattle.members.proofs.first_within.Goals as goal
 

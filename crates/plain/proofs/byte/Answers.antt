@@ -1,7 +1,6 @@
 -- `plain::byte` meets its contract. Assumes nothing.
 use Rattle.plain.specs.Plainly.{byte_of}
 use mathlib.Core.Path.{sym, ap, ◌∙◌}
-use borrow.Author.Rules.{rules}
 use Rattle.plain.proofs.byte.Goals as goal
 
 pub returns-in-Inconsistent : goal.returns-in-Inconsistent

@@ -1,7 +1,6 @@
 -- `plain::context` meets its contract: the refusals, then the bytes. Assumes nothing.
 use mathlib.Core.Path.{◌∙◌, sym}
 use native.Mathlib.Omega.{arith}
-use borrow.Author.Rules.{rules}
 use Rattle.asking.proofs.Laws.{context_refused}
 use Rattle.plain.proofs.Laws.{context_filled, followed_marks, followed_reply}
 use Rattle.plain.specs.Plainly.{plain_after}

@@ -1,10 +1,9 @@
 -- `plain::fill` meets its contract. The invariant: the bytes so far. Assumes nothing.
 use mathlib.Core.List.{List, ◌++◌}
 use mathlib.Core.Path.{◌∙◌, ◌≡◌, ap, refl}
-use Prim.Native.Nat.{◌+◌, ◌-◌, ◌≤◌, ℕ}
+use Prim.Native.Nat.{◌+◌, ℕ}
 use native.Mathlib.Omega.{arith}
-use borrow.Author.Rules.{rules}
-use lib.ListN.{drop, length, length-set, set}
+use lib.ListN.{drop, length-set, set}
 use Rattle.asking.proofs.Laws.{fill_more, fill_none}
 use Rattle.plain.proofs.Laws.{fill_done, fill_short}
 use Rattle.plain.specs.Plainly.{byte_of, read_from}

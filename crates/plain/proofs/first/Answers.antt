@@ -1,7 +1,6 @@
 -- `plain::first` meets its contract. Assumes nothing.
 use mathlib.Core.Path.{sym, ap, ◌∙◌}
 use mathlib.Core.Bool.{Bool}
-use borrow.Author.Rules.{rules}
 use Rattle.theory.specs.Lists.{choose}
 use Rattle.plain.proofs.first.Goals as goal
 

@@ -1,7 +1,6 @@
 -- `plain::follow` meets its contract: the refusals, then the stages. Assumes nothing.
 use mathlib.Core.Path.{◌∙◌, ap, sym}
 use Prim.Native.Nat.{◌+◌}
-use borrow.Author.Rules.{rules}
 use Rattle.following.proofs.First.{stages_since}
 use Rattle.following.specs.First.{stages_from}
 use Rattle.plain.proofs.Laws.{followable, followed_done, followed_refused, placed}

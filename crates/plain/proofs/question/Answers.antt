@@ -1,6 +1,5 @@
 -- `plain::question` meets its contract: the refusals, then what the marks say. Assumes nothing.
 use mathlib.Core.Path.{◌∙◌, sym}
-use borrow.Author.Rules.{rules}
 use Rattle.plain.proofs.Laws.{followed_marks, followed_reply, question_refused, question_says}
 use Rattle.store.proofs.Reading.{readable}
 use Rattle.plain.proofs.question.Goals as goal

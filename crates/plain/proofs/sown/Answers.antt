@@ -1,13 +1,12 @@
 -- `plain::sown` meets its contract. The invariant: the marks of the assumptions so far. Assumes nothing.
 use mathlib.Core.Bool.{true}
 use mathlib.Core.Path.{◌≡◌}
-use Prim.Native.Nat.{◌+◌, ◌-◌, ◌<◌, ◌^◌, ◌≤◌, ℕ}
+use Prim.Native.Nat.{◌<◌, ◌^◌, ℕ}
 use native.Mathlib.Omega.{arith}
 use borrow.Author.Rules.{rules}
 use borrow.Author.Tests.{lt-ltb}
-use Rattle.plain.proofs.Laws.{sow_end, sow_start, sow_turn, sowing}
+use Rattle.plain.proofs.Laws.{sow_end, sow_start, sow_turn}
 use Rattle.theory.specs.Limits.{limits}
-use Rattle.theory.specs.Places.{table}
 use Rattle.theory.specs.Sets.{in_range}
 use Rattle.plain.proofs.sown.Goals as goal
 

@@ -1,14 +1,9 @@
 -- `plain::sown` meets its contract. The invariant: the marks of the assumptions so far. Assumes nothing.
-use mathlib.Core.Bool.{true}
 use mathlib.Core.Path.{◌≡◌}
-use Prim.Native.Nat.{◌+◌, ◌-◌, ◌<◌, ◌^◌, ◌≤◌}
-use native.Mathlib.Omega.{arith}
-use borrow.Author.Rules.{rules}
-use borrow.Author.Tests.{lt-ltb}
-use Rattle.plain.proofs.Laws.{sow_end, sow_start, sow_turn, sowing}
+use Prim.Native.Nat.{◌+◌, ◌-◌, ◌≤◌}
+use Rattle.plain.proofs.Laws.{sowing}
 use Rattle.theory.specs.Limits.{limits}
 use Rattle.theory.specs.Places.{table}
-use Rattle.theory.specs.Sets.{in_range}
 use Rattle.plain.proofs.sown.Given as goal
 
 abbrev pub invariant-loop-k : goal.invariant-loop-k

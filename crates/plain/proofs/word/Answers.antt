@@ -1,5 +1,4 @@
 -- `plain::word` meets its contract. Assumes nothing.
-use borrow.Author.Rules.{rules}
 use Rattle.plain.proofs.Laws.{word_over, word_read}
 use Rattle.plain.proofs.word.Goals as goal
 

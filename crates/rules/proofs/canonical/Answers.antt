@@ -1,8 +1,7 @@
 -- `canonical` meets its contract. The loop: the place has the numbers below n that the supports have. Assumes nothing.
 use mathlib.Core.Path.{◌∙◌, ◌≡◌, ap, sym}
-use Prim.Native.Nat.{◌+◌, ◌-◌, ◌≤◌, ℕ}
+use Prim.Native.Nat.{◌+◌, ℕ}
 use native.Mathlib.Omega.{arith}
-use borrow.Author.Rules.{rules}
 use Rattle.rules.proofs.Faults.{faultless}
 use Rattle.rules.proofs.Taking.{partly_end, partly_head, partly_start}
 use Rattle.rules.specs.Placing.{partly}
@@ -17,8 +16,7 @@ loop-n-init c = (omega arith, partly_start _ _)
 
 pub taking-entry-requires : goal.taking-entry-requires
 taking-entry-requires c =
-    let l = c.loop-n in
-    (
+    let l = c.loop-n in (
       l.invariant.1 ∙ ap (λ (x : ℕ). partly x c.args.supports.now l.n) (sym (partly_head _ _ _ _ l.invariant.1)),
       (faultless c.args.top c.args.consequent c.args.supports.now c.requires.1).small,
       omega (arith, c.requires.0),

@@ -1,10 +1,6 @@
 -- `canonical` meets its contract. The loop: the place has the numbers below n that the supports have. Assumes nothing.
-use mathlib.Core.Path.{◌∙◌, ◌≡◌, ap, sym}
-use Prim.Native.Nat.{◌+◌, ◌-◌, ◌≤◌, ℕ}
-use native.Mathlib.Omega.{arith}
-use borrow.Author.Rules.{rules}
-use Rattle.rules.proofs.Faults.{faultless}
-use Rattle.rules.proofs.Taking.{partly_end, partly_head, partly_start}
+use mathlib.Core.Path.{◌≡◌}
+use Prim.Native.Nat.{◌+◌, ◌-◌, ◌≤◌}
 use Rattle.rules.specs.Placing.{partly}
 use Rattle.rules.proofs.canonical.Given as goal
 

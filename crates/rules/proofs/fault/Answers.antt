@@ -1,6 +1,5 @@
 -- `fault` meets its contract: the refusals in their order. Assumes nothing.
 use mathlib.Core.Path.{◌∙◌, sym}
-use borrow.Author.Rules.{rules}
 use Rattle.rules.proofs.Faults.{fault_above, fault_head, fault_many, fault_none, fault_own, fault_zero}
 use Rattle.rules.proofs.fault.Goals as goal
 

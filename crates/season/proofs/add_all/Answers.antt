@@ -1,6 +1,6 @@
 -- `season::add_all` meets its contract: the store and the bytes after the items so far. Assumes nothing.
-use Rattle.std.proofs.Common.{◌≡◌, ◌∙◌, ◌<◌, ◌++◌, ap, arith, drop, length, length-set, refl, rules, subst, sym, take, true, le_antisymm, ℕ}
-use Rattle.season.proofs.Folds.{Goes, all_end, all_right, begun_goes, bytes_next, bytes_none, store_next, store_none}
+use Rattle.std.proofs.Common.{◌≡◌, ◌∙◌, ◌<◌, ◌++◌, ap, arith, drop, length, rules, subst, sym, take, true, le_antisymm, ℕ}
+use Rattle.season.proofs.Folds.{all_end, all_right, begun_goes, bytes_next, bytes_none, store_next, store_none}
 use Rattle.season.specs.Season.{added_all, replies_of}
 use Rattle.store.specs.Calls.{answer}
 use Rattle.store.specs.Shape.{right_shape}

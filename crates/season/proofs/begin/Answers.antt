@@ -1,7 +1,6 @@
 -- `season::begin` meets its contract: the shape, then the room. Assumes nothing.
 use mathlib.Core.Bool.{true}
 use mathlib.Core.Path.{◌∙◌, ◌≡◌, sym}
-use borrow.Author.Rules.{rules}
 use borrow.Author.Tests.{not-false, not-true}
 use Rattle.season.proofs.Folds.{begun_done, begun_shape, begun_short}
 use Rattle.store.specs.Shape.{right_shape}

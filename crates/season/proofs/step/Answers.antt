@@ -1,5 +1,4 @@
 -- `season::step` meets its contract. Assumes nothing.
-use borrow.Author.Rules.{rules}
 use Rattle.season.proofs.Folds.{numbered}
 use Rattle.season.proofs.step.Goals as goal
 

@@ -1,5 +1,4 @@
 -- `sets::has` meets its contract. Assumes nothing.
-use borrow.Author.Rules.{rules}
 use Rattle.sets.proofs.Operations.{digit_test}
 use Rattle.sets.proofs.has.Goals as goal
 

@@ -1,5 +1,4 @@
 -- `sets::only` meets its contract. Assumes nothing.
-use borrow.Author.Rules.{rules}
 use Rattle.sets.proofs.Operations.{shifted}
 use Rattle.sets.proofs.only.Goals as goal
 

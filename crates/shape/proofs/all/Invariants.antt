@@ -1,10 +1,7 @@
 -- `all` meets its contract. The loop: what was seen, with the rest, is all of it. Assumes nothing.
-use mathlib.Core.Path.{◌∙◌, ◌≡◌, ap}
-use Prim.Native.Nat.{◌+◌, ◌-◌, ◌≤◌, ℕ}
-use native.Mathlib.Omega.{arith}
+use mathlib.Core.Path.{◌≡◌}
+use Prim.Native.Nat.{◌-◌, ◌≤◌}
 use lib.ListN.{drop, length}
-use borrow.Author.Rules.{rules}
-use Rattle.shape.proofs.Laws.{union_end, union_on, union_start}
 use Rattle.shape.specs.Shape.{union_of}
 use Rattle.theory.specs.Sets.{union}
 use Rattle.shape.proofs.all.Given as goal

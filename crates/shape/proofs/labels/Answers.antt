@@ -11,7 +11,6 @@ use Rattle.shape.proofs.Laws.{all_low, all_zero, labels_blank, labels_high, labe
 use Rattle.shape.specs.Shape.{union_of}
 use Rattle.theory.specs.Lists.{all_of}
 use Rattle.theory.specs.Sets.{in_range}
-use borrow.Author.Rules.{rules}
 use Rattle.theory.specs.Limits.{limits}
 use Rattle.shape.proofs.labels.Goals as goal
 

@@ -9,7 +9,6 @@ use borrow.Author.Rules.{part_to_end}
 use Rattle.shape.proofs.Laws.{standing_long, standing_mixed, standing_rest}
 use Rattle.slices.proofs.Laws.{turned}
 use Rattle.shape.specs.Shape.{union_of}
-use borrow.Author.Rules.{rules}
 use Rattle.shape.proofs.list.Goals as goal
 
 pub returns-then-l-count : goal.returns-then-l-count

@@ -6,7 +6,6 @@ use borrow.Author.Tests.{not-false, not-true}
 use Rattle.shape.proofs.Laws.{all_low, listed_by, shape_depth, shape_nogoods, shape_rest}
 use Rattle.shape.specs.Shape.{standing}
 use Rattle.theory.specs.Sets.{in_range}
-use borrow.Author.Rules.{rules}
 use Rattle.shape.proofs.right.Goals as goal
 
 pub returns-then-lists-gt-DEEPEST : goal.returns-then-lists-gt-DEEPEST

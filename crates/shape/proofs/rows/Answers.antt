@@ -1,12 +1,8 @@
 -- `rows` meets its contract. The loop: each label is right if those left are. Assumes nothing.
-use mathlib.Core.Path.{◌∙◌, ◌≡◌, refl, sym}
-use Prim.Native.Nat.{◌-◌, ◌≤◌}
+use mathlib.Core.Path.{◌∙◌, refl, sym}
 use native.Mathlib.Omega.{arith}
-use lib.ListN.{drop}
 use Rattle.shape.proofs.Laws.{label_end, label_hit, label_miss, row_places}
 use Rattle.shape.specs.Shape.{row_right}
-use Rattle.theory.specs.Lists.{all_of, numbers_below}
-use borrow.Author.Rules.{rules}
 use Rattle.shape.proofs.rows.Goals as goal
 
 pub overflow_cast-count : goal.overflow_cast-count

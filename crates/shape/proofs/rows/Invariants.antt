@@ -1,12 +1,9 @@
 -- `rows` meets its contract. The loop: each label is right if those left are. Assumes nothing.
-use mathlib.Core.Path.{◌∙◌, ◌≡◌, refl, sym}
+use mathlib.Core.Path.{◌≡◌}
 use Prim.Native.Nat.{◌-◌, ◌≤◌}
-use native.Mathlib.Omega.{arith}
 use lib.ListN.{drop}
-use Rattle.shape.proofs.Laws.{label_end, label_hit, label_miss, row_places}
 use Rattle.shape.specs.Shape.{row_right}
 use Rattle.theory.specs.Lists.{all_of, numbers_below}
-use borrow.Author.Rules.{rules}
 use Rattle.shape.proofs.rows.Given as goal
 
 abbrev pub invariant-loop-i : goal.invariant-loop-i

@@ -1,12 +1,8 @@
 -- `sorted` meets its contract. The loop: the sets so far stand clear, those from a place on with as many assumptions as the last. Assumes nothing.
-use mathlib.Core.Path.{◌∙◌, ◌≡◌, refl, sym}
-use Prim.Native.Nat.{◌-◌, ◌<◌, ◌≤◌}
+use mathlib.Core.Path.{◌∙◌, refl, sym}
 use native.Mathlib.Omega.{arith}
-use lib.Count.{ones}
-use lib.ListN.{length}
 use lib.Seq.{length-take-le}
-use Rattle.shape.proofs.Runs.{Run, more, run_end, run_fewer, run_in, run_low, run_more, run_one, run_same, run_short}
-use borrow.Author.Rules.{rules}
+use Rattle.shape.proofs.Runs.{more, run_end, run_fewer, run_in, run_low, run_more, run_one, run_same, run_short}
 use Rattle.shape.proofs.sorted.Goals as goal
 
 pub returns-then-l-lt2 : goal.returns-then-l-lt2

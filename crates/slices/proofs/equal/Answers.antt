@@ -1,10 +1,7 @@
 -- `equal` meets its contract. The loop: the lists are the same if their rests are. Assumes nothing.
-use mathlib.Core.Path.{◌∙◌, ◌≡◌, refl, sym}
-use Prim.Native.Nat.{◌-◌, ◌≤◌}
+use mathlib.Core.Path.{◌∙◌, refl, sym}
 use native.Mathlib.Omega.{arith}
-use lib.ListN.{drop, length}
 use Rattle.slices.proofs.Laws.{same_end, same_hit, same_length, same_miss}
-use Rattle.theory.specs.Judge.{same_sets}
 use Rattle.slices.proofs.equal.Goals as goal
 
 pub returns-then-a-b : goal.returns-then-a-b

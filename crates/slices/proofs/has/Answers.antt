@@ -1,14 +1,10 @@
 -- `has` meets its contract. The loop: whether the list has the number is whether the rest has it. Assumes nothing.
-use mathlib.Core.Path.{◌∙◌, ◌≡◌, refl, sym}
-use Prim.Native.Nat.{◌-◌, ◌≤◌}
+use mathlib.Core.Path.{◌∙◌, refl, sym}
 use native.Mathlib.Omega.{arith}
 use lib.Dec.{eqb}
-use lib.ListN.{drop, length}
-use borrow.Author.Rules.{rules}
 use borrow.Author.Tests.{eq-eqb, ne_eqb}
 use Rattle.slices.proofs.Laws.{any_hit, any_miss}
 use Rattle.theory.proofs.Places.{any_end}
-use Rattle.theory.specs.Lists.{some_of}
 use Rattle.slices.proofs.has.Goals as goal
 
 pub returns-then-l-i : goal.returns-then-l-i

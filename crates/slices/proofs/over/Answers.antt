@@ -1,14 +1,10 @@
 -- `over` meets its contract. The loop: whether one of the list is above is whether one of the rest is. Assumes nothing.
-use mathlib.Core.Path.{◌∙◌, ◌≡◌, refl, sym}
-use Prim.Native.Nat.{◌-◌, ◌≤◌}
+use mathlib.Core.Path.{◌∙◌, refl, sym}
 use native.Mathlib.Omega.{arith}
 use lib.Dec.{ltb}
-use lib.ListN.{drop, length}
-use borrow.Author.Rules.{rules}
 use borrow.Author.Tests.{le-ltb, lt-ltb}
 use Rattle.slices.proofs.Laws.{any_hit, any_miss}
 use Rattle.theory.proofs.Places.{any_end}
-use Rattle.theory.specs.Lists.{some_of}
 use Rattle.slices.proofs.over.Goals as goal
 
 pub returns-then-top-l : goal.returns-then-top-l

@@ -1,13 +1,8 @@
 -- `over` meets its contract. The loop: whether one of the list is above is whether one of the rest is. Assumes nothing.
-use mathlib.Core.Path.{◌∙◌, ◌≡◌, refl, sym}
+use mathlib.Core.Path.{◌≡◌}
 use Prim.Native.Nat.{◌-◌, ◌≤◌}
-use native.Mathlib.Omega.{arith}
 use lib.Dec.{ltb}
 use lib.ListN.{drop, length}
-use borrow.Author.Rules.{rules}
-use borrow.Author.Tests.{le-ltb, lt-ltb}
-use Rattle.slices.proofs.Laws.{any_hit, any_miss}
-use Rattle.theory.proofs.Places.{any_end}
 use Rattle.theory.specs.Lists.{some_of}
 use Rattle.slices.proofs.over.Given as goal
 

@@ -1,13 +1,8 @@
 -- `zeros` meets its contract. The loop: all are zero if what was seen and the rest are. Assumes nothing.
-use mathlib.Core.Bool.{◌&&◌}
-use mathlib.Core.Path.{◌≡◌, refl}
-use Prim.Native.Nat.{◌-◌, ◌≤◌}
+use mathlib.Core.Path.{refl}
 use native.Mathlib.Omega.{arith}
 use lib.Dec.{eqb}
-use lib.ListN.{drop, length}
 use Rattle.slices.proofs.Laws.{zero_end, zero_on}
-use Rattle.theory.specs.Lists.{all_of}
-use borrow.Author.Rules.{rules}
 use Rattle.slices.proofs.zeros.Goals as goal
 
 pub loop-i-preserved : goal.loop-i-preserved

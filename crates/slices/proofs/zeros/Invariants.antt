@@ -1,13 +1,10 @@
 -- `zeros` meets its contract. The loop: all are zero if what was seen and the rest are. Assumes nothing.
 use mathlib.Core.Bool.{◌&&◌}
-use mathlib.Core.Path.{◌≡◌, refl}
+use mathlib.Core.Path.{◌≡◌}
 use Prim.Native.Nat.{◌-◌, ◌≤◌}
-use native.Mathlib.Omega.{arith}
 use lib.Dec.{eqb}
 use lib.ListN.{drop, length}
-use Rattle.slices.proofs.Laws.{zero_end, zero_on}
 use Rattle.theory.specs.Lists.{all_of}
-use borrow.Author.Rules.{rules}
 use Rattle.slices.proofs.zeros.Given as goal
 
 abbrev pub invariant-loop-i : goal.invariant-loop-i

@@ -1,11 +1,9 @@
 -- `stages::differs` meets its contract. Assumes nothing.
 use mathlib.Core.Path.{◌≡◌, refl}
-use Prim.Native.Nat.{◌-◌, ◌≤◌}
 use native.Mathlib.Omega.{arith}
-use lib.ListN.{drop, length, take}
+use lib.ListN.{length}
 use borrow.Author.Rules.{rules}
 use Rattle.stages.proofs.Compares.{differs_count, differs_here, differs_none, differs_on}
-use Rattle.theory.specs.Judge.{same_sets}
 use Rattle.theory.specs.Limits.{limits}
 use Rattle.stages.proofs.differs.Goals as goal
 

@@ -1,12 +1,8 @@
 -- `stages::differs` meets its contract. Assumes nothing.
-use mathlib.Core.Path.{◌≡◌, refl}
+use mathlib.Core.Path.{◌≡◌}
 use Prim.Native.Nat.{◌-◌, ◌≤◌}
-use native.Mathlib.Omega.{arith}
-use lib.ListN.{drop, length, take}
-use borrow.Author.Rules.{rules}
-use Rattle.stages.proofs.Compares.{differs_count, differs_here, differs_none, differs_on}
+use lib.ListN.{drop, take}
 use Rattle.theory.specs.Judge.{same_sets}
-use Rattle.theory.specs.Limits.{limits}
 use Rattle.stages.proofs.differs.Given as goal
 
 abbrev pub invariant-loop-i : goal.invariant-loop-i

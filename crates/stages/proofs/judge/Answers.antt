@@ -1,17 +1,11 @@
 -- `stages::judge` meets its contract. Assumes nothing.
-use mathlib.Core.Path.{◌∙◌, ◌≡◌, ap, refl, sym}
-use Prim.Native.Nat.{◌+◌, ◌-◌}
+use mathlib.Core.Path.{◌∙◌, ap, refl, sym}
 use native.Mathlib.Omega.{arith}
 use lib.ListN.{length}
-use borrow.Author.Rules.{rules}
-use Rattle.rules.specs.Held.{said_by}
 use Rattle.stages.proofs.Keeps.{marked_all}
 use Rattle.stages.proofs.Marks.{fresh_start}
-use Rattle.stages.proofs.Walk.{from_stage, judge_from, judge_reached, most, walk_fresh, walk_less, walk_next, walk_on, walk_refused, walk_settled}
+use Rattle.stages.proofs.Walk.{judge_from, judge_reached, walk_fresh, walk_less, walk_next, walk_on, walk_refused, walk_settled}
 use Rattle.stages.proofs.Stages.{layout}
-use Rattle.stages.specs.Steps.{Fresh, Reached}
-use Rattle.theory.specs.Judge.{judge}
-use Rattle.theory.specs.Limits.{limits}
 use Rattle.stages.proofs.judge.Goals as goal
 
 pub tally-tallies-requires : goal.tally-tallies-requires

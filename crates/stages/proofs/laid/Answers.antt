@@ -1,9 +1,7 @@
 -- `stages::laid` meets its contract. The loop: those before a place are laid. Assumes nothing.
 use mathlib.Core.Path.{◌∙◌, ◌≡◌, ap, refl}
-use Prim.Native.Nat.{◌*◌, ◌-◌, ◌<◌, ◌≤◌, ℕ}
 use native.Mathlib.Omega.{arith}
 use lib.ListN.{get_or, length}
-use Rattle.labels.specs.Entries.{entry_at}
 use Rattle.rules.proofs.Entries.{length_padded, places}
 use Rattle.rules.proofs.Steps.{beyond, length_mapped}
 use Rattle.rules.specs.declared.Entry.{Entry}

@@ -1,14 +1,9 @@
 -- `stages::laid` meets its contract. The loop: those before a place are laid. Assumes nothing.
-use mathlib.Core.Path.{◌∙◌, ◌≡◌, ap, refl}
+use mathlib.Core.Path.{◌≡◌}
 use Prim.Native.Nat.{◌*◌, ◌-◌, ◌<◌, ◌≤◌, ℕ}
-use native.Mathlib.Omega.{arith}
 use lib.ListN.{get_or, length}
 use Rattle.labels.specs.Entries.{entry_at}
-use Rattle.rules.proofs.Entries.{length_padded, places}
-use Rattle.rules.proofs.Steps.{beyond, length_mapped}
-use Rattle.rules.specs.declared.Entry.{Entry}
-use Rattle.stages.proofs.Sixes.{laid_all, laid_long, laid_on}
-use borrow.Author.Rules.{rules}
+use Rattle.rules.proofs.Steps.{beyond}
 use Rattle.theory.specs.Limits.{limits}
 use Rattle.stages.proofs.laid.Given as goal
 

@@ -1,6 +1,5 @@
 -- `stages::marked` meets its contract. Assumes nothing.
 use Rattle.joining.proofs.Pools.{choose_no, choose_yes}
-use borrow.Author.Rules.{rules}
 use Rattle.stages.proofs.marked.Goals as goal
 
 pub returns-then-stirred : goal.returns-then-stirred

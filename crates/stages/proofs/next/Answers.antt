@@ -4,7 +4,6 @@ use Prim.Native.Nat.{◌+◌}
 use native.Mathlib.Omega.{arith}
 use lib.ListN.{get_or}
 use lib.Seq.{length-take-le}
-use borrow.Author.Rules.{rules}
 use Rattle.rules.proofs.Laws.{right_range}
 use Rattle.stages.proofs.Keeps.{news_told, told_news}
 use Rattle.stages.proofs.Marks.{fresh_on, stale_from, step_agrees}

@@ -2,7 +2,6 @@
 use lib.ListN.{take}
 use Rattle.stages.proofs.Compares.{put_all, put_none}
 use Rattle.theory.specs.Judge.{same_sets}
-use borrow.Author.Rules.{rules}
 use Rattle.stages.proofs.put.Goals as goal
 
 pub returns-then-not-differs : goal.returns-then-not-differs

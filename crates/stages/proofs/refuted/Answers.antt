@@ -3,7 +3,6 @@ use mathlib.Core.Path.{◌∙◌, ap, refl, sym}
 use Prim.Native.Nat.{ℕ}
 use native.Mathlib.Omega.{arith}
 use lib.Seq.{length-take-le}
-use borrow.Author.Rules.{rules}
 use Rattle.labels.specs.Entries.{between}
 use Rattle.rules.specs.Held.{meaning}
 use mathlib.Core.List.{map}

@@ -3,7 +3,6 @@ use mathlib.Core.List.{[]}
 use mathlib.Core.Path.{◌∙◌, ap, sym}
 use Prim.Native.Nat.{◌*◌, ◌+◌, ◌-◌, ◌<◌, ◌≤◌}
 use native.Mathlib.Omega.{arith}
-use borrow.Author.Rules.{rules}
 use borrow.Author.Tests.{not-true}
 use lib.ListN.{drop, get_or, length, length-take}
 use Rattle.rules.specs.Held.{said_by}
@@ -11,7 +10,7 @@ use Rattle.stages.proofs.Keeps.{label_kept}
 use Rattle.stages.proofs.Marks.{label_still}
 use Rattle.stages.proofs.Nexts.{built_length, built_over, built_sets, built_short, label_laid, over_at}
 use Rattle.stages.proofs.Parts.{first_on, meant_laid, part_is, part_laid, tally_end, tally_inside, tally_low, tally_on, wide}
-use Rattle.stages.proofs.Relabels.{Relabelling, old_is, relabelling_end, relabelling_kept, relabelling_lengths, relabelling_none, relabelling_put}
+use Rattle.stages.proofs.Relabels.{old_is, relabelling_end, relabelling_kept, relabelling_lengths, relabelling_none, relabelling_put}
 use Rattle.stages.proofs.Spared.{struck_count, struck_sets, struck_short}
 use Rattle.stages.proofs.Stages.{layout, members_are, olds_lie, room_short, sizes_are}
 use Rattle.stages.specs.Steps.{lists, stage_by}

@@ -1,11 +1,9 @@
 -- `stages::start` meets its contract. Assumes nothing.
-use Rattle.stages.proofs.Stages.{members_more, members_none, members_to, sizes_more, sizes_none, sizes_to, start_made}
-use mathlib.Core.Path.{◌∙◌, ◌≡◌, ap₂, refl}
-use Prim.Native.Nat.{◌-◌, ◌≤◌, ◌<◌, ℕ}
-use lib.ListN.{replicate}
+use Rattle.stages.proofs.Stages.{members_more, members_none, sizes_more, sizes_none, start_made}
+use mathlib.Core.Path.{◌∙◌, ap₂, refl}
+use Prim.Native.Nat.{◌<◌, ℕ}
 use Rattle.stages.specs.declared.Lists.{Lists}
 use native.Mathlib.Omega.{arith}
-use borrow.Author.Rules.{rules}
 use Rattle.theory.specs.Limits.{limits}
 use Rattle.stages.proofs.start.Goals as goal
 

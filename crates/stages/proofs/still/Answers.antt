@@ -1,5 +1,4 @@
 -- `stages::still` meets its contract. Assumes nothing.
-use borrow.Author.Rules.{rules}
 use Rattle.stages.proofs.Compares.{still_news, still_quiet}
 use Rattle.stages.proofs.still.Goals as goal
 

@@ -1,13 +1,10 @@
 -- `stages::tally` meets its contract. Assumes nothing.
-use mathlib.Core.Path.{◌∙◌, ◌≡◌, refl}
-use Prim.Native.Nat.{◌+◌, ◌-◌, ◌≤◌}
+use mathlib.Core.Path.{◌∙◌, refl}
 use native.Mathlib.Omega.{arith}
-use lib.ListN.{get_or, length, length-set}
+use lib.ListN.{get_or, length-set}
 use Rattle.rules.proofs.Scan.{right_elim}
 use Rattle.rules.proofs.Steps.{beyond}
-use Rattle.rules.specs.Held.{said_by}
-use Rattle.stages.proofs.Parts.{Counted, count_all, count_few, count_none, count_turn, entry_low}
-use Rattle.theory.specs.Limits.{limits}
+use Rattle.stages.proofs.Parts.{count_all, count_few, count_none, count_turn, entry_low}
 use Rattle.stages.proofs.tally.Goals as goal
 
 pub loop-j-init : goal.loop-j-init

@@ -1,12 +1,9 @@
 -- `stages::tally` meets its contract. Assumes nothing.
-use mathlib.Core.Path.{◌∙◌, ◌≡◌, refl}
+use mathlib.Core.Path.{◌≡◌}
 use Prim.Native.Nat.{◌+◌, ◌-◌, ◌≤◌}
-use native.Mathlib.Omega.{arith}
-use lib.ListN.{get_or, length, length-set}
-use Rattle.rules.proofs.Scan.{right_elim}
-use Rattle.rules.proofs.Steps.{beyond}
+use lib.ListN.{length}
 use Rattle.rules.specs.Held.{said_by}
-use Rattle.stages.proofs.Parts.{Counted, count_all, count_few, count_none, count_turn, entry_low}
+use Rattle.stages.proofs.Parts.{Counted}
 use Rattle.theory.specs.Limits.{limits}
 use Rattle.stages.proofs.tally.Given as goal
 

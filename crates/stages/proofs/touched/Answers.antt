@@ -1,16 +1,11 @@
 -- `stages::touched` meets its contract. Assumes nothing.
-use mathlib.Core.List.{map}
-use mathlib.Core.Path.{◌∙◌, ◌≡◌, refl}
-use Prim.Native.Nat.{◌+◌, ◌-◌, ◌≤◌}
+use mathlib.Core.Path.{◌∙◌, refl}
 use native.Mathlib.Omega.{arith}
-use lib.ListN.{length, length-set, take}
+use lib.ListN.{length-set}
 use Rattle.rules.proofs.Scan.{right_elim}
 use Rattle.rules.proofs.Steps.{beyond}
-use Rattle.rules.specs.Held.{meaning}
 use Rattle.stages.proofs.Marks.{touched_end, touched_none, touched_turn}
 use Rattle.stages.proofs.Parts.{entry_few, entry_low, entry_ranged}
-use Rattle.stages.specs.Steps.{Touched}
-use Rattle.theory.specs.Limits.{limits}
 use Rattle.stages.proofs.touched.Goals as goal
 
 pub bounds-moved-0 : goal.bounds-moved-0

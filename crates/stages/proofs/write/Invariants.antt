@@ -1,11 +1,8 @@
 -- `stages::write` meets its contract. Assumes nothing.
-use mathlib.Core.Path.{◌∙◌, ◌≡◌, ap, refl}
+use mathlib.Core.Path.{◌≡◌}
 use Prim.Native.Nat.{◌-◌, ◌≤◌}
-use native.Mathlib.Omega.{arith}
-use borrow.Author.Rules.{rules}
-use lib.ListN.{length, length-set}
-use lib.Seq.{paste, paste-zero}
-use Rattle.stages.proofs.Writing.{write_turn}
+use lib.ListN.{length}
+use lib.Seq.{paste}
 use Rattle.theory.specs.Limits.{limits}
 use Rattle.stages.proofs.write.Given as goal
 

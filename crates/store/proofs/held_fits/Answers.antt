@@ -1,6 +1,5 @@
 -- `held_fits` meets its contract, test by test. Assumes nothing.
 use mathlib.Core.Path.{◌∙◌}
-use borrow.Author.Rules.{rules}
 use Rattle.store.proofs.Shapes.{fits_a, fits_m, fits_rest}
 use Rattle.store.proofs.held_fits.Goals as goal
 

@@ -2,7 +2,6 @@
 use mathlib.Core.Bool.{true}
 use mathlib.Core.Path.{◌∙◌, ◌≡◌, ap, sym}
 use native.Mathlib.Omega.{arith}
-use borrow.Author.Rules.{rules}
 use borrow.Author.Tests.{not-false, not-true}
 use Rattle.replies.specs.declared.Reply.TheVariants.{Shape}
 use Rattle.store.proofs.Judging.{judged_done, judged_refused, judged_shape}

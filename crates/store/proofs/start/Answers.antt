@@ -1,5 +1,4 @@
 -- `start` meets its contract: nothing held, and the lists of nothing. Assumes nothing.
-use borrow.Author.Rules.{rules}
 use Rattle.store.proofs.Judging.{start_store_lem}
 use Rattle.store.proofs.start.Goals as goal
 

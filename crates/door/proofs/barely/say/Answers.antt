@@ -2,7 +2,6 @@
 use mathlib.Core.Path.{◌∙◌, ap, sym}
 use Prim.Native.Nat.{ℕ}
 use Rattle.across.specs.Across.{barely_by, told}
-use borrow.Author.Rules.{rules}
 use Rattle.door.proofs.barely.say.Goals as goal
 
 pub returns-in-Word : goal.returns-in-Word

@@ -2,7 +2,6 @@
 use Rattle.asking.specs.Asking.{Left}
 use Rattle.replies.specs.Replies.{number_of}
 use mathlib.Core.Path.{◌∙◌, ap}
-use borrow.Author.Rules.{rules}
 use Rattle.door.proofs.reading.door_context.Goals as goal
 
 pub returns : goal.returns

@@ -3,7 +3,6 @@ use Rattle.asking.specs.declared.Shown.{Shown}
 use Rattle.across.specs.Across.{found_by, told}
 use Prim.Native.Nat.{ℕ}
 use mathlib.Core.Path.{◌∙◌, ap, sym}
-use borrow.Author.Rules.{rules}
 use Rattle.door.proofs.reading.door_member.Goals as goal
 
 pub returns-in-Is : goal.returns-in-Is

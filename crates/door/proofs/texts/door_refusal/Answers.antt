@@ -8,7 +8,6 @@ use Rattle.across.specs.Across.{wrote_by}
 use Rattle.lent.specs.Lent.{Wrote, fitted}
 use Rattle.text.proofs.Writing.{blank_room, front_room, front_taken}
 use Rattle.text.specs.Texts.{refusal}
-use borrow.Author.Rules.{rules}
 use Rattle.door.proofs.texts.door_refusal.Goals as goal
 
 pub refused-end-requires : goal.refused-end-requires

@@ -2,7 +2,6 @@
 use Rattle.lent.specs.declared.Listed.{Listed}
 use Rattle.across.specs.Across.{wrote_by}
 use mathlib.Core.Path.{◌∙◌, ap}
-use borrow.Author.Rules.{rules}
 use Rattle.door.proofs.texts.door_stages.Goals as goal
 
 pub returns : goal.returns

@@ -1,11 +1,7 @@
 -- `less` meets its contract. The loop: the lists compare as their rests do. Assumes nothing.
-use mathlib.Core.Path.{◌∙◌, ◌≡◌, refl, sym}
-use Prim.Native.Nat.{◌-◌, ◌≤◌}
+use mathlib.Core.Path.{◌∙◌, refl, sym}
 use native.Mathlib.Omega.{arith}
-use lib.ListN.{drop, length}
-use borrow.Author.Rules.{rules}
 use Rattle.holding.proofs.Steps.{less_end, less_more, less_no, less_yes}
-use Rattle.theory.specs.Stages.{lesser}
 use Rattle.holding.proofs.order.less.Goals as goal
 
 pub bounds-b-i : goal.bounds-b-i

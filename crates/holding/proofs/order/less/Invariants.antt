@@ -1,10 +1,7 @@
 -- `less` meets its contract. The loop: the lists compare as their rests do. Assumes nothing.
-use mathlib.Core.Path.{◌∙◌, ◌≡◌, refl, sym}
+use mathlib.Core.Path.{◌≡◌}
 use Prim.Native.Nat.{◌-◌, ◌≤◌}
-use native.Mathlib.Omega.{arith}
 use lib.ListN.{drop, length}
-use borrow.Author.Rules.{rules}
-use Rattle.holding.proofs.Steps.{less_end, less_more, less_no, less_yes}
 use Rattle.theory.specs.Stages.{lesser}
 use Rattle.holding.proofs.order.less.Given as goal
 

@@ -1,6 +1,5 @@
 -- `joining::pool::late` meets its contract. Assumes nothing.
 use Rattle.joining.proofs.Pools.{late_asked, late_no}
-use borrow.Author.Rules.{rules}
 use Rattle.joining.proofs.pool.late.Goals as goal
 
 pub returns-then-fill : goal.returns-then-fill

@@ -1,5 +1,4 @@
 -- `joining::pool::later` meets its contract. Assumes nothing.
-use borrow.Author.Rules.{rules}
 use Rattle.joining.proofs.Pools.{choose_no, choose_yes}
 use Rattle.joining.proofs.pool.later.Goals as goal
 

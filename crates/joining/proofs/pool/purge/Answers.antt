@@ -1,10 +1,8 @@
 -- `joining::pool::purge` meets its contract. Assumes nothing.
-use mathlib.Core.List.{◌++◌}
-use mathlib.Core.Path.{◌∙◌, ◌≡◌, ap, refl}
-use Prim.Native.Nat.{◌-◌, ◌≤◌}
+use mathlib.Core.Path.{◌∙◌, ap, refl}
+use Prim.Native.Nat.{◌≤◌}
 use native.Mathlib.Omega.{arith}
-use lib.ListN.{drop, length, length-set, take}
-use borrow.Author.Rules.{rules}
+use lib.ListN.{length, length-set}
 use Rattle.joining.specs.Pool.{purged}
 use Rattle.joining.proofs.Pools.{purge_end, purge_low, purge_turn, rest_all}
 use Rattle.joining.proofs.pool.purge.Goals as goal

@@ -1,10 +1,7 @@
 -- `joining::pool::squeeze` meets its contract. Assumes nothing.
-use mathlib.Core.List.{◌++◌}
-use mathlib.Core.Path.{◌∙◌, ◌≡◌, ap, refl}
-use Prim.Native.Nat.{◌-◌, ◌≤◌}
+use mathlib.Core.Path.{◌∙◌, ap, refl}
 use native.Mathlib.Omega.{arith}
-use lib.ListN.{drop, length, length-set, take}
-use borrow.Author.Rules.{rules}
+use lib.ListN.{length-set}
 use Rattle.joining.specs.Pool.{placed}
 use Rattle.joining.proofs.Pools.{rest_all, squeeze_end, squeeze_last, squeeze_turn}
 use Rattle.joining.proofs.pool.squeeze.Goals as goal

@@ -1,12 +1,9 @@
 -- `joining::pool::squeeze` meets its contract. Assumes nothing.
 use mathlib.Core.List.{◌++◌}
-use mathlib.Core.Path.{◌∙◌, ◌≡◌, ap, refl}
+use mathlib.Core.Path.{◌≡◌}
 use Prim.Native.Nat.{◌-◌, ◌≤◌}
-use native.Mathlib.Omega.{arith}
-use lib.ListN.{drop, length, length-set, take}
-use borrow.Author.Rules.{rules}
+use lib.ListN.{drop, length, take}
 use Rattle.joining.specs.Pool.{placed}
-use Rattle.joining.proofs.Pools.{rest_all, squeeze_end, squeeze_last, squeeze_turn}
 use Rattle.joining.proofs.pool.squeeze.Given as goal
 
 abbrev pub invariant-loop-i : goal.invariant-loop-i

@@ -1,7 +1,6 @@
 -- `taking` meets its contract: one number more, at the end of what is used. Assumes nothing.
 use mathlib.Core.Path.{◌∙◌, sym}
 use native.Mathlib.Omega.{arith}
-use borrow.Author.Rules.{rules}
 use Rattle.rules.proofs.Taking.{taking_hit, taking_miss, taking_room}
 use Rattle.rules.proofs.Entry.taking.Goals as goal
 

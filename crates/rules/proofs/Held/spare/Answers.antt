@@ -1,15 +1,11 @@
 -- `spare` meets its contract. The loop: the unused places are zero if what was seen and those from here on are. Assumes nothing.
-use mathlib.Core.Bool.{◌&&◌}
 use mathlib.Core.Path.{◌≡◌, refl}
-use Prim.Native.Nat.{◌-◌, ◌≤◌}
 use native.Mathlib.Omega.{arith}
-use lib.Dec.{eqb}
-use lib.ListN.{drop, length}
+use lib.ListN.{length}
 use borrow.Author.Rules.{rules}
 use Rattle.rules.proofs.Steps.{beyond, length_mapped}
 use Rattle.rules.specs.Held.{unused_entry}
 use Rattle.slices.proofs.Laws.{zero_end, zero_on}
-use Rattle.theory.specs.Lists.{all_of}
 use Rattle.theory.specs.Limits.{limits}
 use Rattle.rules.proofs.Held.spare.Goals as goal
 

@@ -1,7 +1,6 @@
 -- `ends` meets its contract. Assumes nothing.
 use native.Mathlib.Omega.{arith}
 use Rattle.rules.proofs.Steps.{word_ends}
-use borrow.Author.Rules.{rules}
 use Rattle.rules.proofs.lists.ends.Goals as goal
 
 pub returns : goal.returns

@@ -1,7 +1,6 @@
 -- `value` meets its contract. Assumes nothing.
 use native.Mathlib.Omega.{arith}
 use Rattle.rules.proofs.Keys.{bytes_four, value_four}
-use borrow.Author.Rules.{rules}
 use Rattle.rules.proofs.lists.value.Goals as goal
 
 pub returns : goal.returns

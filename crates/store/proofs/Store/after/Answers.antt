@@ -1,6 +1,5 @@
 -- `after` meets its contract: the change, then the stages. Assumes nothing.
 use mathlib.Core.Path.{◌∙◌, sym}
-use borrow.Author.Rules.{rules}
 use Rattle.store.proofs.Changes.{after_done, after_refused, after_stages}
 use Rattle.store.proofs.Store.after.Goals as goal
 

@@ -1,7 +1,6 @@
 -- `open` meets its contract: the counts, then the store that holds nothing. Assumes nothing.
 use mathlib.Core.Path.{◌∙◌, ap}
 use native.Mathlib.Omega.{arith}
-use borrow.Author.Rules.{rules}
 use Rattle.replies.specs.declared.Reply.TheVariants.{Counts, Done}
 use Rattle.store.proofs.Judging.{open_a, open_done, open_m}
 use Rattle.store.specs.Calls.{answer}

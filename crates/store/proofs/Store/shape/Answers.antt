@@ -2,7 +2,6 @@
 use mathlib.Core.Bool.{true}
 use mathlib.Core.Path.{◌∙◌, ◌≡◌, sym}
 use native.Mathlib.Omega.{arith}
-use borrow.Author.Rules.{rules}
 use borrow.Author.Tests.{not-false, not-true}
 use Rattle.store.proofs.Shapes.{Fitting, fits_elim, shape_held, shape_lists}
 use Rattle.store.specs.Shape.{held_fits}
