@@ -38,7 +38,7 @@ pub record Tied (T : Ended) (c : Code) (k : Callee) (Asked : Asks T) (Learnt P :
   pub free : (κs : Lfts T.signature.lifetimes) (a : Args T.signature κs) → Asked κs a
   pub exact : (κs : Lfts T.signature.lifetimes) (a : Args T.signature κs) (r : Res T.signature κs) (e : AtExit T κs) → Learnt κs a r e ↔ P κs a r e
 
--- the same of a function whose proof is a walk of its code: of such a contract no readings are generated, so the contract itself is that which requires nothing and ensures P
+-- the same by the contract itself: it is that which requires nothing and ensures P
 pub record Walked (T : Ended) (c : Code) (k : Callee) (contract : (M : Type 1) (𝓤 : Ura M) (𝓛 : Logic 𝓤) → (Memory → SProp 𝓤) → (Routine → Fun 𝓤) → Clauses 𝓤 T) (P : Claim T) : Type 2 where
   pub keeps : Keeps T c k P
   pub exact : (M : Type 1) (𝓤 : Ura M) (𝓛 : Logic 𝓤) (mem : Memory → SProp 𝓤) (run : Routine → Fun 𝓤) → contract M 𝓤 𝓛 mem run ≡ telling 𝓤 T P

@@ -1,4 +1,4 @@
--- The exported functions are our calls, in numbers: each by the function's own theorem. Assumes nothing.
+-- The functions of crate door are our calls, in numbers: each by the function's own theorem. Assumes nothing.
 use mathlib.Core.List.{List}
 use mathlib.Core.Logic.{◌↔◌}
 use mathlib.Core.Path.{◌≡◌, ◌∙◌, ap, refl, sym}

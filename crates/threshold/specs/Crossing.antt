@@ -1,4 +1,4 @@
--- What crosses the door is what the calls say: of any arguments each exported function ends, is safe, asks nothing and answers what C says, in numbers; and nothing is lost by it. Assumes nothing.
+-- What crosses the door is what the calls say: of any arguments each function of crate door ends, is safe, asks nothing and answers what C says, in numbers; and nothing is lost by it. Assumes nothing.
 use Rattle.std.specs.Prelude.{List, ◌≡◌, ℕ}
 use Rattle.casefile.specs.declared.Loaded.{Loaded}
 use Rattle.door.specs.contracts.barely.door_bare as bare-at
@@ -69,7 +69,7 @@ use Rattle.store.specs.declared.Outcome.{Outcome}
 use Rattle.store.specs.declared.Store.{Store}
 use Rattle.text.specs.Texts.{refusal as refusalLine}
 
--- ---- each function, held to its compiled routine: a the arguments, r the result, e the parameters at exit
+-- ---- each function, held to its compiled code: a the arguments, r the result, e the parameters at exit
 
 abbrev pub all_added : Calls → Claim add-all-at.ended
 all_added C κs a r e =
