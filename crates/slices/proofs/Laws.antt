@@ -27,8 +27,8 @@ module _ {X : Type 0} (p : X → Bool) (l : List X) (i : ℕ) (z : X) (h : i < l
 
 -- ---- all are zero
 -- the test written the other way round
-pub turned : (x : ℕ) → eqb x 0 ≡ eqb 0 x
-turned x = same_test (λ t. eq-eqb 0 x (sym (eqb-true x 0 t))) (λ t. eq-eqb x 0 (sym (eqb-true 0 x t)))
+pub turned : (x y : ℕ) → eqb x y ≡ eqb y x
+turned x y = same_test (λ t. eq-eqb y x (sym (eqb-true x y t))) (λ t. eq-eqb x y (sym (eqb-true y x t)))
 
 -- no bit in either
 pub none_of_both : (x y : ℕ) → eqb 0 (union x y) ≡ eqb 0 x && eqb 0 y
@@ -53,7 +53,7 @@ module _ {X : Type 0} (p : X → Bool) (l : List X) (i seen : ℕ) (all : Bool) 
       and_three false b c = refl
 
   pub zero_end : length l ≤ i → eqb seen 0 ≡ all
-  zero_end h = turned seen ∙ and_true (eqb 0 seen) ∙ ap (λ (b : Bool). eqb 0 seen && b) (sym (all_end p l i h)) ∙ inv
+  zero_end h = turned seen 0 ∙ and_true (eqb 0 seen) ∙ ap (λ (b : Bool). eqb 0 seen && b) (sym (all_end p l i h)) ∙ inv
     where
       and_true : (a : Bool) → a ≡ a && true
       and_true true = refl

@@ -9,28 +9,14 @@ ghost use Rattle.theory.specs.Lists.{all_of, some_of};
 pub fn has(l: &[u32], n: u32) -> bool
     ensures { result ≡ some_of (eqb n) l.now }
 {
-    let mut i = 0;
-    while i < l.len() {
-        if l[i] == n {
-            return true;
-        }
-        i += 1;
-    }
-    false
+    l.contains(&n)
 }
 
 // Whether one of the list is above top.
 pub fn over(l: &[u32], top: u32) -> bool
     ensures { result ≡ some_of (ltb top) l.now }
 {
-    let mut i = 0;
-    while i < l.len() {
-        if top < l[i] {
-            return true;
-        }
-        i += 1;
-    }
-    false
+    l.iter().any(|x| top < *x)
 }
 
 // Whether every number is zero: one pass without an exit.
@@ -38,10 +24,8 @@ pub fn zeros(l: &[u8]) -> bool
     ensures { result ≡ all_of (eqb 0) l.now }
 {
     let mut seen = 0;
-    let mut i = 0;
-    while i < l.len() {
-        seen |= l[i];
-        i += 1;
+    for x in l {
+        seen |= *x;
     }
     seen == 0
 }
@@ -50,15 +34,5 @@ pub fn zeros(l: &[u8]) -> bool
 pub fn equal(a: &[u8], b: &[u8]) -> bool
     ensures { result ≡ same_sets a.now b.now }
 {
-    if a.len() != b.len() {
-        return false;
-    }
-    let mut i = 0;
-    while i < a.len() {
-        if a[i] != b[i] {
-            return false;
-        }
-        i += 1;
-    }
-    true
+    a == b
 }

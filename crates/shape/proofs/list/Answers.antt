@@ -16,7 +16,7 @@ returns-then-l-count c = standing_long _ _ c.if-l-count.true
 
 pub returns-then-sorted : goal.returns-then-sorted
 returns-then-sorted c = let a = c.args in
-    ap (λ (u : ℕ). eqb u 0) (c.all.ensures ∙ ap union_of (part_to_end a.l.now a.count)) ∙ turned (union_of (drop a.count a.l.now)) ∙ standing_rest a.count a.l.now c.if-l-count.false (sym c.sorted.ensures ∙ c.if-sorted.true)
+    ap (λ (u : ℕ). eqb u 0) (c.all.ensures ∙ ap union_of (part_to_end a.l.now a.count)) ∙ turned (union_of (drop a.count a.l.now)) 0 ∙ standing_rest a.count a.l.now c.if-l-count.false (sym c.sorted.ensures ∙ c.if-sorted.true)
 
 pub returns : goal.returns
 returns c = let a = c.args in standing_mixed a.count a.l.now c.if-l-count.false (sym c.sorted.ensures ∙ c.if-sorted.false)

@@ -1,15 +1,13 @@
--- `zeros` meets its contract. The loop: all are zero if what was seen and the rest are. Assumes nothing.
-use mathlib.Core.Path.{refl}
-use native.Mathlib.Omega.{arith}
-use lib.Dec.{eqb}
-use Rattle.slices.proofs.Laws.{zero_end, zero_on}
+-- `zeros` meets its contract. The loop: nothing seen is all of the list so far being zero. Assumes nothing.
+use Rattle.std.proofs.Common.{eqb, arith}
+use Rattle.std.proofs.lemmas.Grind.{common_steps}
+use Rattle.std.proofs.lemmas.List.Folds.{list_all_more}
+use Rattle.theory.proofs.Words.{all_is}
+use Rattle.slices.proofs.Laws.{none_of_both, turned}
 use Rattle.slices.proofs.zeros.Goals as goal
 
-pub loop-i-preserved : goal.loop-i-preserved
-loop-i-preserved c = let l = c.loop-i in (omega arith, zero_on (eqb 0) _ l.i l.seen _ l.invariant.1 0 _ (omega arith) refl)
+pub loop-x-preserved : goal.loop-x-preserved
+loop-x-preserved c = grind (arith, common_steps, none_of_both, list_all_more)
 
 pub returns : goal.returns
-returns c = let l = c.loop-i in zero_end (eqb 0) _ l.i l.seen _ l.invariant.1 (omega arith)
-
-pub loop-i-init : goal.loop-i-init
-loop-i-init c = (omega arith, refl)
+returns c = let t = turned c.loop-x.seen 0 in let e = all_is (eqb 0) c.args.l.now in grind (arith, common_steps)

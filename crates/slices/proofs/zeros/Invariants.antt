@@ -1,14 +1,7 @@
--- `zeros` meets its contract. The loop: all are zero if what was seen and the rest are. Assumes nothing.
-use mathlib.Core.Bool.{◌&&◌}
-use mathlib.Core.Path.{◌≡◌}
-use Prim.Native.Nat.{◌-◌, ◌≤◌}
-use lib.Dec.{eqb}
-use lib.ListN.{drop, length}
-use Rattle.theory.specs.Lists.{all_of}
+-- `zeros` meets its contract. The loop: nothing seen is all of the list so far being zero. Assumes nothing.
+use Rattle.std.proofs.Common.{◌≡◌, eqb, take}
+use Rattle.std.specs.List.{list_all}
 use Rattle.slices.proofs.zeros.Given as goal
 
-abbrev pub invariant-loop-i : goal.invariant-loop-i
-invariant-loop-i l = (l.i ≤ length l.l) × (eqb 0 l.seen && all_of (eqb 0) (drop l.i l.l) ≡ all_of (eqb 0) l.l)
-
-abbrev pub decreases-loop-i : goal.decreases-loop-i
-decreases-loop-i l = length l.l - l.i
+abbrev pub invariant-loop-x : goal.invariant-loop-x
+invariant-loop-x l = eqb 0 l.seen ≡ list_all (eqb 0) (take l.x-index l.l)
