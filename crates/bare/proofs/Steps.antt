@@ -148,10 +148,10 @@ module _ (c : Chase) where
   step_halt h f e n =
       ap (halt_of c) e ∙ sym (ap (λ (b : Bool). choose (not b) (halt_of c (fault_of_item c.top h)) (follow_of c h)) (ne_eqb (number_of (fault_of_item c.top h)) 0 (λ z. n (ap number_of e ∙ z))))
 
-  pub step_follow : (h : Handed) (f : Reply) → f ≡ fault_of_item c.top h → number_of f ≡ 0 → follow_of c h ≡ step_of c h
+  pub step_follow : (h : Handed) → fault_of_item c.top h ≡ Done → follow_of c h ≡ step_of c h
   unfolding step_of
-  step_follow h f e n =
-      sym (ap (λ (b : Bool). choose (not b) (halt_of c (fault_of_item c.top h)) (follow_of c h)) (eq-eqb (number_of (fault_of_item c.top h)) 0 (ap number_of (sym e) ∙ n)))
+  step_follow h d =
+      sym (ap (λ (b : Bool). choose (not b) (halt_of c (fault_of_item c.top h)) (follow_of c h)) (eq-eqb (number_of (fault_of_item c.top h)) 0 (ap number_of d)))
 
 -- ---- after the last
 

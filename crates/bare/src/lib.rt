@@ -6,6 +6,7 @@ ghost use Rattle.theory.specs.Limits.{limits, over_counts};
 ghost use Rattle.theory.specs.Lists.{choose};
 ghost use Rattle.theory.specs.Sets.{in_range};
 ghost use Rattle.following.specs.Marks.{mark_by};
+ghost use Rattle.replies.specs.Replies.{checked};
 ghost use Rattle.replies.specs.declared.Reply.TheVariants.{Done};
 ghost use Rattle.bare.specs.Bare.{Answers, answered, fault_of_item, just_of, refused_as};
 ghost use Rattle.bare.specs.Chasing.{Going, again_of, begun_of, finish_of, follow_of, halt_of, onward_of, step_of, told_in};
@@ -113,11 +114,11 @@ fn over(ask: Query) -> bool
 }
 
 // The first fault of an item.
-fn fault(top: u8, item: Handed) -> Reply
-    ensures { result ≡ fault_of_item top item }
+fn fault(top: u8, item: Handed) -> Result<(), Reply>
+    ensures { result ≡ checked (fault_of_item top item) }
 {
     if SUPPORTS < item.count {
-        return Reply::Supports;
+        return Err(Reply::Supports);
     }
     let supports = item.supports;
     let n = item.count;
@@ -225,8 +226,7 @@ fn step(chase: Chase, item: Handed) -> Chase
     requires { Going chase }
     ensures { result ≡ step_of chase item }
 {
-    let reply = fault(chase.top, item);
-    if replies::number(reply) != 0 {
+    if let Err(reply) = fault(chase.top, item) {
         return halt(chase, reply);
     }
     follow(chase, item)

@@ -6,8 +6,9 @@ use Prim.Native.Nat.{◌+◌, ◌<◌, ◌≤◌, ℕ}
 use borrow.Author.Tests.{eq-eqb, le-leb, lt-leb, ne_eqb}
 use Rattle.changing.specs.Changing.{changed, excluded, included, less_of, more_of, sifted}
 use Rattle.changing.specs.declared.Changed.{Changed}
-use Rattle.replies.proofs.Laws.{zero_done}
-use Rattle.replies.specs.Replies.{number_of}
+use Rattle.std.specs.Prelude.{Err, Ok, ⊤}
+use Rattle.replies.proofs.Checked.{checked_done, checked_refusal}
+use Rattle.replies.specs.Replies.{checked, number_of}
 use Rattle.replies.specs.declared.Reply.{Reply}
 use Rattle.replies.specs.declared.Reply.TheVariants.{Already, Done, Full, Unheld}
 use Rattle.rules.proofs.Laws.{canonical_fits}
@@ -25,38 +26,35 @@ module _ (h : Held) (c : ℕ) (l : List ℕ) where
   abbrev j : Justification
   j = justification_of N c l
 
-  -- the reply r, of number k, is that of the item
-  pub record Told (r : Reply) (k : ℕ) : Type 0 where
-    pub fault : r ≡ fault_of N c l
-    pub number : k ≡ number_of r
-
   -- the item has no fault, and e is its place
   pub record Item (e : Entry) : Type 0 where
     pub done : number_of (fault_of N c l) ≡ 0
     pub fits : fitting N e ≡ true
     pub says : meaning e ≡ j
 
-  pub faultless : {r : Reply} {k : ℕ} → Told r k → k ≡ 0 → fault_of N c l ≡ Done
-  faultless t z = zero_done (fault_of N c l) (ap number_of (sym t.fault) ∙ sym t.number ∙ z)
+  pub faultless : {u : ⊤} → Ok u ≡ checked (fault_of N c l) → fault_of N c l ≡ Done
+  faultless {u} t = checked_done (fault_of N c l) u (sym t)
 
-  pub item : {r : Reply} {k : ℕ} → Told r k → k ≡ 0 → (e : Entry) → e ≡ entry_of j → Item e
-  item t z e q =
-      let d = faultless t z in
+  pub item : {u : ⊤} → Ok u ≡ checked (fault_of N c l) → (e : Entry) → e ≡ entry_of j → Item e
+  item t e q =
+      let d = faultless t in
       let p = canonical_fits N c l d in
       record { done = ap number_of d; fits = ap (fitting N) q ∙ p.0; says = ap meaning q ∙ p.1 }
 
   module _ (go : Justification → Changed) where
-    sift_fault : {r : Reply} {k : ℕ} → Told r k → (k ≡ 0 → ⊥) → changed r h ≡ sifted h c l go
-    sift_fault t f = ap (λ (x : Reply). changed x h) t.fault ∙ rw (ne_eqb (number_of (fault_of N c l)) 0 (λ z. f (t.number ∙ ap number_of t.fault ∙ z)))
+    sift_fault : {r : Reply} → Err r ≡ checked (fault_of N c l) → changed r h ≡ sifted h c l go
+    sift_fault {r} t =
+        let p = checked_refusal (fault_of N c l) r (sym t) in
+        ap (λ (x : Reply). changed x h) (sym p.0) ∙ rw (ne_eqb (number_of (fault_of N c l)) 0 (λ z. p.1 (ap number_of (sym p.0) ∙ z)))
 
     sift_item : {e : Entry} → Item e → go (meaning e) ≡ sifted h c l go
     sift_item i = ap go i.says ∙ rw (eq-eqb (number_of (fault_of N c l)) 0 i.done)
 
-  pub more_fault : {r : Reply} {k : ℕ} → Told r k → (k ≡ 0 → ⊥) → changed r h ≡ more_of h c l
+  pub more_fault : {r : Reply} → Err r ≡ checked (fault_of N c l) → changed r h ≡ more_of h c l
   unfolding more_of
   more_fault = sift_fault (included h)
 
-  pub less_fault : {r : Reply} {k : ℕ} → Told r k → (k ≡ 0 → ⊥) → changed r h ≡ less_of h c l
+  pub less_fault : {r : Reply} → Err r ≡ checked (fault_of N c l) → changed r h ≡ less_of h c l
   unfolding less_of
   less_fault = sift_fault (excluded h)
 

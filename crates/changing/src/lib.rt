@@ -23,8 +23,7 @@ pub fn more(held: Held, consequent: u32, supports: &[u32]) -> Changed
     ensures { result ≡ more_of held consequent supports.now }
 {
     let top = held.assumptions + held.claims;
-    let reply = rules::fault(top, consequent, supports);
-    if replies::number(reply) != 0 {
+    if let Err(reply) = rules::fault(top, consequent, supports) {
         return Changed { reply, held };
     }
     let entry = rules::canonical(top, consequent, supports);
@@ -52,8 +51,7 @@ pub fn less(held: Held, consequent: u32, supports: &[u32]) -> Changed
     ensures { result ≡ less_of held consequent supports.now }
 {
     let top = held.assumptions + held.claims;
-    let reply = rules::fault(top, consequent, supports);
-    if replies::number(reply) != 0 {
+    if let Err(reply) = rules::fault(top, consequent, supports) {
         return Changed { reply, held };
     }
     let entry = rules::canonical(top, consequent, supports);

@@ -132,8 +132,7 @@ fn item(bytes: &[u8], from: usize, top: u8, consequent: u32, count: usize) -> En
     }
     let numbers = given.numbers;
     let list = &numbers[..count];
-    let fault = rules::fault(top, consequent, list);
-    if replies::number(fault) != 0 {
+    if let Err(fault) = rules::fault(top, consequent, list) {
         return unread(fault);
     }
     let entry = rules::canonical(top, consequent, list);

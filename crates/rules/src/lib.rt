@@ -37,27 +37,27 @@ pub struct Held {
     pub entries: [Entry; HELD],
 }
 
-// The first fault of a justification as it is handed over, top being the highest number; else done.
-pub fn fault(top: u8, consequent: u32, supports: &[u32]) -> Reply
+// The first fault of a justification as it is handed over, top being the highest number.
+pub fn fault(top: u8, consequent: u32, supports: &[u32]) -> Result<(), Reply>
     ensures { Faulted top consequent supports.now result }
 {
     if SUPPORTS < supports.len() {
-        return Reply::Supports;
+        return Err(Reply::Supports);
     }
     let highest = top as u32;
     if highest < consequent {
-        return Reply::Number;
+        return Err(Reply::Number);
     }
     if slices::over(supports, highest) {
-        return Reply::Number;
+        return Err(Reply::Number);
     }
     if slices::has(supports, 0) {
-        return Reply::Falsity;
+        return Err(Reply::Falsity);
     }
     if slices::has(supports, consequent) {
-        return Reply::Itself;
+        return Err(Reply::Itself);
     }
-    Reply::Done
+    Ok(())
 }
 
 // A justification without fault in its place, its supports as a set.

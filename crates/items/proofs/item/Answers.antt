@@ -3,7 +3,7 @@ use mathlib.Core.Path.{sym, ap, ◌∙◌}
 use native.Mathlib.Omega.{arith}
 use lib.Seq.{length-take-le}
 use Rattle.items.proofs.Taken.{supports_long, supports_read, supports_fault, item_unread, item_faulty, item_whole}
-use Rattle.replies.proofs.Laws.{zero_done}
+use Rattle.replies.proofs.Checked.{checked_done, checked_refusal}
 use Rattle.replies.specs.declared.Reply.TheVariants.{Done}
 use Rattle.rules.specs.declared.Entry.{Entry}
 use Rattle.items.proofs.item.Goals as goal
@@ -17,11 +17,11 @@ slice_bounds-numbers-end c = omega (arith, c.requires.1, supports_long _ _ c.req
 pub slice_bounds-list-end : goal.slice_bounds-list-end
 slice_bounds-list-end c = sym (length-take-le _ _ (omega (arith, c.requires.1, supports_long _ _ c.requires.1 _ _ c.supports-given.ensures)))
 
-pub returns-then-number-ne0-2 : goal.returns-then-number-ne0-2
-returns-then-number-ne0-2 c = c.unread-then-number-ne0-2.ensures ∙ item_faulty _ _ _ _ _ _ c.supports-given.result.next (supports_read _ _ c.requires.1 _ _ c.supports-given.ensures c.requires.2 (sym c.number.ensures ∙ c.if-number-ne0.false)).0 _ c.fault-fault.ensures (λ e. c.if-number-ne0-2.true (c.number-2.ensures ∙ e))
+pub returns-in-Err : goal.returns-in-Err
+returns-in-Err c = let p = checked_refusal _ _ (sym c.in-Err.ensures) in c.unread-in-Err.ensures ∙ item_faulty _ _ _ _ _ _ c.supports-given.result.next (supports_read _ _ c.requires.1 _ _ c.supports-given.ensures c.requires.2 (sym c.number.ensures ∙ c.if-number-ne0.false)).0 _ (sym p.0) p.1
 
 pub canonical-entry-requires : goal.canonical-entry-requires
-canonical-entry-requires c = (c.requires.0, sym c.fault-fault.ensures ∙ zero_done _ (sym c.number-2.ensures ∙ c.if-number-ne0-2.false))
+canonical-entry-requires c = (c.requires.0, checked_done _ _ (sym c.in_default.ensures))
 
 pub returns : goal.returns
-returns c = let s = supports_read _ _ c.requires.1 _ _ c.supports-given.ensures c.requires.2 (sym c.number.ensures ∙ c.if-number-ne0.false) in ap (λ (e : Entry). record { reply = Done; next = c.supports-given.result.next; entry = e }) c.canonical-entry.ensures ∙ item_whole _ _ _ _ _ _ _ s.0 s.1 (sym c.fault-fault.ensures ∙ zero_done _ (sym c.number-2.ensures ∙ c.if-number-ne0-2.false))
+returns c = let s = supports_read _ _ c.requires.1 _ _ c.supports-given.ensures c.requires.2 (sym c.number.ensures ∙ c.if-number-ne0.false) in ap (λ (e : Entry). record { reply = Done; next = c.supports-given.result.next; entry = e }) c.canonical-entry.ensures ∙ item_whole _ _ _ _ _ _ _ s.0 s.1 (checked_done _ _ (sym c.in_default.ensures))
