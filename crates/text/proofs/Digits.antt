@@ -47,3 +47,5 @@ digits_most (suc f) n h =
     ⊎_elim (λ k. omega (arith, ap length (digits_one n (ltb-true n 10 k))))
     (λ k. let l : n / 10 < 10 ^ suc f = omega (arith, pow-suc 10 (suc f)) in
     omega (arith, ap length (digits_more n (ltb-false n 10 k)), length-append (digits (n / 10)) ((48 + n % 10) ∷ []), digits_most f (n / 10) l)) (either (ltb n 10))
+
+pub ruleset steps = (digits_one, digits_more)

@@ -1,3 +1,4 @@
+pub mod Added
 pub mod Cases
 pub mod Digits
 pub mod Lengths

@@ -80,7 +80,7 @@ unfolding follow each joined
 nothing true = refl
 nothing false = refl
 
-rest_end : (w E k : ℕ) (b : Bool) → k ≡ suc w → rest w E k b ≡ 125 ∷ []
+pub rest_end : (w E k : ℕ) (b : Bool) → k ≡ suc w → rest w E k b ≡ 125 ∷ []
 unfolding rest span those
 rest_end w E k b h = let e : suc w - k ≡ 0 = omega arith in rw (e, nothing b)
 
@@ -112,6 +112,22 @@ rest_turn w E k b h =
     ⊎_elim
     (λ m. rw (span_step w k h, those_in (among E) k l m, follow_in b k (those (among E) l), m) (append_assoc (choose b (word "," ++ digits k) (digits k)) (follow true (those (among E) l)) (125 ∷ [])))
     (λ m. rw (span_step w k h, those_out (among E) k l m, m)) (either (among E k))
+
+module _ (w E k : ℕ) (h : k ≤ w) where
+  -- an assumption that is not in E adds nothing
+  pub rest_out : (b : Bool) → among E k ≡ false → rest w E k b ≡ rest w E (k + 1) b
+  unfolding rest those
+  rest_out b e = rw (span_step w k h, e) refl
+
+  -- the first adds its digits
+  pub rest_first : among E k ≡ true → rest w E k false ≡ digits k ++ rest w E (k + 1) true
+  unfolding rest those follow joined
+  rest_first e = rw (span_step w k h, e) (append_assoc (digits k) (each (λ j. word "," ++ digits j) (those (among E) (span (suc w - (k + 1)) (k + 1)))) (125 ∷ []))
+
+  -- a later one has a comma before them
+  pub rest_later : among E k ≡ true → rest w E k true ≡ 44 ∷ (digits k ++ rest w E (k + 1) true)
+  unfolding rest those follow each word
+  rest_later e = rw (span_step w k h, e) (append_assoc (44 ∷ digits k) (each (λ j. word "," ++ digits j) (those (among E) (span (suc w - (k + 1)) (k + 1)))) (125 ∷ []))
 
 -- whether another stands before the next assumption
 later_turn : (E k from next next' : ℕ) → from ≤ next → next' ≡ next + length (entered E k (ltb from next)) → ltb from next' ≡ among E k || ltb from next
@@ -147,3 +163,7 @@ spaced_turn w l i h = ap (spaced w) (drop-cons l i 0 h) ∙ ap (λ (j : ℕ). 32
 pub spaced_end : (w : ℕ) (l : List ℕ) (i : ℕ) → length l ≤ i → spaced w (drop i l) ≡ []
 unfolding spaced each
 spaced_end w l i h = ap (spaced w) (drop_of_length-le l {i = i} h)
+
+pub ruleset rests = (braced_rest, rest_end, rest_out, rest_first, rest_later)
+
+pub ruleset lists = (spaced_turn, spaced_end)

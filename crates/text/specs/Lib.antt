@@ -1,2 +1,3 @@
 pub mod Texts
+pub mod Writer
 pub mod Writing
