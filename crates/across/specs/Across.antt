@@ -1,6 +1,6 @@
 -- What goes out to a program in C or Rust: what the product's calls answer, in numbers. Assumes nothing.
 use Rattle.std.proofs.Math.Option.{Option, none, some}
-use Rattle.std.specs.Prelude.{ℕ, suc, zero}
+use Rattle.std.specs.Prelude.{ℕ, suc, zero, Result, Ok, Err}
 use Rattle.asking.specs.declared.Answer.{Answer}
 use Rattle.asking.specs.declared.Answer.TheVariants.{Inconsistent, Refused, Supported, Unsupported}
 use Rattle.asking.specs.declared.Found.{Found}
@@ -15,8 +15,6 @@ use Rattle.across.specs.declared.Asked.{Asked}
 use Rattle.across.specs.declared.Kept.{Kept}
 use Rattle.across.specs.declared.Reasoned.{Reasoned}
 use Rattle.across.specs.declared.Told.{Told}
-use Rattle.lent.specs.declared.Written.{Written}
-use Rattle.lent.specs.declared.Written.TheVariants.{Length, Refused as Unwritten}
 use Rattle.plain.specs.declared.Plain.{Plain}
 use Rattle.plain.specs.declared.Plain.TheVariants.{Inconsistent as Contradicted, Refused as Unasked, Supported as Followed, Unsupported as Unreached}
 use Rattle.replies.specs.Replies.{named_by, number_of}
@@ -69,9 +67,9 @@ plainly_by Followed = told 0 1
 plainly_by Unreached = told 0 0
 plainly_by (Unasked r) = told (number_of r) 0
 
-abbrev pub wrote_by : Written → Told
-wrote_by (Length n) = told 0 n
-wrote_by (Unwritten r) = told (number_of r) 0
+abbrev pub wrote_by : Result ℕ Reply → Told
+wrote_by (Ok n) = told 0 n
+wrote_by (Err r) = told (number_of r) 0
 
 -- ---- the bare list
 

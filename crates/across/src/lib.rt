@@ -6,7 +6,6 @@ ghost use Rattle.across.specs.Across.{kept_by, named_or0, plainly_by, query_by, 
 
 use asking::Answer;
 use bare::{Query, What};
-use lent::Written;
 use plain::Plain;
 use replies::Reply;
 use store::Store;
@@ -116,12 +115,12 @@ pub fn plainly(word: Plain) -> Told
 }
 
 // The length of a text, or the refusal.
-pub fn written(answer: Written) -> Told
+pub fn written(answer: Result<usize, Reply>) -> Told
     ensures { result ≡ wrote_by answer }
 {
     match answer {
-        Written::Length(n) => Told { reply: 0, value: n },
-        Written::Refused(reply) => Told {
+        Ok(n) => Told { reply: 0, value: n },
+        Err(reply) => Told {
             reply: replies::number(reply) as u32,
             value: 0,
         },

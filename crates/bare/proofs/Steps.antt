@@ -21,8 +21,7 @@ use Rattle.following.specs.Marks.{given_by, mark_by, sown}
 use Rattle.handed.proofs.Supplied.{supplied_few}
 use Rattle.handed.specs.Supplied.{supplied_by}
 use Rattle.handed.specs.declared.Handed.{Handed}
-use Rattle.lent.specs.declared.Written.{Written}
-use Rattle.lent.specs.declared.Written.TheVariants.{Refused as Unwritten}
+use Rattle.std.proofs.Common.{Result, Err}
 use Rattle.plain.specs.Plainly.{fill_bytes, fill_reply, word_in}
 use Rattle.plain.specs.declared.Plain.{Plain}
 use Rattle.plain.specs.declared.Plain.TheVariants.{Refused}
@@ -162,7 +161,7 @@ module _ (x : What) (r : Reply) where
   pub refused_fill : x ≡ Context → Filled r ≡ refused_as x r
   refused_fill e = sym (ap (λ (y : What). refused_as y r) e)
 
-  pub refused_lines : x ≡ Stages → Lines (Unwritten r) ≡ refused_as x r
+  pub refused_lines : x ≡ Stages → Lines (Err r) ≡ refused_as x r
   refused_lines e = sym (ap (λ (y : What). refused_as y r) e)
 
 module _ (m : List ℕ) (N : ℕ) (out : List ℕ) (x : What) where
@@ -172,7 +171,7 @@ module _ (m : List ℕ) (N : ℕ) (out : List ℕ) (x : What) where
   pub told_fill : (r : Reply) (after : List ℕ) → x ≡ Context → r ≡ fill_reply N (length out) → after ≡ fill_bytes m N out → answered (Filled r) after ≡ told_in m N x out
   told_fill r after e p q = ap₂ (λ (y : Reply) (b : List ℕ). answered (Filled y) b) p q ∙ sym (ap (λ (y : What). told_in m N y out) e)
 
-  pub told_lines : (w : Written) (after : List ℕ) → x ≡ Stages → record { answer = w; bytes = after } ≡ put_of m N out → answered (Lines w) after ≡ told_in m N x out
+  pub told_lines : (w : Result ℕ Reply) (after : List ℕ) → x ≡ Stages → record { answer = w; bytes = after } ≡ put_of m N out → answered (Lines w) after ≡ told_in m N x out
   told_lines w after e p = ap wrote_as p ∙ sym (ap (λ (y : What). told_in m N y out) e)
 
 module _ (c : Chase) (q : Query) (out : List ℕ) where

@@ -1,5 +1,5 @@
 -- Question, context and lines from a bare list of justifications, as document 02 has them. Assumes nothing.
-use Rattle.std.specs.Prelude.{not, List, [], ◌++◌, ◌∷◌, map, ◌≡◌, ◌+◌, ℕ, ltb, drop, length}
+use Rattle.std.specs.Prelude.{not, List, [], ◌++◌, ◌∷◌, map, ◌≡◌, ◌+◌, ℕ, ltb, drop, length, Err}
 use Rattle.bare.specs.declared.Query.{Query}
 use Rattle.bare.specs.declared.Told.{Told}
 use Rattle.bare.specs.declared.Told.TheVariants.{Filled, Lines, Word}
@@ -8,7 +8,6 @@ use Rattle.bare.specs.declared.What.TheVariants.{Context, Number as Of, Stages}
 use Rattle.handed.specs.Supplied.{supplied_by}
 use Rattle.handed.specs.declared.Handed.{Handed}
 use Rattle.lent.specs.Lent.{Wrote, fitted, written_number}
-use Rattle.lent.specs.declared.Written.TheVariants.{Refused as Unwritten}
 use Rattle.plain.specs.Plainly.{byte_of, plain_by, plain_number}
 use Rattle.plain.specs.declared.Plain.TheVariants.{Refused}
 use Rattle.replies.specs.Replies.{number_of}
@@ -55,7 +54,7 @@ answered r b = record { answer = r; bytes = b }
 abbrev pub refused_as : What → Reply → Told
 refused_as (Of n) r = Word (Refused r)
 refused_as Context r = Filled r
-refused_as Stages r = Lines (Unwritten r)
+refused_as Stages r = Lines (Err r)
 
 -- the text written, or 15
 abbrev pub wrote_as : Wrote → Answered

@@ -12,7 +12,6 @@ ghost use Rattle.bare.specs.Bare.{Answers, answered, fault_of_item, just_of, ref
 ghost use Rattle.bare.specs.Chasing.{Going, again_of, begun_of, finish_of, follow_of, halt_of, onward_of, step_of, told_in};
 
 use handed::Handed;
-use lent::Written;
 use plain::Plain;
 use replies::Reply;
 use sets::Set;
@@ -43,7 +42,7 @@ pub struct Query {
 pub enum Told {
     Word(Plain),
     Filled(Reply),
-    Lines(Written),
+    Lines(Result<usize, Reply>),
 }
 
 // A list that is being followed: the reply so far, the item at which it stands, the stage, whether that marked something new, and the marks.
@@ -239,7 +238,7 @@ fn refused(what: What, reply: Reply) -> Told
     match what {
         What::Number(_) => Told::Word(Plain::Refused(reply)),
         What::Context => Told::Filled(reply),
-        What::Stages => Told::Lines(Written::Refused(reply)),
+        What::Stages => Told::Lines(Err(reply)),
     }
 }
 

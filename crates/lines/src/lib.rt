@@ -7,7 +7,7 @@ ghost use Rattle.store.specs.Reading.{contradicted_in};
 ghost use Rattle.store.specs.Shape.{right_shape};
 ghost use Rattle.lines.specs.Lines.{CaseLined, Lined, RefusalLined};
 
-use lent::{Listed, Written};
+use lent::Listed;
 use replies::Reply;
 use store::Store;
 use theory::{LABEL, NOGOODS};
@@ -39,7 +39,7 @@ pub fn line(store: Store, n: u32, out: &mut [u8]) -> Listed
     let reply = store.refusal(n, 0);
     if replies::number(reply) != 0 {
         return Listed {
-            answer: Written::Refused(reply),
+            answer: Err(reply),
             store,
         };
     }
@@ -56,7 +56,7 @@ pub fn case_line(store: Store, out: &mut [u8]) -> Listed
 {
     if !store.shape() {
         return Listed {
-            answer: Written::Refused(Reply::Shape),
+            answer: Err(Reply::Shape),
             store,
         };
     }
@@ -75,7 +75,7 @@ pub fn case_line(store: Store, out: &mut [u8]) -> Listed
 }
 
 // The line of a refusal and of the record being read.
-pub fn refusal(reply: Reply, record: u32, out: &mut [u8]) -> Written
+pub fn refusal(reply: Reply, record: u32, out: &mut [u8]) -> Result<usize, Reply>
     ensures { RefusalLined reply «record» out.old result out.new }
 {
     let number = replies::number(reply) as u32;

@@ -3,7 +3,6 @@
 
 ghost use Rattle.std.specs.Prelude.{◌≤◌, length};
 
-use lent::Written;
 use replies::Reply;
 use std::io::{IsTerminal, Print, Read, Stderr, Stdin, Stdout};
 
@@ -66,8 +65,8 @@ pub fn decimal(console: Console, n: u32) {
 }
 
 // The text that a call wrote; where it wrote none, that is told on standard error.
-pub fn written(console: Console, answer: Written, text: &[u8]) {
-    if let Written::Length(n) = answer {
+pub fn written(console: Console, answer: Result<usize, Reply>, text: &[u8]) {
+    if let Ok(n) = answer {
         if n <= text.len() {
             say(console, &text[..n]);
             return;

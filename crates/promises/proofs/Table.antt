@@ -24,7 +24,7 @@ use Rattle.casefile.specs.Load.{load_of}
 use Rattle.handed.specs.Supplied.{supplied_by}
 use Rattle.handed.specs.declared.Handed.{Handed}
 use Rattle.lent.specs.Lent.{Wrote, fitted, kept, written_number}
-use Rattle.lent.specs.declared.Written.TheVariants.{Length}
+use Rattle.std.proofs.Common.{Ok}
 use Rattle.lines.specs.Lines.{case_text, heading_of, line_of, line_text, refusal_text}
 use Rattle.numbers.specs.Numbers.{number_at}
 use Rattle.plain.specs.Plainly.{plain_by, plain_number, plain_of}
@@ -277,7 +277,7 @@ all_told s l out =
 
 fitted_told : (t out : List ℕ) → given (length out < length t) 15 no_row (wrote (fitted t out))
 unfolding fitted
-fitted_told t out = by_choice no_row wrote (ltb (length out) (length t)) (kept Short out) (record { answer = Length (length t); bytes = t ++ drop (length t) out }) (less_test (length out) (length t)) refl (λ z. refl)
+fitted_told t out = by_choice no_row wrote (ltb (length out) (length t)) (kept Short out) (record { answer = Ok (length t); bytes = t ++ drop (length t) out }) (less_test (length out) (length t)) refl (λ z. refl)
 
 -- none of the three answers is a refusal
 pub standing_zero : (l : Lists) (n E : ℕ) → answer_number (standing l n E) ≡ 0
@@ -431,7 +431,7 @@ module _ (q : Query) (l : List Handed) (out : List ℕ) where
       t : List ℕ
       t = stage_text Q (barely Q l) q.set
 
-      go : (b : Bool) → Kind Stages (wrote_as (choose b (kept Short out) (record { answer = Length (length t); bytes = t ++ drop (length t) out })))
+      go : (b : Bool) → Kind Stages (wrote_as (choose b (kept Short out) (record { answer = Ok (length t); bytes = t ++ drop (length t) out })))
       go true k = (Short, refl)
       go false k = absurd (k refl)
 

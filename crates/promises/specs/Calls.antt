@@ -1,5 +1,5 @@
 -- The calls as one value, so that a demand can be said of any program. Assumes nothing.
-use Rattle.std.specs.Prelude.{Bool, List, [], ◌++◌, ℕ, drop, length}
+use Rattle.std.specs.Prelude.{Bool, List, [], ◌++◌, ℕ, drop, length, Result, Ok}
 use Rattle.asking.specs.Asking.{Left, answer_number, context_bytes, context_reply, left, member_number, member_of, question_of}
 use Rattle.asking.specs.declared.Answer.{Answer}
 use Rattle.asking.specs.declared.Found.{Found}
@@ -9,8 +9,6 @@ use Rattle.casefile.specs.Load.{load_of}
 use Rattle.casefile.specs.declared.Loaded.{Loaded}
 use Rattle.handed.specs.declared.Handed.{Handed}
 use Rattle.lent.specs.Lent.{Wrote, fitted, written_number}
-use Rattle.lent.specs.declared.Written.{Written}
-use Rattle.lent.specs.declared.Written.TheVariants.{Length}
 use Rattle.lines.specs.Lines.{heading_of, line_of, refusal_text}
 use Rattle.numbers.specs.Numbers.{number_at}
 use Rattle.numbers.specs.declared.Number.{Number}
@@ -55,13 +53,13 @@ abbrev pub Said : Ask → Type 0
 Said (question n E) = Answer
 Said (context E out) = Reply
 Said (member n place) = Found
-Said (line n out) = Written
-Said (case_line out) = Written
-Said (list_all out) = Written
-Said (file out) = Written
+Said (line n out) = Result ℕ Reply
+Said (case_line out) = Result ℕ Reply
+Said (list_all out) = Result ℕ Reply
+Said (file out) = Result ℕ Reply
 Said (plainly n E) = Plain
 Said (plain_context E out) = Reply
-Said (stage_lines E out) = Written
+Said (stage_lines E out) = Result ℕ Reply
 
 -- the document's number of it
 abbrev pub number_said : (a : Ask) → Said a → ℕ
@@ -99,8 +97,8 @@ abbrev pub reads : (a : Ask) → Said a → Store → List ℕ → Read a
 reads a x s b = record { said = x; store = s; bytes = b }
 
 -- the text t and its length, bytes after it kept
-abbrev pub written : List ℕ → Written
-written t = Length (length t)
+abbrev pub written : List ℕ → Result ℕ Reply
+written t = Ok (length t)
 
 abbrev pub over : List ℕ → List ℕ → List ℕ
 over t out = t ++ drop (length t) out

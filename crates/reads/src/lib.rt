@@ -4,7 +4,6 @@
 ghost use Rattle.std.specs.Prelude.{◌≤◌};
 
 use asking::{Answer, Found};
-use lent::Written;
 use printing::{Console, say};
 use replies::Reply;
 use script::Read;
@@ -113,13 +112,13 @@ fn write(console: Console, store: Store) {
     let out = writing::write(store, &mut bytes);
     let answer = out.answer;
     match answer {
-        Written::Length(length) => {
+        Ok(length) => {
             if bytes.len() < length {
                 return refused(console, Reply::Short);
             }
             hex(console, &bytes[..length]);
         }
-        Written::Refused(reply) => refused(console, reply),
+        Err(reply) => refused(console, reply),
     }
 }
 

@@ -19,7 +19,7 @@ use Rattle.following.specs.First.{since_of, up_to}
 use Rattle.handed.specs.Supplied.{supplied_by}
 use Rattle.items.specs.Items.{Item, header_from, numbers_from, record_from, unless}
 use Rattle.lent.specs.Lent.{fitted, kept, written_length}
-use Rattle.lent.specs.declared.Written.TheVariants.{Length, Refused as Unwritten}
+use Rattle.std.proofs.Common.{Ok, Err}
 use Rattle.lines.specs.Lines.{refusal_text}
 use Rattle.wording.specs.Wording.{word_of}
 use Rattle.numbers.specs.Numbers.{number_from, second_from}
@@ -205,15 +205,15 @@ list_bytes out h =
     ∙ ap (λ (b : Bool). choose b (answered (Filled Short) out) (answered (Filled Done) (table 8 (λ n. byte_of (plain_by (barely 7 sowing_list) 5 n)) ++ drop 8 out))) (le-ltb (length out) 8 h)
     ∙ ap (λ (t : List ℕ). answered (Filled Done) (t ++ drop 8 out)) listed_bytes_lem
 
-list_lines : (out : List ℕ) → 28 ≤ length out → ask_of (asking 3 4 Stages 6) sowing_list out ≡ answered (Lines (Length 28)) (lines ++ drop 28 out)
+list_lines : (out : List ℕ) → 28 ≤ length out → ask_of (asking 3 4 Stages 6) sowing_list out ≡ answered (Lines (Ok 28)) (lines ++ drop 28 out)
 unfolding fitted
 list_lines out h =
     by_list Stages 6 out (omega arith) ∙ ap (λ (t : List ℕ). wrote_as (fitted t out)) staged.1
-    ∙ ap (λ (b : Bool). wrote_as (choose b (kept Short out) (record { answer = Length (length lines); bytes = lines ++ drop (length lines) out }))) (le-ltb (length out) (length lines) (omega (arith, lines_long)))
-    ∙ ap (λ (n : ℕ). answered (Lines (Length n)) (lines ++ drop n out)) lines_long
+    ∙ ap (λ (b : Bool). wrote_as (choose b (kept Short out) (record { answer = Ok (length lines); bytes = lines ++ drop (length lines) out }))) (le-ltb (length out) (length lines) (omega (arith, lines_long)))
+    ∙ ap (λ (n : ℕ). answered (Lines (Ok n)) (lines ++ drop n out)) lines_long
 
 list_refused : (out : List ℕ) → (ask_of (asking 3 4 (Of 6) 5) (own_item ∷ long_item ∷ []) out ≡ answered (Word (Unsaid Itself)) out)
-    × (ask_of (asking 3 4 Context 5) (long_item ∷ own_item ∷ []) out ≡ answered (Filled Supports) out) × (ask_of (asking 3 4 Stages 8) sowing_list out ≡ answered (Lines (Unwritten Number)) out)
+    × (ask_of (asking 3 4 Context 5) (long_item ∷ own_item ∷ []) out ≡ answered (Filled Supports) out) × (ask_of (asking 3 4 Stages 8) sowing_list out ≡ answered (Lines (Err Number)) out)
     × (ask_of (asking 3 4 (Of 8) 5) sowing_list out ≡ answered (Word (Unsaid Number)) out)
 unfolding ask_of faults_of fault_of some_of supplied_by in_range
 list_refused out = (refl, refl, refl, refl)

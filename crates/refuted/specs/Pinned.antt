@@ -1,5 +1,5 @@
 -- Definitions that code and promises share, said a second time by what they give: numbers, texts, bytes and orders, written out, through the calls. Assumes nothing.
-use Rattle.std.specs.Prelude.{◌++◌, ◌∷◌, List, [], map, ◌≡◌, ◌<◌, ◌≤◌, ℕ, drop, length}
+use Rattle.std.specs.Prelude.{◌++◌, ◌∷◌, List, [], map, ◌≡◌, ◌<◌, ◌≤◌, ℕ, drop, length, Ok, Err}
 use Rattle.std.proofs.Math.Option.{none, some}
 use Prim.Native.String.{String}
 use Rattle.asking.specs.Asking.{answer_set}
@@ -9,7 +9,6 @@ use Rattle.bare.specs.declared.Told.TheVariants.{Filled, Lines, Word}
 use Rattle.bare.specs.declared.What.TheVariants.{Context, Number as Of, Stages}
 use Rattle.handed.specs.declared.Handed.{Handed}
 use Rattle.lent.specs.Lent.{written_length}
-use Rattle.lent.specs.declared.Written.TheVariants.{Length, Refused as Unwritten}
 use Rattle.plain.specs.declared.Plain.TheVariants.{Inconsistent as Against, Refused as Unsaid, Supported as Plainly, Unsupported as Neither}
 use Rattle.promises.specs.Calls.{Calls, case_line, context, file, line, over, plain_context, plainly, question, reads, stage_lines, written}
 use Rattle.promises.specs.Plain.{asking}
@@ -100,10 +99,10 @@ pub record Pinned (C : Calls) : Type 0 where
   -- and from a bare list of its rules, supports in another order and twice: the word, the context, the lines
   pub bare_word : (out : List ℕ) → C.bare (asking 3 4 (Of 6) 5) sowing_list out ≡ answered (Word Plainly) out
   pub bare_context : (out : List ℕ) → 8 ≤ length out → C.bare (asking 3 4 Context 5) sowing_list out ≡ answered (Filled Done) ((0 ∷ 1 ∷ 0 ∷ 1 ∷ 1 ∷ 0 ∷ 1 ∷ 0 ∷ []) ++ drop 8 out)
-  pub bare_stages : (out : List ℕ) → 28 ≤ length out → C.bare (asking 3 4 Stages 6) sowing_list out ≡ answered (Lines (Length 28)) (word "0 2 3\n1 0 2 3 5\n2 0 2 3 5 7\n" ++ drop 28 out)
+  pub bare_stages : (out : List ℕ) → 28 ≤ length out → C.bare (asking 3 4 Stages 6) sowing_list out ≡ answered (Lines (Ok 28)) (word "0 2 3\n1 0 2 3 5\n2 0 2 3 5 7\n" ++ drop 28 out)
   -- refused in the kind of each: an item that names its own consequent before one of five supports is 17; that one first is 6; a set with an assumption above A is 4, and so is a number above A + M
   pub bare_refused : (out : List ℕ) → (C.bare (asking 3 4 (Of 6) 5) (own_item ∷ long_item ∷ []) out ≡ answered (Word (Unsaid Itself)) out)
-      × (C.bare (asking 3 4 Context 5) (long_item ∷ own_item ∷ []) out ≡ answered (Filled Supports) out) × (C.bare (asking 3 4 Stages 8) sowing_list out ≡ answered (Lines (Unwritten Number)) out)
+      × (C.bare (asking 3 4 Context 5) (long_item ∷ own_item ∷ []) out ≡ answered (Filled Supports) out) × (C.bare (asking 3 4 Stages 8) sowing_list out ≡ answered (Lines (Err Number)) out)
       × (C.bare (asking 3 4 (Of 8) 5) sowing_list out ≡ answered (Word (Unsaid Number)) out)
   -- the file that is written of it
   pub sowing_file_lem : (out : List ℕ) → 25 ≤ length out → C.reading (sowing C) (file out) ≡ reads (file out) (written sowing_file) (sowing C) (over sowing_file out)

@@ -1,5 +1,5 @@
 -- Wrong programs, each as a value of the calls and refuted by a demand, by what a made store holds, or by what is said of forged stores: the five empty ones of document 01, then those that go wrong in one call. Nothing else cites this file. Assumes nothing.
-use Rattle.std.specs.Prelude.{Bool, ◌&&◌, not, true, List, [], ◌++◌, ◌∷◌, map, reverse, ◌≡◌, ◌+◌, ◌≤◌, suc, ℕ, eqb, ltb, drop, length}
+use Rattle.std.specs.Prelude.{Bool, ◌&&◌, not, true, List, [], ◌++◌, ◌∷◌, map, reverse, ◌≡◌, ◌+◌, ◌≤◌, suc, ℕ, eqb, ltb, drop, length, Err}
 use Rattle.std.proofs.Math.Option.{none}
 use Rattle.asking.specs.Asking.{Left, answer_number, first_in, left, question_of, reasoned, standing}
 use Rattle.asking.specs.declared.Answer.{Answer}
@@ -13,7 +13,6 @@ use Rattle.handed.specs.Supplied.{supplied_by}
 use Rattle.handed.specs.declared.Handed.{Handed}
 use Rattle.items.specs.Items.{Item}
 use Rattle.lent.specs.Lent.{Wrote, fitted, kept}
-use Rattle.lent.specs.declared.Written.TheVariants.{Refused as Unwritten}
 use Rattle.wording.specs.Wording.{line_with}
 use Rattle.plain.specs.declared.Plain.TheVariants.{Refused as Unsaid}
 use Rattle.promises.specs.Calls.{Ask, Calls, Read, case_line, context, file, line, list_all, member, ours, plain_context, plainly, question, reads, stage_lines}
@@ -52,13 +51,13 @@ abbrev pub refusing_read : Store → (a : Ask) → Read a
 refusing_read s (question n E) = reads (question n E) (Refused Shape) s []
 refusing_read s (context E out) = reads (context E out) Shape s out
 refusing_read s (member n place) = reads (member n place) (Not Shape) s []
-refusing_read s (line n out) = reads (line n out) (Unwritten Shape) s out
-refusing_read s (case_line out) = reads (case_line out) (Unwritten Shape) s out
-refusing_read s (list_all out) = reads (list_all out) (Unwritten Shape) s out
-refusing_read s (file out) = reads (file out) (Unwritten Shape) s out
+refusing_read s (line n out) = reads (line n out) (Err Shape) s out
+refusing_read s (case_line out) = reads (case_line out) (Err Shape) s out
+refusing_read s (list_all out) = reads (list_all out) (Err Shape) s out
+refusing_read s (file out) = reads (file out) (Err Shape) s out
 refusing_read s (plainly n E) = reads (plainly n E) (Unsaid Shape) s []
 refusing_read s (plain_context E out) = reads (plain_context E out) Shape s out
-refusing_read s (stage_lines E out) = reads (stage_lines E out) (Unwritten Shape) s out
+refusing_read s (stage_lines E out) = reads (stage_lines E out) (Err Shape) s out
 
 abbrev pub refusing : Calls
 refusing = exchanged ours (λ A M. answer Counts no_store) (λ bytes. record { reply = Ends; «record» = 0; store = no_store }) (λ s c l. answer Shape s) (λ s l out. left (answer Shape s) out) (λ s c l. answer Shape s) refusing_read

@@ -1,7 +1,6 @@
 // The rewriting program: a case file from standard input, what it holds as a case file to standard output; or one refusal to standard error.
 #![tactic(auto)]
 
-use lent::Written;
 use printing::Console;
 use replies::Reply;
 use theory::FILE;
@@ -10,7 +9,7 @@ use theory::FILE;
 fn refused(console: Console, reply: Reply, record: u32) {
     let mut text = [0u8; lines::LONGEST];
     let answer = lines::refusal(reply, record, &mut text);
-    if let Written::Length(n) = answer {
+    if let Ok(n) = answer {
         if n <= text.len() {
             printing::complain(console, &text[..n]);
             return;

@@ -15,8 +15,7 @@ use Rattle.following.specs.First.{since_of}
 use Rattle.following.specs.Marks.{marked}
 use Rattle.lent.proofs.Fits.{fitted_long, fitted_short, hands}
 use Rattle.lent.specs.Lent.{fitted, kept}
-use Rattle.lent.specs.declared.Written.{Written}
-use Rattle.lent.specs.declared.Written.TheVariants.{Length, Refused}
+use Rattle.std.proofs.Common.{Result, Ok, Err}
 use Rattle.plain.proofs.Laws.{placed}
 use Rattle.plain.proofs.Since.{since_by}
 use Rattle.replies.specs.Replies.{number_of}
@@ -164,20 +163,20 @@ module _ (m : List ℕ) (N count : ℕ) (out : List ℕ) (low : N ≤ limits.num
   pub put_short : length out < length (rows_of (N + 1) m count) → kept Short out ≡ put_of m N out
   put_short k = fitted_short (rows_in (N + 1) m) out (omega (arith, k, ap length counted)) ∙ put_within m N out low
 
-  pub put_done : length (rows_of (N + 1) m count) ≤ length out → (n : ℕ) (after : List ℕ) → Put (rows_of (N + 1) m count) 0 out after n → record { answer = Length n; bytes = after } ≡ put_of m N out
+  pub put_done : length (rows_of (N + 1) m count) ≤ length out → (n : ℕ) (after : List ℕ) → Put (rows_of (N + 1) m count) 0 out after n → record { answer = Ok n; bytes = after } ≡ put_of m N out
   put_done k n after p =
       let T : List ℕ = rows_in (N + 1) m in
       let g : Put T 0 out after n = subst (λ (x : List ℕ). Put x 0 out after n) counted p in
       let z : n ≡ length T = omega (arith, g.next) in
-      ap (λ (x : ℕ). record { answer = Length x; bytes = after }) z ∙ fitted_long T out (omega (arith, k, ap length counted)) (front_kept g) ∙ put_within m N out low
+      ap (λ (x : ℕ). record { answer = Ok x; bytes = after }) z ∙ fitted_long T out (omega (arith, k, ap length counted)) (front_kept g) ∙ put_within m N out low
 
 -- ---- the call
 module _ (s : Store) (E : ℕ) (out : List ℕ) where
-  pub lines_refused : (r : Reply) → r ≡ refusal_of s 0 E → (number_of r ≡ 0 → ⊥) → StagesLined s E out (record { answer = Refused r; store = s }) out
+  pub lines_refused : (r : Reply) → r ≡ refusal_of s 0 E → (number_of r ≡ 0 → ⊥) → StagesLined s E out (record { answer = Err r; store = s }) out
   unfolding stages_of
   lines_refused r e d = hands s (refused_set s E r e d (λ x. kept x out) (fitted (stage_text (top s.held) (said_by s.held) E) out))
 
-  pub lines_put : Readable s 0 E → (m : List ℕ) → m ≡ table (limits.numbers + 1) (since_of (said_by s.held) E) → (r : Written) (after : List ℕ) → record { answer = r; bytes = after } ≡ put_of m (top s.held) out
+  pub lines_put : Readable s 0 E → (m : List ℕ) → m ≡ table (limits.numbers + 1) (since_of (said_by s.held) E) → (r : Result ℕ Reply) (after : List ℕ) → record { answer = r; bytes = after } ≡ put_of m (top s.held) out
       → StagesLined s E out (record { answer = r; store = s }) after
   unfolding stages_of
   lines_put k m e r after p =

@@ -9,7 +9,7 @@ ghost use Rattle.text.specs.Texts.{digits};
 ghost use Rattle.text.specs.Writing.{Put, Room};
 ghost use Rattle.stagetext.specs.Stagetext.{StagesLined, body_of, latest, part_of, put_of, row_of, rows_of};
 
-use lent::{Listed, Written};
+use lent::Listed;
 use replies::Reply;
 use sets::Set;
 use store::Store;
@@ -151,18 +151,18 @@ fn rows(marks: [u8; MARKS], end: u8, count: u8, out: &mut [u8]) -> usize
 
 // The lines of all stages up to the last with something new, where there is room for them; 4 where top is no number's.
 // The length is known before a byte is written.
-pub fn put(marks: [u8; MARKS], top: u8, out: &mut [u8]) -> Written
+pub fn put(marks: [u8; MARKS], top: u8, out: &mut [u8]) -> Result<usize, Reply>
     ensures { Leaves (put_of marks top out.old) result out.new }
 {
     if LAST < top {
-        return Written::Refused(Reply::Number);
+        return Err(Reply::Number);
     }
     let end = top + 1;
     let count = last(&marks) + 1;
     if out.len() < rows_width(marks, end, count) {
-        return Written::Refused(Reply::Short);
+        return Err(Reply::Short);
     }
-    Written::Length(rows(marks, end, count, out))
+    Ok(rows(marks, end, count, out))
 }
 
 // One line a stage from 0 up to the last with something new: the stage, then every number that followed from e by then.
@@ -173,7 +173,7 @@ pub fn lines(store: Store, e: Set, out: &mut [u8]) -> Listed
     let reply = followed.reply;
     if replies::number(reply) != 0 {
         return Listed {
-            answer: Written::Refused(reply),
+            answer: Err(reply),
             store,
         };
     }

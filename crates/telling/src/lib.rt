@@ -3,7 +3,6 @@
 
 ghost use Rattle.std.specs.Prelude.{◌≤◌};
 
-use lent::Written;
 use printing::{Console, decimal, say};
 use replies::Reply;
 use script::Read;
@@ -88,15 +87,15 @@ pub fn filled(console: Console, reply: Reply, bytes: [u8; MARKS], n: usize) {
 }
 
 // The text that a call wrote, or its refusal; none is longer than what was lent.
-pub fn told(console: Console, answer: Written, text: &[u8]) {
+pub fn told(console: Console, answer: Result<usize, Reply>, text: &[u8]) {
     match answer {
-        Written::Length(length) => {
+        Ok(length) => {
             if text.len() < length {
                 return refused(console, Reply::Short);
             }
             say(console, &text[..length]);
         }
-        Written::Refused(reply) => refused(console, reply),
+        Err(reply) => refused(console, reply),
     }
 }
 

@@ -18,8 +18,7 @@ use Rattle.across.specs.declared.Reasoned.{Reasoned}
 use Rattle.across.specs.declared.Told.{Told}
 use Rattle.lent.specs.Lent.{Wrote, fitted, kept}
 use Rattle.lines.specs.Lines.{case_text, heading_of, line_of, line_text}
-use Rattle.lent.specs.declared.Written.{Written}
-use Rattle.lent.specs.declared.Written.TheVariants.{Length, Refused as Unwritten}
+use Rattle.std.proofs.Common.{Result, Ok, Err}
 use Rattle.listing.specs.Listing.{listed_of, listing_text}
 use Rattle.plain.specs.Plainly.{plain_by, plain_of}
 use Rattle.plain.specs.declared.Plain.{Plain}
@@ -202,11 +201,11 @@ member_back s n place = found_back (not (right_shape s)) (ltb (top s.held) n) (l
 
 -- ---- texts
 
-abbrev pub written_from : ℕ → ℕ → Written
-written_from zero n = Length n
-written_from (suc k) n = Unwritten (reply_of (suc k) 0)
+abbrev pub written_from : ℕ → ℕ → Result ℕ Reply
+written_from zero n = Ok n
+written_from (suc k) n = Err (reply_of (suc k) 0)
 
-abbrev pub written_of : Told → Written
+abbrev pub written_of : Told → Result ℕ Reply
 written_of t = written_from t.reply t.value
 
 abbrev Back : Wrote → Type 0
@@ -214,7 +213,7 @@ Back w = written_of (wrote_by w.answer) ≡ w.answer
 
 pub fitted_back : (t out : List ℕ) → Back (fitted t out)
 unfolding fitted
-fitted_back t out = chosen Back (ltb (length out) (length t)) (kept Short out) (record { answer = Length (length t); bytes = t ++ drop (length t) out }) refl refl
+fitted_back t out = chosen Back (ltb (length out) (length t)) (kept Short out) (record { answer = Ok (length t); bytes = t ++ drop (length t) out }) refl refl
 
 -- after a look at the shape
 shaped_back : (b : Bool) (out : List ℕ) (w : Wrote) → Back w → Back (choose b (kept Shape out) w)

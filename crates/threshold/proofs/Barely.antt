@@ -13,7 +13,7 @@ use Rattle.across.specs.declared.Asked.{Asked}
 use Rattle.across.specs.declared.Told.{Told}
 use Rattle.handed.specs.Supplied.{supplied_by}
 use Rattle.handed.specs.declared.Handed.{Handed}
-use Rattle.lent.specs.declared.Written.TheVariants.{Refused as Unwritten}
+use Rattle.std.proofs.Common.{Err}
 use Rattle.plain.specs.Plainly.{byte_of, plain_by}
 use Rattle.plain.specs.declared.Plain.TheVariants.{Refused as Unasked}
 use Rattle.replies.specs.Replies.{number_of}
@@ -61,9 +61,9 @@ no_word : (k : ℕ) (r : Reply) → eqb k 0 ≡ false → reply_of k 0 ≡ r →
 no_word zero r h i = absurd (true≢false h)
 no_word (suc k) r h i = ap Unasked i
 
-no_lines : (k : ℕ) (r : Reply) → eqb k 0 ≡ false → reply_of k 0 ≡ r → written_from k 0 ≡ Unwritten r
+no_lines : (k : ℕ) (r : Reply) → eqb k 0 ≡ false → reply_of k 0 ≡ r → written_from k 0 ≡ Err r
 no_lines zero r h i = absurd (true≢false h)
-no_lines (suc k) r h i = ap Unwritten i
+no_lines (suc k) r h i = ap Err i
 
 refusal_back : (w n : ℕ) (r : Reply) (out : List ℕ) → is_done r ≡ false → Replied r → Back w (answered (refused_as (what_by w n) r) out)
 refusal_back zero n r out h i = ap Word (no_word (number_of r) r h i)

@@ -9,8 +9,7 @@ use lib.ListN.{drop, drop_of_length-le, get_or, length, set, take}
 use lib.Seq.{drop-cons, length-take-le}
 use Rattle.lent.proofs.Fits.{hands}
 use Rattle.lent.specs.Lent.{Leaves, fitted}
-use Rattle.lent.specs.declared.Written.{Written}
-use Rattle.lent.specs.declared.Written.TheVariants.{Refused}
+use Rattle.std.proofs.Common.{Result, Err}
 use Rattle.replies.specs.declared.Reply.TheVariants.{Shape}
 use Rattle.rules.proofs.Entries.{fits_elim as entry-elim, said_many}
 use Rattle.rules.proofs.Scan.{right_elim, right_inside, said_at}
@@ -30,6 +29,7 @@ use Rattle.theory.specs.Lists.{each}
 use Rattle.theory.specs.Stages.{Justification}
 use Rattle.writing.proofs.Back.{bytes_one, bytes_two, record_bytes}
 use Rattle.writing.specs.Writing.{Writes, bytes_of, file_of, record_for, write_of}
+use Rattle.replies.specs.declared.Reply.{Reply}
 
 -- ---- a number
 
@@ -100,10 +100,10 @@ unfolding right_shape
 shape_fits s t = and_left (held_fits s.held) (lists_right s.lists s.held.assumptions (top s.held)) t
 
 module _ (s : Store) (out : List ℕ) where
-  pub write_shape : right_shape s ≡ false → Writes s out (record { answer = Refused Shape; store = s }) out
+  pub write_shape : right_shape s ≡ false → Writes s out (record { answer = Err Shape; store = s }) out
   unfolding write_of
   write_shape e = hands s (rw e)
 
-  pub write_rest : right_shape s ≡ true → {t : List ℕ} → t ≡ file_of s.held → {r : Written} {after : List ℕ} → Leaves (fitted t out) r after → Writes s out (record { answer = r; store = s }) after
+  pub write_rest : right_shape s ≡ true → {t : List ℕ} → t ≡ file_of s.held → {r : Result ℕ Reply} {after : List ℕ} → Leaves (fitted t out) r after → Writes s out (record { answer = r; store = s }) after
   unfolding write_of
   write_rest e f l = hands s (l ∙ ap (λ (x : List ℕ). fitted x out) f ∙ rw e)

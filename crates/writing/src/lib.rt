@@ -9,7 +9,7 @@ ghost use Rattle.theory.specs.Limits.{limits};
 ghost use Rattle.theory.specs.Lists.{each};
 ghost use Rattle.writing.specs.Writing.{Writes, bytes_of, file_of, record_for};
 
-use lent::{Listed, Written};
+use lent::Listed;
 use replies::Reply;
 use rules::{Entry, Held};
 use store::Store;
@@ -81,7 +81,7 @@ pub fn write(store: Store, out: &mut [u8]) -> Listed
 {
     if !store.shape() {
         return Listed {
-            answer: Written::Refused(Reply::Shape),
+            answer: Err(Reply::Shape),
             store,
         };
     }
