@@ -7,7 +7,6 @@ ghost use Rattle.store.specs.Shape.{RightShape, held_fits};
 ghost use Rattle.store.specs.Reading.{refusal_of};
 ghost use Rattle.store.specs.Calls.{Added, JudgedAnew, Opened, Withdrawn, after_of, start_store};
 
-use changing::Changed;
 use replies::Reply;
 use rules::Held;
 use sets::Set;
@@ -137,22 +136,20 @@ impl Store {
     }
 
     // The store of what is held after a change, judged anew; or the refusal and the store as it was.
-    pub fn after(self, changed: Changed) -> Outcome
+    pub fn after(self, changed: Result<Held, Reply>) -> Outcome
         ensures { result ≡ after_of self changed }
     {
-        let refusal = changed.reply;
-        if replies::number(refusal) != 0 {
-            return Outcome {
-                reply: refusal,
-                store: self,
-            };
+        match changed {
+            Ok(held) => {
+                let out = judged(held);
+                let reply = out.reply;
+                if replies::number(reply) != 0 {
+                    return Outcome { reply, store: self };
+                }
+                out
+            }
+            Err(reply) => Outcome { reply, store: self },
         }
-        let out = judged(changed.held);
-        let reply = out.reply;
-        if replies::number(reply) != 0 {
-            return Outcome { reply, store: self };
-        }
-        out
     }
 
     // The store with one justification more; or the refusal and the store as it was.
