@@ -1,14 +1,9 @@
--- `stagetext::body` meets its contract. Assumes nothing.
-use Rattle.stagetext.specs.Stagetext.{part_of}
-use Rattle.text.specs.Writing.{Put}
-use Rattle.stagetext.proofs.Upto.{upto}
-use mathlib.Core.Path.{◌≡◌}
-use Prim.Native.Nat.{◌-◌, ◌≤◌}
-use lib.ListN.{length}
+-- The invariant: what the numbers from here on add is left to be written. Assumes nothing.
+use Rattle.std.proofs.Common.{length}
+use Rattle.stagetext.proofs.Turns.{from_number}
+use Rattle.stagetext.specs.Stagetext.{body_of, part_of}
+use Rattle.text.proofs.Added.{Left}
 use Rattle.stagetext.proofs.body.Given as goal
 
 abbrev pub invariant-loop-n : goal.invariant-loop-n
-invariant-loop-n l = (l.n ≤ l.end) × (length l.out ≡ length l.initial.out) × Put (upto (part_of l.marks l.k) l.n) l.at l.initial.out l.out l.next
-
-abbrev pub decreases-loop-n : goal.decreases-loop-n
-decreases-loop-n l = l.end - l.n
+invariant-loop-n l = Left (from_number (part_of l.marks l.k) (length l.marks) l.n) l.out (body_of (length l.marks) l.marks l.k) l.initial.out

@@ -1,14 +1,9 @@
--- `stagetext::rows` meets its contract. Assumes nothing.
-use Rattle.stagetext.specs.Stagetext.{row_of}
-use Rattle.text.specs.Writing.{Put}
-use Rattle.stagetext.proofs.Upto.{upto}
-use mathlib.Core.Path.{◌≡◌}
-use Prim.Native.Nat.{◌-◌, ◌≤◌}
-use lib.ListN.{length}
+-- The invariant: the lines from here on are left to be written. Assumes nothing.
+use Rattle.std.proofs.Common.{length}
+use Rattle.stagetext.proofs.Turns.{from_number}
+use Rattle.stagetext.specs.Stagetext.{row_of, rows_of}
+use Rattle.text.proofs.Added.{Left}
 use Rattle.stagetext.proofs.rows.Given as goal
 
 abbrev pub invariant-loop-k : goal.invariant-loop-k
-invariant-loop-k l = (l.k ≤ l.count) × (length l.out ≡ length l.initial.out) × Put (upto (row_of l.end l.marks) l.k) 0 l.initial.out l.out l.next
-
-abbrev pub decreases-loop-k : goal.decreases-loop-k
-decreases-loop-k l = l.count - l.k
+invariant-loop-k l = Left (from_number (row_of (length l.marks) l.marks) l.count l.k) l.out (rows_of (length l.marks) l.marks l.count) l.initial.out
