@@ -2,7 +2,7 @@
 use mathlib.Core.Bool.{Bool, ◌&&◌, false, true}
 use mathlib.Core.List.{List, [], ◌++◌, ◌∷◌}
 use mathlib.Core.Path.{◌∙◌, ◌≡◌, ap, refl, sym}
-use Prim.Native.Nat.{◌%◌, ◌+◌, ◌/◌, ◌<◌, ◌≤◌, ℕ}
+use Prim.Native.Nat.{◌+◌, ◌<◌, ◌≤◌, ℕ}
 use native.Mathlib.Decide.{dec_lt}
 use native.Mathlib.Omega.{arith}
 use lib.Dec.{leb, ltb}
@@ -31,7 +31,6 @@ use Rattle.store.proofs.Reading.{Readable, refused_set}
 use Rattle.store.specs.Reading.{refusal_of}
 use Rattle.store.specs.Shape.{top}
 use Rattle.store.specs.declared.Store.{Store}
-use Rattle.text.proofs.Digits.{digits_more, digits_one}
 use Rattle.text.specs.Texts.{digits, field, word}
 use Rattle.theory.proofs.Listing.{below_elim}
 use Rattle.theory.proofs.Lists.{each_same, those_same}
