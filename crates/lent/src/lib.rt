@@ -14,6 +14,7 @@ pub struct Listed {
 }
 
 // The text into the lent bytes, where they are long enough.
+#[tactic(auto, using(crate::proofs::Fits::fitted_short))]
 pub fn fit(text: &[u8], out: &mut [u8]) -> Result<usize, Reply>
     ensures { Leaves (fitted text.now out.old) result out.new }
 {
@@ -21,6 +22,6 @@ pub fn fit(text: &[u8], out: &mut [u8]) -> Result<usize, Reply>
     if out.len() < length {
         return Err(Reply::Short);
     }
-    text::copy(text, 0, out);
+    out[..length].copy_from_slice(text);
     Ok(length)
 }

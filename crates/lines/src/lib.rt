@@ -5,11 +5,13 @@ ghost use Rattle.std.specs.Prelude.{true, ◌≡◌, ◌≤◌};
 ghost use Rattle.theory.specs.Limits.{limits};
 ghost use Rattle.store.specs.Reading.{contradicted_in};
 ghost use Rattle.store.specs.Shape.{right_shape};
-ghost use Rattle.lines.specs.Lines.{CaseLined, Lined, RefusalLined};
+ghost use Rattle.text.specs.Writer.{Room, added};
+ghost use Rattle.lines.specs.Lines.{CaseLined, Lined, RefusalLined, case_text};
 
 use lent::Listed;
 use replies::Reply;
 use store::Store;
+use text::Writer;
 use theory::{LABEL, NOGOODS};
 
 // No line of a store of right shape is longer, and no line of a refusal.
@@ -44,10 +46,25 @@ pub fn line(store: Store, n: u32, out: &mut [u8]) -> Listed
         };
     }
     let mut text = [0u8; LONGEST];
+    let mut writer = Writer::new(&mut text);
     let follows = contradicted(store, n);
-    let end = wording::lined(store, n, follows, &mut text);
-    let answer = lent::fit(&text[..end], out);
+    wording::lined(store, n, follows, &mut writer);
+    let answer = lent::fit(writer.text(), out);
     Listed { answer, store }
+}
+
+// The first line of the listing to a writer; the shape was looked at.
+pub fn head(store: Store, writer: &mut Writer)
+    requires { (right_shape store ≡ true) × Room (case_text store) writer.old }
+    ensures { writer.new ≡ added (case_text store) writer.old }
+{
+    let held = store.held;
+    writer.head(
+        held.assumptions.into(),
+        held.claims.into(),
+        held.count as u32,
+        store.lists.depth.into(),
+    );
 }
 
 // The first line of the listing.
@@ -60,17 +77,10 @@ pub fn case_line(store: Store, out: &mut [u8]) -> Listed
             store,
         };
     }
-    let held = store.held;
-    let lists = store.lists;
     let mut text = [0u8; 19];
-    let end = text::head(
-        held.assumptions as u32,
-        held.claims as u32,
-        held.count as u32,
-        lists.depth as u32,
-        &mut text,
-    );
-    let answer = lent::fit(&text[..end], out);
+    let mut writer = Writer::new(&mut text);
+    head(store, &mut writer);
+    let answer = lent::fit(writer.text(), out);
     Listed { answer, store }
 }
 
@@ -80,6 +90,7 @@ pub fn refusal(reply: Reply, record: u32, out: &mut [u8]) -> Result<usize, Reply
 {
     let number = replies::number(reply) as u32;
     let mut text = [0u8; 22];
-    let end = text::refused(number, record, &mut text);
-    lent::fit(&text[..end], out)
+    let mut writer = Writer::new(&mut text);
+    writer.refused(number, record);
+    lent::fit(writer.text(), out)
 }

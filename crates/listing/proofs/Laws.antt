@@ -1,11 +1,10 @@
 -- What the calls of the listing leave, test by test. Assumes nothing.
 use mathlib.Core.Bool.{Bool, false, true}
-use mathlib.Core.List.{List}
+use mathlib.Core.List.{List, ◌++◌}
 use mathlib.Core.Path.{◌∙◌, ◌≡◌, ap, sym}
 use Prim.Native.Nat.{◌<◌, ◌≤◌, ℕ}
-use native.Mathlib.Omega.{arith}
 use lib.Dec.{leb}
-use lib.ListN.{length}
+use lib.ListN.{drop, length}
 use borrow.Author.Tests.{eq-eqb, le-ltb, leb-false, leb-true, lt-ltb, ne_eqb}
 use Rattle.casefile.specs.Load.{load_of}
 use Rattle.casefile.specs.declared.Loaded.{Loaded}
@@ -19,8 +18,6 @@ use Rattle.replies.specs.Replies.{number_of}
 use Rattle.replies.specs.declared.Reply.TheVariants.{Long, Shape, Short}
 use Rattle.store.specs.Shape.{right_shape}
 use Rattle.store.specs.declared.Store.{Store}
-use Rattle.text.proofs.Writing.{front_kept}
-use Rattle.text.specs.Writing.{Put, Room}
 use Rattle.theory.specs.Limits.{file_bytes}
 use Rattle.replies.specs.declared.Reply.{Reply}
 
@@ -30,13 +27,11 @@ module _ (s : Store) (out : List ℕ) where
   pub listed_short : (r : Bool) → r ≡ leb (length (listing_text s)) (length out) → r ≡ false → Leaves (fitted (listing_text s) out) (Err Short) out
   listed_short r e f = fitted_short (listing_text s) out (leb-false (length (listing_text s)) (length out) (sym e ∙ f))
 
-  pub listed_room : (r : Bool) → r ≡ leb (length (listing_text s)) (length out) → r ≡ true → Room (listing_text s) 0 out
-  listed_room r e f = omega (arith, leb-true (length (listing_text s)) (length out) (sym e ∙ f))
+  pub listed_room : (r : Bool) → r ≡ leb (length (listing_text s)) (length out) → r ≡ true → length (listing_text s) ≤ length out
+  listed_room r e f = leb-true (length (listing_text s)) (length out) (sym e ∙ f)
 
-  pub listed_long : {after : List ℕ} {n : ℕ} → Room (listing_text s) 0 out → Put (listing_text s) 0 out after n → Leaves (fitted (listing_text s) out) (Ok n) after
-  listed_long {after} {n} h p =
-      let k : n ≡ length (listing_text s) = omega (arith, p.next) in
-      ap (λ (i : ℕ). record { answer = Ok i; bytes = after }) k ∙ fitted_long (listing_text s) out (omega arith) (front_kept p)
+  pub listed_long : length (listing_text s) ≤ length out → {after : List ℕ} {n : ℕ} → n ≡ length (listing_text s) → after ≡ listing_text s ++ drop (length (listing_text s)) out → Leaves (fitted (listing_text s) out) (Ok n) after
+  listed_long h {after} {n} k e = ap (λ (i : ℕ). record { answer = Ok i; bytes = after }) k ∙ fitted_long (listing_text s) out h e
 
   hands : {w : Wrote} {r : Result ℕ Reply} {after : List ℕ} → Leaves w r after → Hands s w (record { answer = r; store = s }) after
   hands e = (ap (λ (v : Wrote). record { answer = v.answer; store = s }) e, ap (λ (v : Wrote). v.bytes) e)

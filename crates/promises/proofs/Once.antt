@@ -6,6 +6,7 @@ use Rattle.asking.specs.Asking.{Left}
 use Rattle.bare.specs.Bare.{Answered}
 use Rattle.lent.specs.Lent.{Wrote}
 use Rattle.promises.specs.Once.{OnceEach}
+use Rattle.text.specs.declared.Writer.{Writer}
 
 both : {X Y : Type 0} {x x' : X} {y y' : Y} → ◌≡◌ {A = X × Y} (x, y) (x', y') → (x ≡ x') × (y ≡ y')
 both {X} {Y} e = (ap (λ (z : X × Y). z.0) e, ap (λ (z : X × Y). z.1) e)
@@ -33,7 +34,7 @@ once_each = record {
   printed_one = λ κs a r r' w w' p q. (ap (λ (x : Wrote). x.answer) (p ∙ sym q), ap (λ (l : List ℕ). (tt, (l, tt))) (ap (λ (x : Wrote). x.bytes) (p ∙ sym q)));
   write_one = λ κs a r r' w w' p q. (p.0 ∙ sym q.0, ap (λ (l : List ℕ). (tt, (l, tt))) (p.1 ∙ sym q.1));
   fit_one = λ κs a r r' w w' p q. (ap (λ (x : Wrote). x.answer) (p ∙ sym q), ap (λ (l : List ℕ). (tt, (l, tt))) (ap (λ (x : Wrote). x.bytes) (p ∙ sym q)));
-  lined_one = λ κs a r r' w w' p q. (p.next ∙ sym q.next, ap (λ (l : List ℕ). (tt, (tt, (tt, (l, tt))))) (p.bytes ∙ sym q.bytes));
+  lined_one = λ κs a r r' w w' p q. (refl, ap (λ (x : Writer). (tt, (tt, (tt, (x, tt))))) (p ∙ sym q));
   load_one = λ κs a r r' w w' p q. (p ∙ sym q, refl);
   number_one = λ κs a r r' w w' p q. (p ∙ sym q, refl);
   union_one = λ κs a r r' w w' p q. (p ∙ sym q, refl);

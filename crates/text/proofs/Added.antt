@@ -1,6 +1,6 @@
 -- Laws of writing: texts written one after the other are one text written. Assumes nothing.
-use Rattle.std.proofs.Common.{◌≡◌, ◌⊎◌, inl, inr, ℕ, ◌+◌, ◌<◌, ◌≤◌, List, [], ◌∷◌, ◌++◌, length, take, drop, set, refl, arith, append_assoc, length-append, length-drop}
-use Rattle.std.proofs.lemmas.List.{drop-drop, drop_at, length-take, length-take-le, set_split, take_at}
+use Rattle.std.proofs.Common.{◌≡◌, ◌⊎◌, inl, inr, ℕ, ◌+◌, ◌<◌, ◌≤◌, List, [], ◌∷◌, ◌++◌, length, take, drop, set, refl, ap, arith, append_assoc, length-append, length-drop, replicate}
+use Rattle.std.proofs.lemmas.List.{drop-drop, drop_at, length-replicate, length-take, length-take-le, set_split, take_at}
 use Rattle.std.proofs.lemmas.Grind.{common_steps}
 use Rattle.std.specs.Borrow.{MutBor}
 use Rattle.text.specs.Writer.{Room, added, begun, placed, text_of}
@@ -72,19 +72,35 @@ pub record Left (t : List ℕ) (w : Writer) (T : List ℕ) (w₀ : Writer) : Typ
   pub room : Room t w
   pub done : added t w ≡ added T w₀
 
--- ---- a text from the first byte on
+-- ---- a text from the first of lent bytes on
 
-module _ (t : List ℕ) (lent : MutBor (List ℕ)) where
-  pub begun_name : (added t (begun lent)).bytes.ghost_name ≡ lent.ghost_name
-  unfolding added
-  begun_name = refl
+module _ {lent : MutBor (List ℕ)} {w : Writer} (begins : w ≡ begun lent) (t : List ℕ) where
+  pub fresh_room : length t ≤ length lent.now → Room t w
+  fresh_room h = rw begins (omega (arith, h))
 
-  pub begun_bytes : (added t (begun lent)).bytes.now ≡ t ++ drop (length t) lent.now
-  unfolding added placed
-  begun_bytes = grind (arith, common_steps)
+  module _ {w' : Writer} (e : w' ≡ added t w) where
+    first : w' ≡ added t (begun lent)
+    first = rw begins at e
 
-  pub begun_text : text_of (added t (begun lent)) ≡ t
-  unfolding added placed text_of
-  begun_text = grind (arith, common_steps)
+    pub whole_name : w'.bytes.ghost_name ≡ lent.ghost_name
+    unfolding added
+    whole_name = rw first refl
 
-pub ruleset texts = (begun_name, begun_bytes, begun_text, written_added, size_added)
+    pub whole_bytes : w'.bytes.now ≡ t ++ drop (length t) lent.now
+    unfolding added placed
+    whole_bytes = rw first (grind (arith, common_steps))
+
+    pub whole_length : w'.written ≡ length t
+    unfolding added
+    whole_length = rw first (omega arith)
+
+    pub whole_text : text_of w' ≡ t
+    unfolding added placed text_of
+    whole_text = rw first (grind (arith, common_steps))
+
+    pub whole_room : length t ≤ length lent.now → Room [] w'
+    whole_room h = omega (arith, whole_length, h, ap length whole_bytes, length-append t (drop (length t) lent.now), length-drop (length t) lent.now)
+
+-- fresh bytes are as many as they are
+pub blank_length : (n : ℕ) → length (replicate {A = ℕ} n 0) ≡ n
+blank_length n = length-replicate {A = ℕ} n 0

@@ -2,14 +2,12 @@
 use mathlib.Core.Bool.{Bool, ◌&&◌}
 use mathlib.Core.List.{List, [], ◌∷◌}
 use mathlib.Core.Path.{◌≡◌, refl}
-use Prim.Native.Nat.{◌*◌, ◌+◌, ◌-◌, ◌<◌, ◌≤◌, suc, zero, ℕ}
+use Prim.Native.Nat.{◌<◌, ◌≤◌, suc, zero, ℕ}
 use native.Mathlib.Omega.{arith}
 use lib.Dec.{eqb}
-use lib.ListN.{drop, get_or, length, take}
-use Rattle.wording.specs.Wording.{line_with, word_of}
-use Rattle.stages.specs.declared.Lists.{Lists}
-use Rattle.text.specs.Texts.{row, word}
-use Rattle.theory.specs.Limits.{limits}
+use lib.ListN.{length}
+use Rattle.wording.specs.Wording.{word_of}
+use Rattle.text.specs.Texts.{word}
 use Rattle.theory.specs.Lists.{choose}
 
 -- ---- the word

@@ -1,38 +1,25 @@
 -- `lines::case_line` meets its contract. Assumes nothing.
-use mathlib.Core.Bool.{true}
-use mathlib.Core.Path.{◌∙◌, ◌≡◌, sym}
-use native.Mathlib.Omega.{arith}
-use lib.Seq.{length-take-le}
-use Rattle.wording.proofs.Bounds.{bounded}
-use Rattle.lines.proofs.Longest.{case_length}
+use Rattle.std.proofs.Common.{◌≡◌, ◌∙◌, sym, true}
 use Rattle.lines.proofs.Fits.{case_rest, case_shape}
-use Rattle.lines.specs.Lines.{case_text}
+use Rattle.lines.proofs.Longest.{case_length}
 use Rattle.store.specs.Shape.{right_shape}
-use Rattle.text.proofs.Writing.{blank_room, front_room, front_taken}
+use Rattle.text.proofs.Added.{fresh_room, whole_room, whole_text}
 use Rattle.lines.proofs.case_line.Goals as goal
 
 pub returns-then-not-shape : goal.returns-then-not-shape
 returns-then-not-shape c = case_shape c.args.store _ (sym c.shape.ensures ∙ c.if-not-shape.true)
 
-pub overflow_cast-held-3 : goal.overflow_cast-held-3
-overflow_cast-held-3 c =
+pub head-requires : goal.head-requires
+head-requires c =
     let right : right_shape c.args.store ≡ true = sym c.shape.ensures ∙ c.if-not-shape.false in
-    let k = bounded c.args.store right in omega arith
+    (right, fresh_room c.new-writer.ensures _ (case_length c.args.store right))
 
-pub head-end-requires : goal.head-end-requires
-unfolding case_text
-head-end-requires c =
+pub text-requires : goal.text-requires
+text-requires c =
     let right : right_shape c.args.store ≡ true = sym c.shape.ensures ∙ c.if-not-shape.false in
-    let s = c.args.store in blank_room 19 (case_text s) (case_length s right)
-
-pub slice_bounds-text-end : goal.slice_bounds-text-end
-slice_bounds-text-end c = front_room c.head-end.ensures
-
-pub slice_bounds-fit-end : goal.slice_bounds-fit-end
-slice_bounds-fit-end c = sym (length-take-le _ _ (front_room c.head-end.ensures))
+    whole_room c.new-writer.ensures _ c.head.ensures (case_length c.args.store right)
 
 pub returns : goal.returns
-unfolding case_text
 returns c =
     let right : right_shape c.args.store ≡ true = sym c.shape.ensures ∙ c.if-not-shape.false in
-    case_rest c.args.store _ right (front_taken c.head-end.ensures) c.fit-answer.ensures
+    case_rest c.args.store _ right (c.text.ensures ∙ whole_text c.new-writer.ensures _ c.head.ensures) c.fit-answer.ensures

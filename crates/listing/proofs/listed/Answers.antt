@@ -1,10 +1,10 @@
 -- `listed` meets its contract. Assumes nothing.
-use mathlib.Core.Path.{sym}
+use Rattle.std.proofs.Common.{◌≤◌, arith, length, sym}
 use Rattle.lines.proofs.Follows.{followable}
 use Rattle.listing.specs.Listing.{listing_text}
 use Rattle.listing.proofs.Laws.{listed_long, listed_room, listed_short}
 use Rattle.listing.proofs.Lines.{marked_long}
-use Rattle.text.specs.Writing.{Room}
+use Rattle.text.proofs.Added.{fresh_room, whole_bytes, whole_length, whole_name}
 use Rattle.listing.proofs.listed.Goals as goal
 
 pub from_all-marks-requires : goal.from_all-marks-requires
@@ -22,12 +22,14 @@ returns-then-not-enough c = listed_short c.args.store c.args.out.now _ c.enough.
 pub slice_bounds-whole-end : goal.slice_bounds-whole-end
 slice_bounds-whole-end c = sym (marked_long c.args.store _ c.from_all-marks.ensures)
 
-pub whole-length-requires : goal.whole-length-requires
-whole-length-requires c =
-    let room : Room (listing_text c.args.store) 0 c.args.out.now = listed_room c.args.store c.args.out.now _ c.enough.ensures (c.if-not-enough.false) in
-    (c.requires, c.from_all-marks.ensures, room)
+pub whole-requires : goal.whole-requires
+whole-requires c =
+    let room : length (listing_text c.args.store) ≤ length c.args.out.now = listed_room c.args.store c.args.out.now _ c.enough.ensures (c.if-not-enough.false) in
+    (c.requires, c.from_all-marks.ensures, fresh_room c.new-writer.ensures _ room)
 
 pub returns : goal.returns
 returns c =
-    let room : Room (listing_text c.args.store) 0 c.args.out.now = listed_room c.args.store c.args.out.now _ c.enough.ensures (c.if-not-enough.false) in
-    listed_long c.args.store c.args.out.now room c.whole-length.ensures
+    let room : length (listing_text c.args.store) ≤ length c.args.out.now = listed_room c.args.store c.args.out.now _ c.enough.ensures (c.if-not-enough.false) in
+    let name = whole_name c.new-writer.ensures _ c.whole.ensures in
+    let bytes = whole_bytes c.new-writer.ensures _ c.whole.ensures in
+    listed_long c.args.store c.args.out.now room (whole_length c.new-writer.ensures _ c.whole.ensures) (grind arith)

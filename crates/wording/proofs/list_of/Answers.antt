@@ -1,5 +1,5 @@
 -- The nogoods and each label lie within their arrays. Assumes nothing.
-use Rattle.std.proofs.Common.{rules, ◌≡◌, ◌*◌, ◌-◌, ◌≤◌, arith, drop, get_or, length, length-drop, sym, take}
+use Rattle.std.proofs.Common.{rules, ◌≡◌, ◌*◌, ◌-◌, ◌≤◌, arith, get_or, length, length-drop, sym}
 use Rattle.std.proofs.lemmas.List.{length-take-le}
 use Rattle.theory.specs.Limits.{limits}
 use Rattle.wording.proofs.Bounds.{bounded}
