@@ -5,6 +5,7 @@ ghost use Rattle.std.specs.Prelude.{◌≤◌, length};
 
 use replies::Reply;
 use std::io::{IsTerminal, Print, Read, Stderr, Stdin, Stdout};
+use text::Writer;
 
 // Where a program writes: its output, and what failed.
 #[derive(Clone, Copy)]
@@ -85,6 +86,7 @@ pub fn refused(console: Console, reply: Reply, record: u32) {
 // A set as the listing prints it.
 pub fn set(console: Console, e: u32) {
     let mut text = [0u8; 88];
-    let end = text::braces(e, 0, &mut text);
-    say(console, &text[..end]);
+    let mut writer = Writer::new(&mut text);
+    writer.braces(e);
+    say(console, writer.text());
 }
