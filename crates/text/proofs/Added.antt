@@ -74,33 +74,41 @@ pub record Left (t : List ℕ) (w : Writer) (T : List ℕ) (w₀ : Writer) : Typ
 
 -- ---- a text from the first of lent bytes on
 
+module _ (t : List ℕ) (lent : MutBor (List ℕ)) where
+  pub begun_name : (added t (begun lent)).bytes.ghost_name ≡ lent.ghost_name
+  unfolding added
+  begun_name = refl
+
+  pub begun_bytes : (added t (begun lent)).bytes.now ≡ t ++ drop (length t) lent.now
+  unfolding added placed
+  begun_bytes = grind (arith, common_steps)
+
+  pub begun_text : text_of (added t (begun lent)) ≡ t
+  unfolding added placed text_of
+  begun_text = grind (arith, common_steps)
+
+pub ruleset texts = (begun_name, begun_bytes, begun_text, written_added, size_added)
+
+-- .. where a writer is one that begins there
 module _ {lent : MutBor (List ℕ)} {w : Writer} (begins : w ≡ begun lent) (t : List ℕ) where
   pub fresh_room : length t ≤ length lent.now → Room t w
   fresh_room h = rw begins (omega (arith, h))
 
   module _ {w' : Writer} (e : w' ≡ added t w) where
-    first : w' ≡ added t (begun lent)
-    first = rw begins at e
+    whole : w' ≡ added t (begun lent)
+    whole = rw begins at e
 
     pub whole_name : w'.bytes.ghost_name ≡ lent.ghost_name
-    unfolding added
-    whole_name = rw first refl
+    whole_name = rw whole (begun_name t lent)
 
     pub whole_bytes : w'.bytes.now ≡ t ++ drop (length t) lent.now
-    unfolding added placed
-    whole_bytes = rw first (grind (arith, common_steps))
+    whole_bytes = rw whole (begun_bytes t lent)
 
     pub whole_length : w'.written ≡ length t
-    unfolding added
-    whole_length = rw first (omega arith)
+    whole_length = rw whole (omega (arith, written_added t (begun lent)))
 
     pub whole_text : text_of w' ≡ t
-    unfolding added placed text_of
-    whole_text = rw first (grind (arith, common_steps))
+    whole_text = rw whole (begun_text t lent)
 
     pub whole_room : length t ≤ length lent.now → Room [] w'
     whole_room h = omega (arith, whole_length, h, ap length whole_bytes, length-append t (drop (length t) lent.now), length-drop (length t) lent.now)
-
--- fresh bytes are as many as they are
-pub blank_length : (n : ℕ) → length (replicate {A = ℕ} n 0) ≡ n
-blank_length n = length-replicate {A = ℕ} n 0
