@@ -2,14 +2,13 @@
 use mathlib.Core.Path.{◌∙◌, sym}
 use Rattle.std.proofs.lemmas.Result.{err_from_is_err_and}
 use Rattle.changing.proofs.Laws.{item, more_done, more_fault, more_full, more_held}
-use Rattle.rules.proofs.Steps.{fitting_count}
 use Rattle.changing.proofs.more.Goals as goal
 
 pub returns-in_err-entry : goal.returns-in_err-entry
 returns-in_err-entry c = let p = err_from_is_err_and c.from_residual.result c.from_residual.ensures.1 in rw (p.1, p.2) (more_fault c.args.held c.args.consequent c.args.supports.now c.in_err-entry.ensures)
 
 pub holds-requires : goal.holds-requires
-holds-requires c = let i = item _ _ _ c.in_ok-entry.ensures in (c.requires.0, fitting_count _ _ i.fits)
+holds-requires c = c.requires.0
 
 pub returns-then-holds : goal.returns-then-holds
 returns-then-holds c = let a = c.args in more_held a.held a.consequent a.supports.now (item _ _ _ c.in_ok-entry.ensures) (sym c.holds.ensures ∙ c.if-holds.true)
