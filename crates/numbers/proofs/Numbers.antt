@@ -195,12 +195,31 @@ module _ (r : Reader) where
 
 -- ---- two numbers
 
+two_onward : (l : List ℕ) → Onward l (two_from l)
+two_onward l = onward_then l (number_from l) _ (onward l 0) (λ m p h. onward_then l (number_from (drop p l)) _ (onward l p) (λ n q k. onward_got l (m, n) q k))
+
+pub two_took : (r s : Reader) (m n : ℕ) → Takes two_from r s (Ok (m, n)) → Took two_from r s (m, n)
+two_took r s m n p = took two_from r (two_onward (left r)) s (m, n) p
+
 module _ (r s : Reader) (m : ℕ) (p : Took number_from r s m) where
   pub two_taken : (t : Reader) (n : ℕ) → Took number_from s t n → Took two_from r t (m, n)
   two_taken t n q = record { taken = rw (p.taken, q.taken); past = past_more r s t p.past q.past }
 
   pub two_faulted : (f : Reply) → number_from (left s) ≡ bad f → two_from (left r) ≡ bad f
   two_faulted f q = rw (p.taken, q)
+
+-- what comes after two numbers comes after one and another
+module _ {X : Type 0} (f : ℕ → ℕ → List ℕ → Taken X) where
+  second_then : (m : ℕ) (t : Taken ℕ) → and_then {X = ℕ × ℕ} (and_then t (λ n rest. got (m, n) rest)) (λ p rest. f p.0 p.1 rest) ≡ and_then t (f m)
+  second_then m (got n rest) = refl
+  second_then m (bad g) = refl
+
+  first_then : (t : Taken ℕ) → and_then {X = ℕ × ℕ} (and_then t (λ m rest. and_then (number_from rest) (λ n rest₁. got (m, n) rest₁))) (λ p rest. f p.0 p.1 rest) ≡ and_then t (λ m rest. and_then (number_from rest) (f m))
+  first_then (got m rest) = second_then m (number_from rest)
+  first_then (bad g) = refl
+
+  pub two_then : (l : List ℕ) → and_then (two_from l) (λ p l₁. f p.0 p.1 l₁) ≡ and_then (number_from l) (λ m l₁. and_then (number_from l₁) (f m))
+  two_then l = first_then (number_from l)
 
 -- ---- the number at a place
 

@@ -5,6 +5,7 @@ use Prim.Native.Nat.{ℕ}
 use Rattle.asking.specs.Asking.{Left}
 use Rattle.bare.specs.Bare.{Answered}
 use Rattle.lent.specs.Lent.{Wrote}
+use Rattle.numbers.specs.declared.Reader.{Reader}
 use Rattle.promises.specs.Once.{OnceEach}
 use Rattle.text.specs.declared.Writer.{Writer}
 
@@ -70,9 +71,10 @@ once_each = record {
   head_one = λ κs a r r' w w' p q. (p.next ∙ sym q.next, ap (λ (l : List ℕ). (tt, (tt, (tt, (tt, (l, tt)))))) (p.bytes ∙ sym q.bytes));
   refused_one = λ κs a r r' w w' p q. (p.next ∙ sym q.next, ap (λ (l : List ℕ). (tt, (tt, (l, tt)))) (p.bytes ∙ sym q.bytes));
   read_one = λ κs a r r' w w' p q. (p ∙ sym q, refl);
-  two_one = λ κs a r r' w w' p q. (p ∙ sym q, refl);
-  header_one = λ κs a r r' w w' p q. (p ∙ sym q, refl);
-  record_one = λ κs a r r' w w' p q. (p ∙ sym q, refl);
+  next_number_one = λ κs a r r' w w' p q. (p.answered ∙ sym q.answered, ap (λ (s : Reader). (s, tt)) (p.stands ∙ sym q.stands));
+  two_one = λ κs a r r' w w' p q. (p.answered ∙ sym q.answered, ap (λ (s : Reader). (s, tt)) (p.stands ∙ sym q.stands));
+  header_one = λ κs a r r' w w' p q. (p.answered ∙ sym q.answered, ap (λ (s : Reader). (s, tt)) (p.stands ∙ sym q.stands));
+  record_one = λ κs a r r' w w' p q. (p.answered ∙ sym q.answered, ap (λ (s : Reader). (s, (tt, tt))) (p.stands ∙ sym q.stands));
   line_end_one = λ κs a r r' w w' p q. (p ∙ sym q, refl);
   field_one = λ κs a r r' w w' p q. (p ∙ sym q, refl);
   numerals_one = λ κs a r r' w w' p q. ((both (p ∙ sym q)).0, ap (λ (l : List ℕ). (tt, (tt, (l, tt)))) (both (p ∙ sym q)).1);

@@ -123,7 +123,7 @@ pub record Calls : Type 0 where
   -- what the listing program prints of the bytes of a file, into lent bytes
   pub printing : List ℕ → List ℕ → Wrote
   -- the number at a place of the bytes of a file
-  pub decoding : List ℕ → ℕ → Number
+  pub decoding : List ℕ → ℕ → Result Number Reply
   -- what is asked of a bare list of justifications, with lent bytes; no store is in it
   pub bare : Query → List Handed → List ℕ → Answered
 
