@@ -16,7 +16,7 @@ use Rattle.asking.specs.declared.Answer.TheVariants.{Inconsistent, Refused, Supp
 use Rattle.promises.proofs.Form.{made_form}
 use Rattle.promises.proofs.Telling.{form_carries, form_contradicts}
 use Rattle.promises.proofs.Truth.{demand_2}
-use Rattle.promises.specs.Calls.{ours, question}
+use Rattle.promises.specs.Calls.{ours}
 use Rattle.promises.specs.Demand2.{ListsSmallest, QuestionSays}
 use Rattle.promises.specs.Made.{Made}
 use Rattle.promises.specs.Shortest.{NothingShorter, Serves, Shortest, Unrepeated, asked, consistent, more, none, supports}
