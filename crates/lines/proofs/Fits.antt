@@ -4,9 +4,8 @@ use mathlib.Core.List.{List}
 use mathlib.Core.Path.{◌∙◌, ◌≡◌, ap}
 use Prim.Native.Nat.{ℕ}
 use borrow.Author.Tests.{le-ltb}
-use Rattle.lent.proofs.Fits.{hands}
 use Rattle.lent.specs.Lent.{Leaves, fitted, kept}
-use Rattle.lines.specs.Lines.{CaseLined, Lined, RefusalLined, case_text, heading_of, line_of, line_text, refusal_text}
+use Rattle.lines.specs.Lines.{RefusalLined, case_text, heading_of, line_of, line_text, refusal_text}
 use Rattle.std.proofs.Common.{Result, Err}
 use Rattle.replies.specs.Replies.{number_of}
 use Rattle.replies.specs.declared.Reply.{Reply}
@@ -18,21 +17,21 @@ use Rattle.store.specs.declared.Store.{Store}
 
 module _ (s : Store) (out : List ℕ) where
   module _ (n : ℕ) where
-    pub line_refused : (r : Reply) → r ≡ refusal_of s n 0 → (number_of r ≡ 0 → ⊥) → Lined s n out (record { answer = Err r; store = s }) out
+    pub line_refused : (r : Reply) → r ≡ refusal_of s n 0 → (number_of r ≡ 0 → ⊥) → Leaves (line_of s n out) (Err r) out
     unfolding line_of
-    line_refused r e d = hands s (refused_number s n r e d (λ x. kept x out) (fitted (line_text s n) out))
+    line_refused r e d = refused_number s n r e d (λ x. kept x out) (fitted (line_text s n) out)
 
-    pub line_rest : Readable s n 0 → {t : List ℕ} → t ≡ line_text s n → {r : Result ℕ Reply} {after : List ℕ} → Leaves (fitted t out) r after → Lined s n out (record { answer = r; store = s }) after
+    pub line_rest : Readable s n 0 → {t : List ℕ} → t ≡ line_text s n → {r : Result ℕ Reply} {after : List ℕ} → Leaves (fitted t out) r after → Leaves (line_of s n out) r after
     unfolding line_of
-    line_rest k f l = hands s (l ∙ ap (λ (x : List ℕ). fitted x out) f ∙ rw (k.right, le-ltb (top s.held) n k.number))
+    line_rest k f l = l ∙ ap (λ (x : List ℕ). fitted x out) f ∙ rw (k.right, le-ltb (top s.held) n k.number)
 
-  pub case_shape : right_shape s ≡ false → CaseLined s out (record { answer = Err Shape; store = s }) out
+  pub case_shape : right_shape s ≡ false → Leaves (heading_of s out) (Err Shape) out
   unfolding heading_of
-  case_shape e = hands s (rw e)
+  case_shape e = rw e
 
-  pub case_rest : right_shape s ≡ true → {t : List ℕ} → t ≡ case_text s → {r : Result ℕ Reply} {after : List ℕ} → Leaves (fitted t out) r after → CaseLined s out (record { answer = r; store = s }) after
+  pub case_rest : right_shape s ≡ true → {t : List ℕ} → t ≡ case_text s → {r : Result ℕ Reply} {after : List ℕ} → Leaves (fitted t out) r after → Leaves (heading_of s out) r after
   unfolding heading_of
-  case_rest e f l = hands s (l ∙ ap (λ (x : List ℕ). fitted x out) f ∙ rw e)
+  case_rest e f l = l ∙ ap (λ (x : List ℕ). fitted x out) f ∙ rw e
 
 pub refusal_rest : (reply : Reply) (k : ℕ) (out : List ℕ) {t : List ℕ} → t ≡ refusal_text reply k → {r : Result ℕ Reply} {after : List ℕ} → Leaves (fitted t out) r after → RefusalLined reply k out r after
 refusal_rest reply k out f l = l ∙ ap (λ (x : List ℕ). fitted x out) f

@@ -5,8 +5,9 @@ ghost use Rattle.std.specs.Prelude.{true, ◌≡◌, ◌≤◌};
 ghost use Rattle.theory.specs.Limits.{limits};
 ghost use Rattle.store.specs.Reading.{contradicted_in};
 ghost use Rattle.store.specs.Shape.{right_shape};
+ghost use Rattle.lent.specs.Lent.{Leaves};
 ghost use Rattle.text.specs.Writer.{Room, added};
-ghost use Rattle.lines.specs.Lines.{CaseLined, Lined, RefusalLined, case_text};
+ghost use Rattle.lines.specs.Lines.{CaseLined, Lined, RefusalLined, case_text, heading_of, line_of};
 
 use lent::Listed;
 use replies::Reply;
@@ -18,47 +19,47 @@ use theory::{LABEL, NOGOODS};
 pub const LONGEST: usize = 8 + NOGOODS * 89 + 1;
 
 // Whether the line of n says `contradicted`; the justifications are followed only where the label is empty.
-fn contradicted(store: Store, n: u32) -> bool
-    requires { (right_shape store ≡ true) × (n ≤ limits.numbers) }
-    ensures { result ≡ contradicted_in store n }
+fn contradicted(store: &Store, n: u32) -> bool
+    requires { (right_shape store.now ≡ true) × (n ≤ limits.numbers) }
+    ensures { result ≡ contradicted_in store.now n }
 {
     if n == 0 {
         return false;
     }
-    let lists = store.lists;
-    let i = (n - 1) as usize;
-    if 0 < lists.sizes[i] {
+    if 0 < store.lists.sizes[(n - 1) as usize] {
         return false;
     }
-    let marks = following::from_all(store.held);
-    marks[n as usize] == 0
+    following::from_all(store.held)[n as usize] == 0
+}
+
+// The text line of n, or why it cannot be read.
+fn read(store: Store, n: u32, out: &mut [u8]) -> Result<usize, Reply>
+    ensures { Leaves (line_of store n out.old) result out.new }
+{
+    let reply = store.refusal(n, 0);
+    if replies::number(reply) != 0 {
+        return Err(reply);
+    }
+    let mut text = [0u8; LONGEST];
+    let mut writer = Writer::new(&mut text);
+    wording::lined(&store, n, contradicted(&store, n), &mut writer);
+    lent::fit(writer.text(), out)
 }
 
 // The line of n as the listing has it, its newline included.
 pub fn line(store: Store, n: u32, out: &mut [u8]) -> Listed
     ensures { Lined store n out.old result out.new }
 {
-    let reply = store.refusal(n, 0);
-    if replies::number(reply) != 0 {
-        return Listed {
-            answer: Err(reply),
-            store,
-        };
-    }
-    let mut text = [0u8; LONGEST];
-    let mut writer = Writer::new(&mut text);
-    let follows = contradicted(store, n);
-    wording::lined(store, n, follows, &mut writer);
-    let answer = lent::fit(writer.text(), out);
+    let answer = read(store, n, out);
     Listed { answer, store }
 }
 
 // The first line of the listing to a writer; the shape was looked at.
-pub fn head(store: Store, writer: &mut Writer)
-    requires { (right_shape store ≡ true) × Room (case_text store) writer.old }
-    ensures { writer.new ≡ added (case_text store) writer.old }
+pub fn head(store: &Store, writer: &mut Writer)
+    requires { (right_shape store.now ≡ true) × Room (case_text store.now) writer.old }
+    ensures { writer.new ≡ added (case_text store.now) writer.old }
 {
-    let held = store.held;
+    let held = &store.held;
     writer.head(
         held.assumptions.into(),
         held.claims.into(),
@@ -67,20 +68,24 @@ pub fn head(store: Store, writer: &mut Writer)
     );
 }
 
-// The first line of the listing.
-pub fn case_line(store: Store, out: &mut [u8]) -> Listed
-    ensures { CaseLined store out.old result out.new }
+// The first line, where the shape is right.
+fn first(store: &Store, out: &mut [u8]) -> Result<usize, Reply>
+    ensures { Leaves (heading_of store.now out.old) result out.new }
 {
     if !store.shape() {
-        return Listed {
-            answer: Err(Reply::Shape),
-            store,
-        };
+        return Err(Reply::Shape);
     }
     let mut text = [0u8; 19];
     let mut writer = Writer::new(&mut text);
     head(store, &mut writer);
-    let answer = lent::fit(writer.text(), out);
+    lent::fit(writer.text(), out)
+}
+
+// The first line of the listing.
+pub fn case_line(store: Store, out: &mut [u8]) -> Listed
+    ensures { CaseLined store out.old result out.new }
+{
+    let answer = first(&store, out);
     Listed { answer, store }
 }
 

@@ -1,21 +1,19 @@
 -- What the calls of the listing leave, test by test. Assumes nothing.
-use mathlib.Core.Bool.{Bool, false, true}
-use mathlib.Core.List.{List, ◌++◌}
+use mathlib.Core.Bool.{false, true}
+use mathlib.Core.List.{List}
 use mathlib.Core.Path.{◌∙◌, ◌≡◌, ap, sym}
 use Prim.Native.Nat.{◌<◌, ◌≤◌, ℕ}
-use lib.Dec.{leb}
-use lib.ListN.{drop, length}
-use borrow.Author.Tests.{eq-eqb, le-ltb, leb-false, leb-true, lt-ltb, ne_eqb}
+use lib.ListN.{length}
+use borrow.Author.Tests.{eq-eqb, le-ltb, lt-ltb, ne_eqb}
 use Rattle.casefile.specs.Load.{load_of}
 use Rattle.casefile.specs.declared.Loaded.{Loaded}
-use Rattle.lent.proofs.Fits.{fitted_long, fitted_short}
-use Rattle.lent.specs.Lent.{Hands, Leaves, Wrote, fitted}
+use Rattle.lent.specs.Lent.{Leaves, fitted}
 use Rattle.lines.specs.Lines.{refusal_text}
-use Rattle.std.proofs.Common.{Result, Ok, Err}
+use Rattle.std.proofs.Common.{Result, Err}
 use Rattle.listing.proofs.Loaded.{loaded_right}
-use Rattle.listing.specs.Listing.{ListsAll, Prints, listed_of, listing_of, listing_text, loaded_text}
+use Rattle.listing.specs.Listing.{Prints, listed_of, listing_of, listing_text, loaded_text}
 use Rattle.replies.specs.Replies.{number_of}
-use Rattle.replies.specs.declared.Reply.TheVariants.{Long, Shape, Short}
+use Rattle.replies.specs.declared.Reply.TheVariants.{Long, Shape}
 use Rattle.store.specs.Shape.{right_shape}
 use Rattle.store.specs.declared.Store.{Store}
 use Rattle.theory.specs.Limits.{file_bytes}
@@ -24,25 +22,13 @@ use Rattle.replies.specs.declared.Reply.{Reply}
 -- ---- the listing of a store
 
 module _ (s : Store) (out : List ℕ) where
-  pub listed_short : (r : Bool) → r ≡ leb (length (listing_text s)) (length out) → r ≡ false → Leaves (fitted (listing_text s) out) (Err Short) out
-  listed_short r e f = fitted_short (listing_text s) out (leb-false (length (listing_text s)) (length out) (sym e ∙ f))
-
-  pub listed_room : (r : Bool) → r ≡ leb (length (listing_text s)) (length out) → r ≡ true → length (listing_text s) ≤ length out
-  listed_room r e f = leb-true (length (listing_text s)) (length out) (sym e ∙ f)
-
-  pub listed_long : length (listing_text s) ≤ length out → {after : List ℕ} {n : ℕ} → n ≡ length (listing_text s) → after ≡ listing_text s ++ drop (length (listing_text s)) out → Leaves (fitted (listing_text s) out) (Ok n) after
-  listed_long h {after} {n} k e = ap (λ (i : ℕ). record { answer = Ok i; bytes = after }) k ∙ fitted_long (listing_text s) out h e
-
-  hands : {w : Wrote} {r : Result ℕ Reply} {after : List ℕ} → Leaves w r after → Hands s w (record { answer = r; store = s }) after
-  hands e = (ap (λ (v : Wrote). record { answer = v.answer; store = s }) e, ap (λ (v : Wrote). v.bytes) e)
-
-  pub listing_shape : right_shape s ≡ false → ListsAll s out (record { answer = Err Shape; store = s }) out
+  pub listing_shape : right_shape s ≡ false → Leaves (listed_of s out) (Err Shape) out
   unfolding listed_of
-  listing_shape e = hands (rw e)
+  listing_shape e = rw e
 
-  pub listing_rest : right_shape s ≡ true → {r : Result ℕ Reply} {after : List ℕ} → Leaves (fitted (listing_text s) out) r after → ListsAll s out (record { answer = r; store = s }) after
+  pub listing_rest : right_shape s ≡ true → {r : Result ℕ Reply} {after : List ℕ} → Leaves (fitted (listing_text s) out) r after → Leaves (listed_of s out) r after
   unfolding listed_of
-  listing_rest e l = hands (l ∙ rw e)
+  listing_rest e l = l ∙ rw e
 
 -- ---- the listing of a file
 

@@ -46,10 +46,10 @@ fn word(n: u32, list: &[Set], follows: bool) -> &'static [u8]
 
 // The text of the line of n; the shape was looked at. Where the label is empty, follows tells whether n follows from all assumptions together.
 #[tactic(auto, unfolding(crate::specs::Wording::line_with))]
-pub fn lined(store: Store, n: u32, follows: bool, writer: &mut Writer)
-    requires { (right_shape store ≡ true) × (n ≤ limits.numbers) × Room (line_with store.lists n follows) writer.old }
-    ensures { writer.new ≡ added (line_with store.lists n follows) writer.old }
+pub fn lined(store: &Store, n: u32, follows: bool, writer: &mut Writer)
+    requires { (right_shape store.now ≡ true) × (n ≤ limits.numbers) × Room (line_with store.now.lists n follows) writer.old }
+    ensures { writer.new ≡ added (line_with store.now.lists n follows) writer.old }
 {
-    let list = list_of(&store, n);
+    let list = list_of(store, n);
     writer.line(n, word(n, list, follows), list);
 }

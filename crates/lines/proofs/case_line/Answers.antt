@@ -1,25 +1,6 @@
 -- `lines::case_line` meets its contract. Assumes nothing.
-use Rattle.std.proofs.Common.{◌≡◌, ◌∙◌, sym, true}
-use Rattle.lines.proofs.Fits.{case_rest, case_shape}
-use Rattle.lines.proofs.Longest.{case_length}
-use Rattle.store.specs.Shape.{right_shape}
-use Rattle.text.proofs.Added.{fresh_room, whole_room, whole_text}
+use Rattle.lent.proofs.Fits.{hands}
 use Rattle.lines.proofs.case_line.Goals as goal
 
-pub returns-then-not-shape : goal.returns-then-not-shape
-returns-then-not-shape c = case_shape c.args.store _ (sym c.shape.ensures ∙ c.if-not-shape.true)
-
-pub head-requires : goal.head-requires
-head-requires c =
-    let right : right_shape c.args.store ≡ true = sym c.shape.ensures ∙ c.if-not-shape.false in
-    (right, fresh_room c.new-writer.ensures _ (case_length c.args.store right))
-
-pub text-requires : goal.text-requires
-text-requires c =
-    let right : right_shape c.args.store ≡ true = sym c.shape.ensures ∙ c.if-not-shape.false in
-    whole_room c.new-writer.ensures _ c.head.ensures (case_length c.args.store right)
-
 pub returns : goal.returns
-returns c =
-    let right : right_shape c.args.store ≡ true = sym c.shape.ensures ∙ c.if-not-shape.false in
-    case_rest c.args.store _ right (c.text.ensures ∙ whole_text c.new-writer.ensures _ c.head.ensures) c.fit-answer.ensures
+returns c = hands c.args.store c.first-answer.ensures

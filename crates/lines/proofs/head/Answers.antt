@@ -5,7 +5,7 @@ use Rattle.wording.proofs.Bounds.{bounded}
 use Rattle.lines.proofs.head.Goals as goal
 
 pub overflow_cast-held : goal.overflow_cast-held
-overflow_cast-held c = let k = bounded c.args.store c.requires.0 in omega (arith, k.held)
+overflow_cast-held c = let k = bounded c.args.store.now c.requires.0 in omega (arith, k.held)
 
 pub head-requires : goal.head-requires
 unfolding case_text
