@@ -2,6 +2,7 @@
 use mathlib.Core.Bool.{Bool, ◌&&◌, false, true}
 use mathlib.Core.List.{List, [], ◌++◌, ◌∷◌, append_assoc}
 use mathlib.Core.Option.{Option, none, some}
+use Rattle.std.specs.Prelude.{Option as Perhaps, Some, None, cond}
 use mathlib.Core.Path.{◌∙◌, ◌≡◌, ap, ap₂, refl, sym}
 use Prim.Native.Nat.{◌*◌, ◌+◌, ◌-◌, ◌<◌, ◌≤◌, suc, zero, ℕ}
 use native.Mathlib.Numerals.{add-one}
@@ -42,70 +43,49 @@ use Rattle.theory.specs.Sets.{within}
 part_length : (l : List ℕ) (from count : ℕ) → from + count ≤ length l → length (take count (drop from l)) ≡ count
 part_length l from count h = simp (length-take, length-drop) (omega arith)
 
-pub reach_law : (l : List ℕ) (from count E r : ℕ) → r ≡ first_within (take (from + count - from) (drop from l)) E → r ≡ first_within (take count (drop from l)) E
+pub reach_law : (l : List ℕ) (from count E : ℕ) (r : Perhaps ℕ) → r ≡ first_within (take (from + count - from) (drop from l)) E → r ≡ first_within (take count (drop from l)) E
 reach_law l from count E r e = let n : from + count - from ≡ count = omega arith in e ∙ ap (λ (k : ℕ). first_within (take k (drop from l)) E) n
 
--- ---- the first member within a set, by its place
-pub first_named : (l : List ℕ) (E : ℕ) → first_within l E < length l → first_in l E ≡ some (get_or l (first_within l E) 0)
-unfolding first_in first_within
-first_named [] E h = absurd (omega arith)
-first_named (F ∷ l) E h = go (within F E) h (first_named l E)
+-- ---- the first member within a set
+pub first_named : (l : List ℕ) (E F : ℕ) → first_within l E ≡ Some F → first_in l E ≡ some F
+unfolding first_in
+first_named [] E F e = cc
+first_named (G ∷ l) E F e = go (within G E) e (first_named l E F)
   where
-    go : (b : Bool) → choose b 0 (suc (first_within l E)) < suc (length l) → (first_within l E < length l → first_in l E ≡ some (get_or l (first_within l E) 0))
-        → choose b (some F) (first_in l E) ≡ some (get_or (F ∷ l) (choose b 0 (suc (first_within l E))) 0)
-    go true h e = refl
-    go false h e = e (omega arith)
+    go : (b : Bool) → cond b (Some G) (first_within l E) ≡ Some F → (first_within l E ≡ Some F → first_in l E ≡ some F) → choose b (some G) (first_in l E) ≡ some F
+    go true e h = let q : G ≡ F = cc in ap some q
+    go false e h = h e
 
-pub first_none : (l : List ℕ) (E : ℕ) → length l ≤ first_within l E → first_in l E ≡ none
-unfolding first_in first_within
-first_none [] E h = refl
-first_none (F ∷ l) E h = go (within F E) h (first_none l E)
+pub first_none : (l : List ℕ) (E : ℕ) → first_within l E ≡ None → first_in l E ≡ none
+unfolding first_in
+first_none [] E e = refl
+first_none (G ∷ l) E e = go (within G E) e (first_none l E)
   where
-    go : (b : Bool) → suc (length l) ≤ choose b 0 (suc (first_within l E)) → (length l ≤ first_within l E → first_in l E ≡ none) → choose b (some F) (first_in l E) ≡ none
-    go true h e = absurd (omega arith)
-    go false h e = e (omega arith)
-
-named_at : (l : List ℕ) (E p : ℕ) → p ≡ first_within l E → p < length l → first_in l E ≡ some (get_or l p 0)
-named_at l E p e h = first_named l E (omega arith) ∙ ap (λ (k : ℕ). some (get_or l k 0)) (sym e)
-
-named_none : (l : List ℕ) (E p : ℕ) → p ≡ first_within l E → length l ≤ p → first_in l E ≡ none
-named_none l E p e h = first_none l E (omega arith)
+    go : (b : Bool) → cond b (Some G) (first_within l E) ≡ None → (first_within l E ≡ None → first_in l E ≡ none) → choose b (some G) (first_in l E) ≡ none
+    go true e h = cc
+    go false e h = h e
 
 -- ---- what the lists say
-module _ (l : Lists) (E : ℕ) (struck : ℕ) (found : struck ≡ first_within (nogoods_held l) E) (room : l.count ≤ length l.nogoods) where
-  nogoods_many : length (nogoods_held l) ≡ l.count
-  nogoods_many = length-take-le l.count l.nogoods room
-
-  pub stands_struck : (n : ℕ) → struck < l.count → Inconsistent (get_or l.nogoods struck 0) ≡ standing l n E
+module _ (l : Lists) (E : ℕ) where
+  pub stands_struck : (n F : ℕ) → first_within (nogoods_held l) E ≡ Some F → Inconsistent F ≡ standing l n E
   unfolding standing
-  stands_struck n h =
-      sym
-      (ap (λ (x : Option ℕ). reasoned x (first_in (label_held l n) E))
-      (named_at (nogoods_held l) E struck found (omega (arith, nogoods_many)) ∙ ap some (get_or-take l.count l.nogoods struck 0 h)))
+  stands_struck n F e = sym (ap (λ (x : Option ℕ). reasoned x (first_in (label_held l n) E)) (first_named (nogoods_held l) E F e))
 
-  module _ (free : l.count ≤ struck) where
+  module _ (free : first_within (nogoods_held l) E ≡ None) where
     no_nogood : first_in (nogoods_held l) E ≡ none
-    no_nogood = named_none (nogoods_held l) E struck found (omega (arith, nogoods_many))
+    no_nogood = first_none (nogoods_held l) E free
 
     pub stands_falsity : Unsupported ≡ standing l 0 E
     unfolding standing first_in
     stands_falsity = sym (ap (λ (x : Option ℕ). reasoned x none) no_nogood)
 
-    module _ (i : ℕ) (fits : limits.label * i + get_or l.sizes i 0 ≤ length l.members) (place : ℕ) (at : place ≡ first_within (label_held l (suc i)) E) where
-      label_many : length (label_held l (suc i)) ≡ get_or l.sizes i 0
-      label_many = part_length l.members (limits.label * i) (get_or l.sizes i 0) fits
+    pub stands_yes : (i F : ℕ) → first_within (label_held l (suc i)) E ≡ Some F → Supported F ≡ standing l (suc i) E
+    unfolding standing
+    stands_yes i F e = sym (ap₂ reasoned no_nogood (first_named (label_held l (suc i)) E F e))
 
-      pub stands_yes : place < get_or l.sizes i 0 → Supported (get_or l.members (limits.label * i + place) 0) ≡ standing l (suc i) E
-      unfolding standing
-      stands_yes h =
-          sym
-          (ap₂ reasoned no_nogood
-          (named_at (label_held l (suc i)) E place at (omega (arith, label_many))
-          ∙ ap some (get_or-take (get_or l.sizes i 0) (drop (limits.label * i) l.members) place 0 h ∙ get_or-drop (limits.label * i) l.members place 0)))
-
-      pub stands_no : get_or l.sizes i 0 ≤ place → Unsupported ≡ standing l (suc i) E
-      unfolding standing
-      stands_no h = sym (ap₂ reasoned no_nogood (named_none (label_held l (suc i)) E place at (omega (arith, label_many))))
+    pub stands_no : (i : ℕ) → first_within (label_held l (suc i)) E ≡ None → Unsupported ≡ standing l (suc i) E
+    unfolding standing
+    stands_no i e = sym (ap₂ reasoned no_nogood (first_none (label_held l (suc i)) E e))
 
 -- the code's n - 1
 pub number_of_lem : (n : ℕ) → (n ≡ 0 → ⊥) → suc (n - 1) ≡ n

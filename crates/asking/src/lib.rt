@@ -44,8 +44,8 @@ pub struct Shown {
     pub store: Store,
 }
 
-// The place of the first of count sets from a place on that lies within e, or the count.
-fn reach(l: &[Set], from: usize, count: usize, e: Set) -> usize
+// The first of count sets from a place on that lies within e, if there is one.
+fn reach(l: &[Set], from: usize, count: usize, e: Set) -> Option<Set>
     requires { from + count ≤ length l.now }
     ensures { result ≡ first_within (take count (drop from l.now)) e }
 {
@@ -59,20 +59,18 @@ fn stands(lists: Lists, n: usize, e: Set) -> Answer
     ensures { result ≡ standing lists n e }
 {
     let count = lists.count;
-    let nogood = reach(&lists.nogoods, 0, count, e);
-    if nogood < count {
-        return Answer::Inconsistent(lists.nogoods[nogood]);
+    if let Some(nogood) = reach(&lists.nogoods, 0, count, e) {
+        return Answer::Inconsistent(nogood);
     }
     if n == 0 {
         return Answer::Unsupported;
     }
     let i = n - 1;
     let size = lists.sizes[i] as usize;
-    let member = reach(&lists.members, LABEL * i, size, e);
-    if member < size {
-        return Answer::Supported(lists.members[LABEL * i + member]);
+    match reach(&lists.members, LABEL * i, size, e) {
+        Some(member) => Answer::Supported(member),
+        None => Answer::Unsupported,
     }
-    Answer::Unsupported
 }
 
 // Whether e is inconsistent, supports n, or neither, and the first set within e that makes it so.

@@ -5,24 +5,9 @@ ghost use Rattle.members.specs.Promised.{FirstWithin};
 
 use sets::Set;
 
-// The set of all assumptions that a set can have.
-const ALL: Set = !0;
-
-// The place of the first member that lies within e, or the count of members.
-pub fn first_within(list: &[Set], e: Set) -> usize
+// The first member that lies within e, if there is one.
+pub fn first_within(list: &[Set], e: Set) -> Option<Set>
     ensures { FirstWithin list.now e result }
 {
-    let count = list.len();
-    let others = sets::without(ALL, e);
-    let mut i = 0;
-    let place = loop {
-        if count <= i {
-            break count;
-        }
-        if sets::meet(list[i], others) == 0 {
-            break i;
-        }
-        i += 1;
-    };
-    place
+    list.iter().copied().find(|f| sets::within(*f, e))
 }

@@ -17,8 +17,8 @@ use Rattle.items.specs.contracts.header as header_at
 use Rattle.items.proofs.header.Reads as header-reads
 use Rattle.items.specs.contracts.record as record-at
 use Rattle.items.proofs.record.Reads as record-reads
-use Rattle.joining.specs.contracts.pool.late as late-at
-use Rattle.joining.proofs.pool.late.Reads as late-reads
+use Rattle.joining.specs.contracts.pool.Pool.late as late-at
+use Rattle.joining.proofs.pool.Pool.late.Reads as late-reads
 use Rattle.labels.specs.contracts.build as build-at
 use Rattle.labels.proofs.build.Reads as build-reads
 use Rattle.members.specs.contracts.first_within as first-within-at

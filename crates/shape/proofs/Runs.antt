@@ -1,4 +1,5 @@
 -- A list looked at from its beginning, each set against the one before it and against those of fewer assumptions. Assumes nothing.
+use Rattle.std.specs.Prelude.{Option, is_some}
 use mathlib.Core.Bool.{Bool, ◌&&◌, false, not, true}
 use mathlib.Core.List.Memᴰ
 use mathlib.Core.List.{List, Memᴰ as Mem, [], ◌∷◌}
@@ -103,29 +104,29 @@ module _ (l : List ℕ) where
         | no q ↦ subst (λ (v : ℕ). before v (get_or l i 0) ≡ true) (sym (run.top k (omega arith))) b
       ]
 
-      module _ (to r : ℕ) (low : to ≤ i) (found : r ≡ first_within (take to l) (get_or l i 0)) where
+      module _ (to : ℕ) (r : Option ℕ) (low : to ≤ i) (found : r ≡ first_within (take to l) (get_or l i 0)) where
         size : length (take to l) ≡ to
         size = length-take-le to l (omega arith)
 
         -- an earlier one lies within the next
-        pub run_in : r < to → false ≡ sorted_by apart l
+        pub run_in : is_some r ≡ true → false ≡ sorted_by apart l
         unfolding contains
         run_in q =
             sym (not_so (sorted_by apart l)
             (λ s.
-            let c : contains (take to l) (get_or l i 0) ≡ true = contains_first (take to l) (get_or l i 0) ∙ lt-ltb (first_within (take to l) (get_or l i 0)) (length (take to l)) (omega (arith, size)) in
+            let c : contains (take to l) (get_or l i 0) ≡ true = contains_first (take to l) (get_or l i 0) ∙ ap is_some (sym found) ∙ q in
             let m = some_elim (λ F. within F (get_or l i 0)) (take to l) c in
             let p = mem_place (take to l) m.1 in
             let w : within (get_or l p.0 0) (get_or l i 0) ≡ true = subst (λ (v : ℕ). within v (get_or l i 0) ≡ true) (sym p.2 ∙ get_or-take to l p.0 0 (omega (arith, p.1, size))) m.2 in
             clash (apart_out (get_or l p.0 0) (get_or l i 0) (sorted_places apart l s p.0 i (omega (arith, p.1, size)) h) w) refl))
 
-        none : to ≤ r → (k : ℕ) → k < to → within (get_or l k 0) (get_or l i 0) ≡ false
+        none : is_some r ≡ false → (k : ℕ) → k < to → within (get_or l k 0) (get_or l i 0) ≡ false
         none q k p =
-            let c : contains (take to l) (get_or l i 0) ≡ false = contains_first (take to l) (get_or l i 0) ∙ le-ltb (first_within (take to l) (get_or l i 0)) (length (take to l)) (omega (arith, size)) in
+            let c : contains (take to l) (get_or l i 0) ≡ false = contains_first (take to l) (get_or l i 0) ∙ ap is_some (sym found) ∙ q in
             not_so (within (get_or l k 0) (get_or l i 0))
             (λ w. clash (contains_intro (get_or l i 0) (at_mem (take to l) k (omega (arith, size))) (subst (λ (v : ℕ). within v (get_or l i 0) ≡ true) (sym (get_or-take to l k 0 p)) w)) c)
 
-        run_next : before last (get_or l i 0) ≡ true → to ≤ r → ((k : ℕ) → k < to → ones (get_or l k 0) < ones (get_or l i 0))
+        run_next : before last (get_or l i 0) ≡ true → is_some r ≡ false → ((k : ℕ) → k < to → ones (get_or l k 0) < ones (get_or l i 0))
             → ((k : ℕ) → to ≤ k → k < i + 1 → ones (get_or l k 0) ≡ ones (get_or l i 0)) → Run l (i + 1) to (get_or l i 0)
         run_next b q less equal = record {
           clear = λ j k p o. elim (dec_lt k i) [
@@ -145,13 +146,13 @@ module _ (l : List ℕ) where
         }
 
       -- the next has as many assumptions as the last, and is a greater number
-      pub run_same : from ≤ i → ones (get_or l i 0) ≡ ones last → last < get_or l i 0 → (r : ℕ) → r ≡ first_within (take from l) (get_or l i 0) → from ≤ r → Run l (i + 1) from (get_or l i 0)
+      pub run_same : from ≤ i → ones (get_or l i 0) ≡ ones last → last < get_or l i 0 → (r : Option ℕ) → r ≡ first_within (take from l) (get_or l i 0) → is_some r ≡ false → Run l (i + 1) from (get_or l i 0)
       run_same low e g r found q =
           run_next from r low found (before_less last (get_or l i 0) (sym e) g) q (λ k p. omega (arith, run.fewer k p, e))
           (λ k p o. elim (dec_lt k i) [ yes y ↦ run.same k p y ∙ sym e | no y ↦ (let z : k ≡ i = omega arith in ap (λ (v : ℕ). ones (get_or l v 0)) z) ])
 
       -- the next has more
-      pub run_more : ones last < ones (get_or l i 0) → (r : ℕ) → r ≡ first_within (take i l) (get_or l i 0) → i ≤ r → Run l (i + 1) i (get_or l i 0)
+      pub run_more : ones last < ones (get_or l i 0) → (r : Option ℕ) → r ≡ first_within (take i l) (get_or l i 0) → is_some r ≡ false → Run l (i + 1) i (get_or l i 0)
       run_more g r found q =
           run_next i r (omega arith) found (before_fewer last (get_or l i 0) g) q
           (λ k p. elim (dec_lt k from) [ yes y ↦ omega (arith, run.fewer k y) | no y ↦ omega (arith, run.same k (omega arith) p) ])

@@ -31,7 +31,7 @@ fn sorted(l: &[Set]) -> bool
             if e <= last {
                 return false;
             }
-            if members::first_within(&l[..from], e) < from {
+            if members::first_within(&l[..from], e).is_some() {
                 return false;
             }
             last = e;
@@ -41,7 +41,7 @@ fn sorted(l: &[Set]) -> bool
         if n < ones {
             return false;
         }
-        if members::first_within(&l[..i], e) < i {
+        if members::first_within(&l[..i], e).is_some() {
             return false;
         }
         from = i;

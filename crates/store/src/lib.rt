@@ -67,17 +67,16 @@ pub fn judged(held: Held) -> Outcome
             store: start(0, 0),
         };
     }
-    let told = stages::judge(held);
-    let reply = told.reply;
-    if replies::number(reply) != 0 {
-        return Outcome {
+    match stages::judge(held) {
+        Ok(lists) => Outcome {
+            reply: Reply::Done,
+            store: Store { held, lists },
+        },
+        Err(reply) => Outcome {
             reply,
             store: start(0, 0),
-        };
+        },
     }
-    let lists = told.lists;
-    let store = Store { held, lists };
-    Outcome { reply, store }
 }
 
 impl Store {

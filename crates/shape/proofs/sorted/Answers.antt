@@ -16,10 +16,10 @@ returns-then-e-last c = let l = c.loop-i in
     let m = c.args.l.now in
     run_low m l.i l.from l.last l.invariant.4 l.invariant.0 c.loop-i-test.true (c.if-n-ones.true ∙ l.invariant.3) c.if-e-last.true
 
-pub returns-then-first_within-from : goal.returns-then-first_within-from
-returns-then-first_within-from c = let l = c.loop-i in
+pub returns-then-is_some : goal.returns-then-is_some
+returns-then-is_some c = let l = c.loop-i in
     let m = c.args.l.now in
-    run_in m l.i l.from l.last l.invariant.4 l.invariant.0 c.loop-i-test.true l.from _ (omega arith) c.first_within.ensures c.if-first_within-from.true
+    run_in m l.i l.from l.last l.invariant.4 l.invariant.0 c.loop-i-test.true l.from _ (omega arith) c.first_within.ensures (sym c.is_some.ensures ∙ c.if-is_some.true)
 
 pub loop-i-preserved-then-n-ones : goal.loop-i-preserved-then-n-ones
 loop-i-preserved-then-n-ones c = let l = c.loop-i in
@@ -28,7 +28,7 @@ loop-i-preserved-then-n-ones c = let l = c.loop-i in
       omega arith,
       omega arith,
       sym c.if-n-ones.true,
-      run_same m l.i l.from l.last l.invariant.4 l.invariant.0 c.loop-i-test.true (omega arith) (c.if-n-ones.true ∙ l.invariant.3) c.if-e-last.false _ c.first_within.ensures c.if-first_within-from.false,
+      run_same m l.i l.from l.last l.invariant.4 l.invariant.0 c.loop-i-test.true (omega arith) (c.if-n-ones.true ∙ l.invariant.3) c.if-e-last.false _ c.first_within.ensures (sym c.is_some.ensures ∙ c.if-is_some.false),
     )
 
 pub returns-then-n-ones-2 : goal.returns-then-n-ones-2
@@ -36,10 +36,10 @@ returns-then-n-ones-2 c = let l = c.loop-i in
     let m = c.args.l.now in
     run_fewer m l.i l.from l.last l.invariant.4 l.invariant.0 c.loop-i-test.true (omega (arith, c.if-n-ones-2.true, l.invariant.3))
 
-pub returns-then-first_within-i : goal.returns-then-first_within-i
-returns-then-first_within-i c = let l = c.loop-i in
+pub returns-then-is_some-2 : goal.returns-then-is_some-2
+returns-then-is_some-2 c = let l = c.loop-i in
     let m = c.args.l.now in
-    run_in m l.i l.from l.last l.invariant.4 l.invariant.0 c.loop-i-test.true l.i _ (omega arith) c.first_within-in-loop-i.ensures c.if-first_within-i.true
+    run_in m l.i l.from l.last l.invariant.4 l.invariant.0 c.loop-i-test.true l.i _ (omega arith) c.first_within-in-loop-i.ensures (sym c.is_some-in-loop-i.ensures ∙ c.if-is_some-2.true)
 
 pub loop-i-preserved : goal.loop-i-preserved
 loop-i-preserved c = let l = c.loop-i in
@@ -48,7 +48,7 @@ loop-i-preserved c = let l = c.loop-i in
       omega arith,
       omega arith,
       refl,
-      run_more m l.i l.from l.last l.invariant.4 l.invariant.0 c.loop-i-test.true (more _ _ _ l.invariant.3 c.if-n-ones-2.false c.if-n-ones.false) _ c.first_within-in-loop-i.ensures c.if-first_within-i.false,
+      run_more m l.i l.from l.last l.invariant.4 l.invariant.0 c.loop-i-test.true (more _ _ _ l.invariant.3 c.if-n-ones-2.false c.if-n-ones.false) _ c.first_within-in-loop-i.ensures (sym c.is_some-in-loop-i.ensures ∙ c.if-is_some-2.false),
     )
 
 pub returns : goal.returns

@@ -1,90 +1,86 @@
 -- `stages::next` meets its contract. Assumes nothing.
-use mathlib.Core.Path.{◌∙◌, ap, refl, sym}
-use Prim.Native.Nat.{◌+◌}
-use native.Mathlib.Omega.{arith}
-use lib.ListN.{get_or}
-use lib.Seq.{length-take-le}
+use Rattle.std.proofs.Common.{◌+◌, get_or, ap, sym, ◌∙◌, arith}
 use Rattle.rules.proofs.Laws.{right_range}
+use Rattle.stages.proofs.Compares.{still_news, still_quiet}
 use Rattle.stages.proofs.Keeps.{news_told, told_news}
 use Rattle.stages.proofs.Marks.{fresh_on, stale_from, step_agrees}
-use Rattle.stages.proofs.Nexts.{built_listed, built_over, next_beyond, next_fits, next_over}
+use Rattle.stages.proofs.Nexts.{built_is, built_over, next_beyond, next_fits, next_over, placed_listed}
 use Rattle.stages.proofs.Parts.{wide}
-use Rattle.stages.proofs.Relabels.{label_not_done, over_not_done, turn_stopped}
-use Rattle.stages.proofs.Stages.{listed_few, listed_long, listed_taken, nogoods_few, nogoods_long_lem}
+use Rattle.stages.proofs.Stages.{listed_taken, nogoods_few}
 use Rattle.stages.proofs.Writing.{lists_made, members_placed, sizes_placed}
-use Rattle.replies.specs.declared.Reply.TheVariants.{Label, Nogoods}
-use Rattle.stages.specs.Steps.{lists, stage_by}
-use Rattle.stages.specs.declared.Lists.{Lists}
+use Rattle.stages.specs.Steps.{stage_by}
 use Rattle.theory.specs.Limits.{limits}
 use Rattle.stages.proofs.next.Goals as goal
 
-pub touched-stale-requires : goal.touched-stale-requires
-touched-stale-requires c = (c.requires.0.judgeable, c.requires.2.long)
-
-pub refuted-built-requires : goal.refuted-built-requires
-refuted-built-requires c =
+pub refuted-requires : goal.refuted-requires
+refuted-requires c =
     let p = c.requires in
-    let a = c.args in
-    (p.0, ap (λ t. get_or t 0 0) p.1, λ z. (stale_from a.held a.depth _ p.2 (wide a.held p.0.judgeable) (λ r m s o. ((right_range a.held p.0.judgeable.right r m).between s o).1) c.touched-stale.result c.touched-stale.ensures) 0 (omega arith) z, p.2, p.3)
+    let h = c.args.held.now in
+    (p.0, ap (λ t. get_or t 0 0) p.1, stale_from h c.args.lists.now.depth _ p.2 (wide h p.0.judgeable) (λ r m s o. ((right_range h p.0.judgeable.right r m).between s o).1) c.touched-stale.result c.touched-stale.ensures 0 (omega arith), p.2)
 
-pub returns-then-count-gt-NOGOODS : goal.returns-then-count-gt-NOGOODS
-returns-then-count-gt-NOGOODS c =
-    let p = c.requires in
-    let a = c.args in
-    turn_stopped a.held a.depth _ _ _ _ Nogoods over_not_done refl (next_over (a.depth + 1) _ (built_over limits.nogoods (stage_by a.held (a.depth + 1)).nogoods _ c.refuted-built.ensures c.if-count-gt-NOGOODS.true) _ refl) c.stopped.ensures
+pub returns-in_default : goal.returns-in_default
+returns-in_default c =
+    let h = c.args.held.now in
+    next_over (c.args.lists.now.depth + 1) _ (built_over limits.nogoods (stage_by h (c.args.lists.now.depth + 1)).nogoods (sym c.in_default.is ∙ c.refuted.ensures))
 
-pub slice_bounds-nogoods-end : goal.slice_bounds-nogoods-end
-slice_bounds-nogoods-end c =
-    let p = c.requires.0 in
-    omega (arith, nogoods_few _ _ p.room _ p.is, nogoods_long_lem _ _ p.room _ p.is)
+pub shared_ref_as_front-struck : goal.shared_ref_as_front-struck
+shared_ref_as_front-struck c =
+    let b = built_is limits.nogoods (stage_by c.args.held.now (c.args.lists.now.depth + 1)).nogoods c.in-Some.built (sym c.in-Some.is ∙ c.refuted.ensures) in
+    (placed_listed _ _ b.1 b.0).few
 
-pub slice_bounds-differs-end : goal.slice_bounds-differs-end
-slice_bounds-differs-end c =
-    let p = c.requires.0 in
-    let a = c.args in
-    sym (length-take-le a.many a.nogoods (omega (arith, nogoods_few _ _ p.room _ p.is, nogoods_long_lem _ _ p.room _ p.is)))
-
-pub differs-news-requires : goal.differs-news-requires
-differs-news-requires c = c.if-count-gt-NOGOODS.false
-
-pub slice_bounds-relabel-end-2 : goal.slice_bounds-relabel-end-2
-slice_bounds-relabel-end-2 c =
-    let a = c.args in
-    let n = built_listed (stage_by a.held (a.depth + 1)).nogoods _ c.refuted-built.ensures c.if-count-gt-NOGOODS.false in
-    sym (length-take-le c.refuted-built.result.count c.refuted-built.result.sets (omega (arith, listed_long _ _ _ n, n.few)))
-
-pub slice_bounds-struck-end : goal.slice_bounds-struck-end
-slice_bounds-struck-end c =
-    let a = c.args in
-    let n = built_listed (stage_by a.held (a.depth + 1)).nogoods _ c.refuted-built.ensures c.if-count-gt-NOGOODS.false in
-    omega (arith, listed_long _ _ _ n, n.few)
+pub shared_ref_as_front-differs : goal.shared_ref_as_front-differs
+shared_ref_as_front-differs c = nogoods_few _ _ c.requires.0.room c.args.lists.now c.requires.0.is
 
 pub relabel-over-requires : goal.relabel-over-requires
 relabel-over-requires c =
     let p = c.requires in
-    let a = c.args in
-    let n = built_listed (stage_by a.held (a.depth + 1)).nogoods _ c.refuted-built.ensures c.if-count-gt-NOGOODS.false in
-    let was : Lists = lists a.members.now a.sizes.now a.many a.nogoods a.depth in
-    ((a.many, a.nogoods, p.0), p.1, listed_taken _ _ _ n, (stale_from a.held a.depth _ p.2 (wide a.held p.0.judgeable) (λ r m s o. ((right_range a.held p.0.judgeable.right r m).between s o).1) c.touched-stale.result c.touched-stale.ensures), p.2, told_news a.held p.0.judgeable a.depth _ (news_told a.held p.0.judgeable a.depth was p.0.is p.0.room _ _ n _ c.differs-news.ensures), p.4, p.5, p.6, p.3, refl)
+    let h = c.args.held.now in
+    let k = c.args.lists.now.depth in
+    let b = built_is limits.nogoods (stage_by h (k + 1)).nogoods c.in-Some.built (sym c.in-Some.is ∙ c.refuted.ensures) in
+    let n = placed_listed _ _ b.1 b.0 in (
+      p.0,
+      p.1,
+      listed_taken _ _ _ n,
+      stale_from h k _ p.2 (wide h p.0.judgeable) (λ r m s o. ((right_range h p.0.judgeable.right r m).between s o).1) c.touched-stale.result c.touched-stale.ensures,
+      p.2,
+      told_news h p.0.judgeable k _ (news_told h p.0.judgeable k c.args.lists.now p.0.is p.0.room _ _ n _ c.differs-news.ensures),
+      p.3,
+      p.4,
+    )
 
-pub returns-then-over-ne0 : goal.returns-then-over-ne0
-returns-then-over-ne0 c =
-    let p = c.requires in
-    let a = c.args in
-    let n = built_listed (stage_by a.held (a.depth + 1)).nogoods _ c.refuted-built.ensures c.if-count-gt-NOGOODS.false in
-    turn_stopped a.held a.depth _ _ _ _ (Label _) (label_not_done _) refl (next_beyond _ _ (listed_few _ _ _ n) _ c.relabel-over.ensures.over c.if-over-ne0.true _ refl) c.stopped-then-over-ne0.ensures
+pub returns-in-Some-over : goal.returns-in-Some-over
+returns-in-Some-over c =
+    let h = c.args.held.now in
+    let k = c.args.lists.now.depth in
+    let b = built_is limits.nogoods (stage_by h (k + 1)).nogoods c.in-Some.built (sym c.in-Some.is ∙ c.refuted.ensures) in
+    next_beyond (k + 1) (stage_by h (k + 1)) b.0 _ (sym c.in-Some-over.is ∙ c.relabel-over.ensures.over)
 
-pub returns : goal.returns
-returns c =
+pub returns-then-not-news : goal.returns-then-not-news
+returns-then-not-news c =
     let p = c.requires in
-    let a = c.args in
-    let n = built_listed (stage_by a.held (a.depth + 1)).nogoods _ c.refuted-built.ensures c.if-count-gt-NOGOODS.false in
-    let was : Lists = lists a.members.now a.sizes.now a.many a.nogoods a.depth in
-    let s = stage_by a.held (a.depth + 1) in
+    let h = c.args.held.now in
+    let k = c.args.lists.now.depth in
+    let b = built_is limits.nogoods (stage_by h (k + 1)).nogoods c.in-Some.built (sym c.in-Some.is ∙ c.refuted.ensures) in
+    let n = placed_listed _ _ b.1 b.0 in
     let r = c.relabel-over.ensures in
-    record {
-      answer = next_fits _ _ (listed_few _ _ _ n) _ r.over c.if-over-ne0.false _
-          (lists_made _ s _ _ _ _ (r.sizes_are c.if-over-ne0.false ∙ sym (sizes_placed (a.depth + 1) s)) (r.members_are c.if-over-ne0.false ∙ sym (members_placed (a.depth + 1) s)) n);
-      fresh = λ z. fresh_on a.held a.depth _ (r.marks_are c.if-over-ne0.false);
-      agrees = λ z. step_agrees a.held a.depth _ (r.marks_are c.if-over-ne0.false) (wide a.held p.0.judgeable) _ (news_told a.held p.0.judgeable a.depth was p.0.is p.0.room _ _ n _ c.differs-news.ensures) _ c.still-same.ensures;
-    }
+    let z = c.in_default-over.is in (
+      next_fits (k + 1) (stage_by h (k + 1)) b.0 (sym z ∙ r.over) _
+          (lists_made (k + 1) (stage_by h (k + 1)) _ _ _ _ (r.sizes_are z ∙ sym (sizes_placed (k + 1) (stage_by h (k + 1)))) (r.members_are z ∙ sym (members_placed (k + 1) (stage_by h (k + 1)))) n),
+      fresh_on h k _ (r.marks_are z),
+      step_agrees h k _ (r.marks_are z) (wide h p.0.judgeable) _ (news_told h p.0.judgeable k c.args.lists.now p.0.is p.0.room _ _ n _ c.differs-news.ensures) _ (still_quiet _ _ c.if-not-news.true _ c.zeros.ensures),
+    )
+
+pub returns-else-not-news : goal.returns-else-not-news
+returns-else-not-news c =
+    let p = c.requires in
+    let h = c.args.held.now in
+    let k = c.args.lists.now.depth in
+    let b = built_is limits.nogoods (stage_by h (k + 1)).nogoods c.in-Some.built (sym c.in-Some.is ∙ c.refuted.ensures) in
+    let n = placed_listed _ _ b.1 b.0 in
+    let r = c.relabel-over.ensures in
+    let z = c.in_default-over.is in (
+      next_fits (k + 1) (stage_by h (k + 1)) b.0 (sym z ∙ r.over) _
+          (lists_made (k + 1) (stage_by h (k + 1)) _ _ _ _ (r.sizes_are z ∙ sym (sizes_placed (k + 1) (stage_by h (k + 1)))) (r.members_are z ∙ sym (members_placed (k + 1) (stage_by h (k + 1)))) n),
+      fresh_on h k _ (r.marks_are z),
+      step_agrees h k _ (r.marks_are z) (wide h p.0.judgeable) _ (news_told h p.0.judgeable k c.args.lists.now p.0.is p.0.room _ _ n _ c.differs-news.ensures) _ (still_news _ _ c.if-not-news.false),
+    )
