@@ -5,176 +5,93 @@ ghost use Rattle.std.specs.Prelude.{◌≤◌, length};
 ghost use Rattle.stagetext.specs.Stagetext.{longest};
 
 use bare::{Query, Told, What};
-use calls::hands::Hand;
+use handed::Handed;
 use plains::word;
 use printing::Console;
 use replies::Reply;
-use telling::{MOST, bad, fields, filled, refused};
-use theory::{ASSUMPTIONS, CLAIMS, MARKS};
+use sets::Set;
+use telling::{Fault, filled, told};
+use theory::MARKS;
 
-// Whether the word is a call on the list in hand.
-pub fn of_hand(word: &[u8]) -> bool {
-    if script::same(word, b"bareask") {
-        return true;
+// The set of a bare call: numbers from 1 to 32 alone; else the line is bad.
+fn bounded(numbers: &[u32]) -> Result<Set, Fault> {
+    if script::has_zero(numbers) || script::has_above(numbers) {
+        return Err(Fault::Bad);
     }
-    if script::same(word, b"barecontext") {
-        return true;
-    }
-    script::same(word, b"barestages")
+    Ok(script::set_of(numbers))
 }
 
 // bareask A M N K..
-fn bare_ask(console: Console, query: Query, hand: Hand) {
-    let n = hand.count;
-    let items = hand.items;
-    let mut none = [0u8; 1];
-    let told = bare::ask_some(query, items, n, &mut none);
-    let Told::Word(answer) = told else {
-        return refused(console, Reply::Shape);
-    };
-    word(console, answer);
-}
-
-// barecontext A M K..
-fn bare_context(console: Console, query: Query, hand: Hand) {
-    let n = hand.count;
-    let items = hand.items;
-    let mut values = [0u8; MARKS];
-    let told = bare::ask_some(query, items, n, &mut values);
-    let Told::Filled(reply) = told else {
-        return refused(console, Reply::Shape);
-    };
-    let a = query.assumptions;
-    let m = query.claims;
-    if ASSUMPTIONS < a {
-        return refused(console, reply);
-    }
-    if CLAIMS < m {
-        return refused(console, reply);
-    }
-    filled(console, reply, values, a as usize + m as usize + 1);
-}
-
-// The lines of a bare list, on bytes that are enough for any.
-fn bare_lines(console: Console, query: Query, hand: Hand, text: &mut [u8])
-    requires { longest ≤ length text.old }
-{
-    let n = hand.count;
-    let items = hand.items;
-    let told = bare::ask_some(query, items, n, text);
-    let Told::Lines(answer) = told else {
-        return refused(console, Reply::Shape);
-    };
-    telling::told(console, answer, text);
-}
-
-// barestages A M K..
-fn bare_stages(console: Console, query: Query, hand: Hand) {
-    let mut text = [0u8; stagetext::LONGEST];
-    bare_lines(console, query, hand, &mut text);
-}
-
-// Whether the set of a bare call has numbers from 1 to 32 alone; else the line is bad.
-fn bounded(console: Console, set: &[u32], number: u32) -> bool {
-    if script::has_zero(set) {
-        bad(console, number);
-        return false;
-    }
-    if script::has_above(set) {
-        bad(console, number);
-        return false;
-    }
-    true
-}
-
-// barecontext A M K.., barestages A M K..
-fn bare_set(
+pub fn ask(
     console: Console,
-    name: &[u8],
-    assumptions: u32,
-    claims: u32,
-    set: &[u32],
-    number: u32,
-    hand: Hand,
-) {
-    if !bounded(console, set, number) {
-        return;
-    }
-    let e = script::set_of(set);
-    if script::same(name, b"barestages") {
-        let what = What::Stages;
-        let query = Query {
-            assumptions,
-            claims,
-            what,
-            set: e,
-        };
-        return bare_stages(console, query, hand);
-    }
-    let what = What::Context;
-    let query = Query {
-        assumptions,
-        claims,
-        what,
-        set: e,
-    };
-    bare_context(console, query, hand);
-}
-
-// bareask A M N K..
-fn bare_number(
-    console: Console,
+    hand: &[Handed],
     assumptions: u32,
     claims: u32,
     n: u32,
     set: &[u32],
-    number: u32,
-    hand: Hand,
-) {
-    if !bounded(console, set, number) {
-        return;
-    }
-    let what = What::Number(n);
+) -> Result<(), Fault> {
     let query = Query {
         assumptions,
         claims,
-        what,
-        set: script::set_of(set),
+        what: What::Number(n),
+        set: bounded(set)?,
     };
-    bare_ask(console, query, hand);
+    match bare::ask(query, hand, &mut []) {
+        Told::Word(answer) => word(console, answer),
+        _ => Err(Fault::Refused(Reply::Shape)),
+    }
 }
 
-// The calls on the list in hand.
-pub fn bare(console: Console, name: &[u8], rest: &[u8], number: u32, hand: Hand) {
-    let mut values = [0u32; MOST];
-    let n = fields(console, rest, number, &mut values);
-    if n < 1 {
-        return;
-    }
-    if n < 2 {
-        return bad(console, number);
-    }
-    if !script::same(name, b"bareask") {
-        return bare_set(
+// barecontext A M K..
+pub fn context(
+    console: Console,
+    hand: &[Handed],
+    assumptions: u32,
+    claims: u32,
+    set: &[u32],
+) -> Result<(), Fault> {
+    let query = Query {
+        assumptions,
+        claims,
+        what: What::Context,
+        set: bounded(set)?,
+    };
+    let mut bytes = [0u8; MARKS];
+    match bare::ask(query, hand, &mut bytes) {
+        Told::Filled(Reply::Done) => filled(
             console,
-            name,
-            values[0],
-            values[1],
-            &values[2..n],
-            number,
-            hand,
-        );
+            &bytes,
+            assumptions as usize + claims as usize + 1,
+        ),
+        Told::Filled(reply) => Err(Fault::Refused(reply)),
+        _ => Err(Fault::Refused(Reply::Shape)),
     }
-    if n < 3 {
-        return bad(console, number);
+}
+
+// The lines of a bare list, on bytes that are enough for any.
+fn lines(console: Console, hand: &[Handed], query: Query, text: &mut [u8]) -> Result<(), Fault>
+    requires { longest ≤ length text.old }
+{
+    match bare::ask(query, hand, text) {
+        Told::Lines(answer) => told(console, answer, text),
+        _ => Err(Fault::Refused(Reply::Shape)),
     }
-    bare_number(
-        console,
-        values[0],
-        values[1],
-        values[2],
-        &values[3..n],
-        number,
-        hand,
-    );
+}
+
+// barestages A M K..
+pub fn stages(
+    console: Console,
+    hand: &[Handed],
+    assumptions: u32,
+    claims: u32,
+    set: &[u32],
+) -> Result<(), Fault> {
+    let query = Query {
+        assumptions,
+        claims,
+        what: What::Stages,
+        set: bounded(set)?,
+    };
+    let mut text = [0u8; stagetext::LONGEST];
+    lines(console, hand, query, &mut text)
 }

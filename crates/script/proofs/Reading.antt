@@ -10,7 +10,7 @@ use native.Mathlib.Omega.{arith}
 use lib.Dec.{eqb, eqb-suc-suc, eqb-zero-suc, leb}
 use lib.ListN.{drop, drop_of_length-le, length, length-set, set, take, take-append-drop}
 use lib.Seq.{drop-nil, take_all, take-nil}
-use borrow.Author.Tests.{eqb-true, le-leb, leb-true, lt-leb}
+use borrow.Author.Tests.{eq-eqb, eqb-true, le-leb, leb-true, lt-leb}
 use Rattle.script.proofs.Fields.{field_none, field_some}
 use Rattle.script.proofs.Numerals.{never}
 use Rattle.script.specs.Promised.{IsField}
@@ -151,3 +151,12 @@ read_count {X} reading fs entry exit n e =
       room = omega (arith, few, told.1);
       out = ap (λ (p : Option ℕ × List X). p.1) e ∙ ap₂ (λ (a b : List X). a ++ b) (take_all (length entry) values (omega (arith, all, few))) (ap (λ (k : ℕ). drop k entry) (all ∙ sym told.1));
     }
+
+-- where all fields are good and there is room for them, they are counted
+pub read_refused : {X : Type 0} (reading : List ℕ → Option X) (fs : List (List ℕ)) (entry exit : List X) → (None, exit) ≡ read_into reading fs entry → length (values_of reading fs) ≡ length fs → length fs ≤ length entry → ⊥
+unfolding read_into
+read_refused {X} reading fs entry exit e good few =
+    let told = ap (λ (p : Option ℕ × List X). p.0) e in
+    let same : eqb (length (values_of reading fs)) (length fs) ≡ true = eq-eqb (length (values_of reading fs)) (length fs) good in
+    let never : None ≡ Some (length fs) = told ∙ ap₂ (λ (a b : Bool). choose (a && b) (Some (length fs)) None) same (le-leb (length fs) (length entry) few) in
+    cc

@@ -1,113 +1,102 @@
-// What every call of a script tells: a bad line, a refusal, bytes as numbers, a text; and the fields that several read.
+// What the calls of a script share: the fields of a line as numbers, why a line has no answer and how that is told, and sets, bytes and texts.
 #![tactic(auto)]
 
-ghost use Rattle.std.specs.Prelude.{◌≤◌};
+ghost use Rattle.std.specs.Prelude.{◌↔◌, ◌≡◌, ◌≤◌, IfErr, IfOk, IsOk, length};
+ghost use Rattle.script.specs.Script.{fields_of, numeral, values_of};
+ghost use Rattle.telling.specs.declared.Fault.TheVariants.{Bad};
 
-use printing::{Console, decimal, say};
+use printing::Console;
 use replies::Reply;
-use script::Read;
-use theory::MARKS;
+use sets::Set;
+use std::alloc::AllocFailed;
+use std::fmt;
+use std::fmt::Display;
 
 // Room for the fields of one line: of 65,536 bytes every second is a space at least.
 pub const MOST: usize = 32769;
 
-// What a line that is no call prints.
-pub fn bad(console: Console, number: u32) {
-    say(console, b"bad line ");
-    decimal(console, number);
-    say(console, b"\n");
+// Why a line has no answer: it is no call, its call is refused, so is a file at a record, or there is no memory.
+#[derive(Clone, Copy)]
+pub enum Fault {
+    Bad,
+    Refused(Reply),
+    Unloaded(Reply, u32),
+    OutOfMemory,
 }
 
-// The number that a refusal names, and the line's end.
-fn naming(console: Console, reply: Reply) {
-    if let Reply::Label(n) = reply {
-        say(console, b" ");
-        decimal(console, n as u32);
+impl From<Reply> for Fault {
+    fn from(reply: Reply) -> Fault {
+        Fault::Refused(reply)
     }
-    say(console, b"\n");
 }
 
-// A refusal, and the number that it names.
-pub fn refused(console: Console, reply: Reply) {
-    say(console, b"refused ");
-    decimal(console, replies::number(reply) as u32);
-    naming(console, reply);
+impl<T: Drop> From<AllocFailed<T>> for Fault {
+    fn from(_failed: AllocFailed<T>) -> Fault {
+        Fault::OutOfMemory
+    }
 }
 
-// A refusal of a file: the record that it stands at, and the number that it names.
-pub fn unloaded(console: Console, reply: Reply, record: u32) {
-    say(console, b"refused ");
-    decimal(console, replies::number(reply) as u32);
-    say(console, b" ");
-    decimal(console, record);
-    naming(console, reply);
+// The number that a refusal names, after a space; of any other nothing.
+#[derive(Drop)]
+struct Named(Reply);
+
+impl Display for Named {
+    fn fmt<W: fmt::Write>(&self, f: &mut fmt::Formatter<W>) -> fmt::Result {
+        match self.0 {
+            Reply::Label(n) => write!(f, " {n}"),
+            _ => Ok(()),
+        }
+    }
 }
 
-// The fields of a line as numbers: how many there are, or 0 where the line is bad: there is none, or one is no number.
-pub fn fields(console: Console, rest: &[u8], number: u32, values: &mut [u32]) -> usize
-    ensures { result ≤ 32769 }
+// Tells why the line of this number has no answer.
+pub fn tell(console: Console, number: u32, fault: Fault) {
+    match fault {
+        Fault::Bad => println!(console; "bad line {number}"),
+        Fault::Refused(reply) => {
+            println!(console; "refused {}{}", replies::number(reply), Named(reply));
+        }
+        Fault::Unloaded(reply, at) => {
+            println!(console; "refused {} {at}{}", replies::number(reply), Named(reply));
+        }
+        Fault::OutOfMemory => console.complain(b"there is no memory for the list in hand\n"),
+    }
+}
+
+// The fields of a line as numbers; the line is bad where one is none.
+pub fn numbers<'a>(rest: &[u8], room: &'a mut [u32; MOST]) -> Result<&'a [u32], Fault>
+    ensures all { IsOk result ↔ ((length (values_of numeral (fields_of rest.now)) ≡ length (fields_of rest.now)) × (length (fields_of rest.now) ≤ 32769)) }
+    ensures values { IfOk result (λ r. r.now ≡ values_of numeral (fields_of rest.now)) }
+    ensures bad { IfErr result (λ f. f ≡ Bad) }
 {
-    let read = script::numbers(rest, 0, values);
-    let Read::Count(n) = read else {
-        bad(console, number);
-        return 0;
-    };
-    if n < 1 {
-        bad(console, number);
-        return 0;
+    let count = script::numbers(rest, 0, room).ok_or(Fault::Bad)?;
+    Ok(&room[..count])
+}
+
+// The set that a call asks of: with a 0 the line is bad, a number above 32 is refused.
+pub fn asked(numbers: &[u32]) -> Result<Set, Fault> {
+    if script::has_zero(numbers) {
+        return Err(Fault::Bad);
     }
-    if MOST < n {
-        bad(console, number);
-        return 0;
+    if script::has_above(numbers) {
+        return Err(Fault::Refused(Reply::Number));
     }
-    n
+    Ok(script::set_of(numbers))
 }
 
 // The first n bytes as numbers, a space between two; a store of more numbers has no shape.
-fn values(console: Console, bytes: [u8; MARKS], n: usize) {
-    if MARKS < n {
-        return refused(console, Reply::Shape);
+pub fn filled(console: Console, bytes: &[u8], n: usize) -> Result<(), Fault> {
+    let mut between = "";
+    for byte in bytes.get(..n).ok_or(Reply::Shape)? {
+        print!(console; "{between}{byte}");
+        between = " ";
     }
-    for i in 0..n {
-        if 0 < i {
-            say(console, b" ");
-        }
-        decimal(console, bytes[i] as u32);
-    }
-    say(console, b"\n");
-}
-
-// The bytes of a context of so many numbers, or the refusal.
-pub fn filled(console: Console, reply: Reply, bytes: [u8; MARKS], n: usize) {
-    if replies::number(reply) != 0 {
-        refused(console, reply);
-        return;
-    }
-    values(console, bytes, n);
+    console.say(b"\n");
+    Ok(())
 }
 
 // The text that a call wrote, or its refusal; none is longer than what was lent.
-pub fn told(console: Console, answer: Result<usize, Reply>, text: &[u8]) {
-    match answer {
-        Ok(length) => {
-            if text.len() < length {
-                return refused(console, Reply::Short);
-            }
-            say(console, &text[..length]);
-        }
-        Err(reply) => refused(console, reply),
-    }
-}
-
-// Whether the set may be asked of the store: a 0 is a bad line, a number above 32 is refused.
-pub fn sound(console: Console, set: &[u32], number: u32) -> bool {
-    if script::has_zero(set) {
-        bad(console, number);
-        return false;
-    }
-    if script::has_above(set) {
-        refused(console, Reply::Number);
-        return false;
-    }
-    true
+pub fn told(console: Console, answer: Result<usize, Reply>, text: &[u8]) -> Result<(), Fault> {
+    console.say(text.get(..answer?).ok_or(Reply::Short)?);
+    Ok(())
 }
