@@ -35,63 +35,70 @@ fn last(marks: &[u8]) -> u8
         .unwrap_or(0)
 }
 
-// The numbers whose marks are k at most, each after one space.
-#[tactic(auto, using(text::proofs::Added::writes, crate::proofs::Laws::parts))]
-fn body(marks: &[u8], k: u8, out: &mut Writer)
-    requires { (length marks.now ≤ limits.numbers + 1) × Room (body_of (length marks.now) marks.now k) out.old }
-    ensures { out.new ≡ added (body_of (length marks.now) marks.now k) out.old }
-{
-    for (n, mark) in marks.iter().enumerate() {
-        if *mark <= k {
-            out.field(n as u32);
+// The marks of the numbers up to the highest.
+#[derive(Clone, Copy)]
+struct Marked<'a> {
+    marks: &'a [u8],
+    ghost few: { length marks.now ≤ limits.numbers + 1 },
+}
+
+impl<'a> Marked<'a> {
+    // The numbers whose marks are k at most, each after one space.
+    #[tactic(auto, using(text::proofs::Added::writes, crate::proofs::Laws::parts))]
+    fn body(&self, k: u8, out: &mut Writer)
+        requires { Room (body_of (length self.now.marks.now) self.now.marks.now k) out.old }
+        ensures { out.new ≡ added (body_of (length self.now.marks.now) self.now.marks.now k) out.old }
+    {
+        for (n, mark) in self.marks.iter().enumerate() {
+            if *mark <= k {
+                out.field(n as u32);
+            }
         }
     }
-}
 
-// The line of stage k.
-#[tactic(auto, using(text::proofs::Added::writes, crate::proofs::Laws::row_parts))]
-fn row(marks: &[u8], k: u8, out: &mut Writer)
-    requires { (length marks.now ≤ limits.numbers + 1) × Room (row_of (length marks.now) marks.now k) out.old }
-    ensures { out.new ≡ added (row_of (length marks.now) marks.now k) out.old }
-{
-    out.number(k as u32);
-    body(marks, k, out);
-    out.byte(b'\n');
-}
-
-// The lines of the first stages.
-#[tactic(auto, using(text::proofs::Added::writes, crate::proofs::Laws::rows))]
-fn rows(marks: &[u8], count: u8, out: &mut Writer)
-    requires { (length marks.now ≤ limits.numbers + 1) × Room (rows_of (length marks.now) marks.now count) out.old }
-    ensures { out.new ≡ added (rows_of (length marks.now) marks.now count) out.old }
-{
-    for k in 0..count {
-        row(marks, k, out);
+    // The line of stage k.
+    #[tactic(auto, using(text::proofs::Added::writes, crate::proofs::Laws::row_parts))]
+    fn row(&self, k: u8, out: &mut Writer)
+        requires { Room (row_of (length self.now.marks.now) self.now.marks.now k) out.old }
+        ensures { out.new ≡ added (row_of (length self.now.marks.now) self.now.marks.now k) out.old }
+    {
+        out.number(k as u32);
+        self.body(k, out);
+        out.byte(b'\n');
     }
-}
 
-// How long the lines of the first stages are, by writing each into the same bytes.
-#[tactic(auto, using(text::proofs::Added::texts, crate::proofs::Laws::sums, crate::proofs::Longest::row_most, crate::proofs::Longest::rows_most))]
-fn measured(marks: &[u8], count: u8) -> usize
-    requires { length marks.now ≤ limits.numbers + 1 }
-    ensures { result ≡ length (rows_of (length marks.now) marks.now count) }
-{
-    let mut line = [0u8; WIDEST];
-    let mut sum = 0;
-    for k in 0..count {
-        let mut out = Writer::new(&mut line);
-        row(marks, k, &mut out);
-        sum += out.written;
+    // The lines of the first stages.
+    #[tactic(auto, using(text::proofs::Added::writes, crate::proofs::Laws::rows))]
+    fn rows(&self, count: u8, out: &mut Writer)
+        requires { Room (rows_of (length self.now.marks.now) self.now.marks.now count) out.old }
+        ensures { out.new ≡ added (rows_of (length self.now.marks.now) self.now.marks.now count) out.old }
+    {
+        for k in 0..count {
+            self.row(k, out);
+        }
     }
-    sum
-}
 
-// Whether so many bytes are enough; where the longest lines fit, none is measured.
-fn enough(marks: &[u8], count: u8, given: usize) -> bool
-    requires { length marks.now ≤ limits.numbers + 1 }
-    ensures { result ≡ leb (length (rows_of (length marks.now) marks.now count)) given }
-{
-    WIDEST * count as usize <= given || measured(marks, count) <= given
+    // How long the lines of the first stages are, by writing each into the same bytes.
+    #[tactic(auto, using(text::proofs::Added::texts, crate::proofs::Laws::sums, crate::proofs::Longest::row_most, crate::proofs::Longest::rows_most))]
+    fn measured(&self, count: u8) -> usize
+        ensures { result ≡ length (rows_of (length self.now.marks.now) self.now.marks.now count) }
+    {
+        let mut line = [0u8; WIDEST];
+        let mut sum = 0;
+        for k in 0..count {
+            let mut out = Writer::new(&mut line);
+            self.row(k, &mut out);
+            sum += out.written;
+        }
+        sum
+    }
+
+    // Whether so many bytes are enough; where the longest lines fit, none is measured.
+    fn fits(&self, count: u8, given: usize) -> bool
+        ensures { result ≡ leb (length (rows_of (length self.now.marks.now) self.now.marks.now count)) given }
+    {
+        WIDEST * count as usize <= given || self.measured(count) <= given
+    }
 }
 
 // The lines of all stages up to the last with something new, where there is room for them; 4 where top is no number's.
@@ -103,13 +110,13 @@ pub fn put(marks: [u8; MARKS], top: u8, out: &mut [u8]) -> Result<usize, Reply>
         return Err(Reply::Number);
     }
     let end = top as usize + 1;
-    let numbered = &marks[..end];
+    let marked = Marked { marks: &marks[..end] };
     let count = last(&marks) + 1;
-    if !enough(numbered, count, out.len()) {
+    if !marked.fits(count, out.len()) {
         return Err(Reply::Short);
     }
     let mut writer = Writer::new(out);
-    rows(numbered, count, &mut writer);
+    marked.rows(count, &mut writer);
     Ok(writer.written)
 }
 

@@ -12,15 +12,15 @@ returns-then-top-gt-LAST c = let a = c.args in put_above a.marks a.top a.out.now
 pub overflow_add-count : goal.overflow_add-count
 overflow_add-count c = omega (arith, c.last-count.ensures, latest_low c.args.marks 0 (omega arith))
 
-pub returns-then-not-enough : goal.returns-then-not-enough
-returns-then-not-enough c =
+pub returns-then-not-fits : goal.returns-then-not-fits
+returns-then-not-fits c =
     let a = c.args in
     let long : length a.marks ≡ limits.numbers + 1 = search rules in
-    put_short a.marks a.top _ a.out.now _ c.if-top-gt-LAST.false (rows_first a.marks a.top (omega (arith, long, c.if-top-gt-LAST.false)) _) (ap (λ (x : ℕ). x + 1) c.last-count.ensures) (leb-false _ _ (sym c.enough.ensures ∙ c.if-not-enough.true))
+    put_short a.marks a.top _ a.out.now _ c.if-top-gt-LAST.false (rows_first a.marks a.top (omega (arith, long, c.if-top-gt-LAST.false)) _) (ap (λ (x : ℕ). x + 1) c.last-count.ensures) (leb-false _ _ (sym c.fits.ensures ∙ c.if-not-fits.true))
 
 pub returns : goal.returns
 returns c =
     let a = c.args in
     let long : length a.marks ≡ limits.numbers + 1 = search rules in
-    let whole = put_done a.marks a.top _ a.out.now _ c.if-top-gt-LAST.false (rows_first a.marks a.top (omega (arith, long, c.if-top-gt-LAST.false)) _) (ap (λ (x : ℕ). x + 1) c.last-count.ensures) (leb-true _ _ (sym c.enough.ensures ∙ c.if-not-enough.false)) in
+    let whole = put_done a.marks a.top _ a.out.now _ c.if-top-gt-LAST.false (rows_first a.marks a.top (omega (arith, long, c.if-top-gt-LAST.false)) _) (ap (λ (x : ℕ). x + 1) c.last-count.ensures) (leb-true _ _ (sym c.fits.ensures ∙ c.if-not-fits.false)) in
     grind (arith, texts, whole)

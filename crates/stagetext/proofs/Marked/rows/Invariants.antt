@@ -3,7 +3,7 @@ use Rattle.std.proofs.Common.{length}
 use Rattle.stagetext.proofs.Turns.{from_number}
 use Rattle.stagetext.specs.Stagetext.{row_of, rows_of}
 use Rattle.text.proofs.Added.{Left}
-use Rattle.stagetext.proofs.rows.Given as goal
+use Rattle.stagetext.proofs.Marked.rows.Given as goal
 
 abbrev pub invariant-loop-k : goal.invariant-loop-k
-invariant-loop-k l = Left (from_number (row_of (length l.marks) l.marks) l.count l.k) l.out (rows_of (length l.marks) l.marks l.count) l.initial.out
+invariant-loop-k l = Left (from_number (row_of (length l.self.marks.now) l.self.marks.now) l.count l.k) l.out (rows_of (length l.self.marks.now) l.self.marks.now l.count) l.initial.out

@@ -3,7 +3,7 @@ use Rattle.std.proofs.Common.{length}
 use Rattle.stagetext.proofs.Turns.{from_number}
 use Rattle.stagetext.specs.Stagetext.{body_of, part_of}
 use Rattle.text.proofs.Added.{Left}
-use Rattle.stagetext.proofs.body.Given as goal
+use Rattle.stagetext.proofs.Marked.body.Given as goal
 
 abbrev pub invariant-loop-n : goal.invariant-loop-n
-invariant-loop-n l = Left (from_number (part_of l.marks l.k) (length l.marks) l.n) l.out (body_of (length l.marks) l.marks l.k) l.initial.out
+invariant-loop-n l = Left (from_number (part_of l.self.marks.now l.k) (length l.self.marks.now) l.n) l.out (body_of (length l.self.marks.now) l.self.marks.now l.k) l.initial.out
