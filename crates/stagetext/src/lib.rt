@@ -110,7 +110,9 @@ pub fn put(marks: [u8; MARKS], top: u8, out: &mut [u8]) -> Result<usize, Reply>
         return Err(Reply::Number);
     }
     let end = top as usize + 1;
-    let marked = Marked { marks: &marks[..end] };
+    let marked = Marked {
+        marks: &marks[..end],
+    };
     let count = last(&marks) + 1;
     if !marked.fits(count, out.len()) {
         return Err(Reply::Short);
