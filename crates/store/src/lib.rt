@@ -5,19 +5,13 @@ ghost use Rattle.std.specs.Prelude.{◌≡◌, ◌≤◌};
 ghost use Rattle.theory.specs.Limits.{limits};
 ghost use Rattle.store.specs.Shape.{RightShape, held_fits};
 ghost use Rattle.store.specs.Reading.{refusal_of};
-ghost use Rattle.store.specs.Calls.{Added, JudgedAnew, Opened, Withdrawn, after_of, start_store};
+ghost use Rattle.store.specs.Calls.{Added, JudgedAnew, Opened, Withdrawn, after_of, judged_of, result_of, start_store};
 
 use replies::Reply;
 use rules::Held;
 use sets::Set;
 use stages::Lists;
 use theory::{ASSUMPTIONS, CLAIMS};
-
-// The most assumptions, as a store counts them.
-const MOST_ASSUMPTIONS: u8 = ASSUMPTIONS as u8;
-
-// The most claims.
-const MOST_CLAIMS: u8 = CLAIMS as u8;
 
 // What is held, and the labels and nogoods at its depth.
 #[repr(C)]
@@ -39,38 +33,41 @@ fn start(a: u8, m: u8) -> Store
     requires { (a ≤ limits.assumptions) × (m ≤ limits.claims) }
     ensures { result ≡ start_store a m }
 {
-    let held = Held::nothing(a, m);
-    let lists = stages::start(a);
-    Store { held, lists }
+    Store {
+        held: Held::nothing(a, m),
+        lists: stages::start(a),
+    }
 }
 
 // Whether what is held fits: the counts within the limits, and the justifications in their shape.
 fn held_fits(held: Held) -> bool
     ensures { result ≡ held_fits held }
 {
-    if MOST_ASSUMPTIONS < held.assumptions {
-        return false;
-    }
-    if MOST_CLAIMS < held.claims {
+    if ASSUMPTIONS < held.assumptions as u32 || CLAIMS < held.claims as u32 {
         return false;
     }
     held.right()
 }
 
 // The store of the justifications held, judged anew from stage 0; or the refusal.
+fn anew(held: Held) -> Result<Store, Reply>
+    ensures { result ≡ result_of (judged_of held) }
+{
+    if !held_fits(held) {
+        return Err(Reply::Shape);
+    }
+    let lists = stages::judge(held)?;
+    Ok(Store { held, lists })
+}
+
+// .. with a store that means nothing beside a refusal.
 pub fn judged(held: Held) -> Outcome
     ensures { JudgedAnew held result }
 {
-    if !held_fits(held) {
-        return Outcome {
-            reply: Reply::Shape,
-            store: start(0, 0),
-        };
-    }
-    match stages::judge(held) {
-        Ok(lists) => Outcome {
+    match anew(held) {
+        Ok(store) => Outcome {
             reply: Reply::Done,
-            store: Store { held, lists },
+            store,
         },
         Err(reply) => Outcome {
             reply,
@@ -116,13 +113,7 @@ impl Store {
     pub fn open(assumptions: u32, claims: u32) -> Outcome
         ensures { Opened assumptions claims result }
     {
-        if ASSUMPTIONS < assumptions {
-            return Outcome {
-                reply: Reply::Counts,
-                store: start(0, 0),
-            };
-        }
-        if CLAIMS < claims {
+        if ASSUMPTIONS < assumptions || CLAIMS < claims {
             return Outcome {
                 reply: Reply::Counts,
                 store: start(0, 0),
@@ -138,15 +129,11 @@ impl Store {
     pub fn after(self, changed: Result<Held, Reply>) -> Outcome
         ensures { result ≡ after_of self changed }
     {
-        match changed {
-            Ok(held) => {
-                let out = judged(held);
-                let reply = out.reply;
-                if replies::number(reply) != 0 {
-                    return Outcome { reply, store: self };
-                }
-                out
-            }
+        match changed.and_then(anew) {
+            Ok(store) => Outcome {
+                reply: Reply::Done,
+                store,
+            },
             Err(reply) => Outcome { reply, store: self },
         }
     }
