@@ -1,8 +1,7 @@
 // A list of justifications added in one call: the shape and the room for the bytes once, then item after item.
 #![tactic(auto)]
 
-ghost use Rattle.std.specs.Prelude.{true, ◌≡◌, ◌≤◌, take};
-ghost use Rattle.theory.specs.Limits.{limits};
+ghost use Rattle.std.specs.Prelude.{true, ◌≡◌, take};
 ghost use Rattle.store.specs.Shape.{right_shape};
 ghost use Rattle.season.specs.Season.{add_all_of, bytes_after, give_of};
 
@@ -54,20 +53,9 @@ pub fn add_all(store: Store, list: &[Handed], out: &mut [u8]) -> Outcome
     }
 }
 
-// The first n of a list by value.
-fn add_first(store: Store, list: [Handed; HELD], n: usize, out: &mut [u8]) -> Outcome
-    requires { n ≤ limits.held }
-    ensures { (result ≡ add_all_of store (take n list) out.old) × (out.new ≡ bytes_after store (take n list) out.old) }
-{
-    add_all(store, &list[..n], out)
-}
-
-// .. and all where n is more: a caller of this one takes no slice of items.
+// The first n of a list by value, and all where n is more: a caller of this one takes no slice of items.
 pub fn add_some(store: Store, list: [Handed; HELD], n: usize, out: &mut [u8]) -> Outcome
     ensures { (result ≡ add_all_of store (take n list) out.old) × (out.new ≡ bytes_after store (take n list) out.old) }
 {
-    if HELD < n {
-        return add_first(store, list, HELD, out);
-    }
-    add_first(store, list, n, out)
+    add_all(store, &list[..usize::min(n, HELD)], out)
 }
