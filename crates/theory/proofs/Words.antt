@@ -1,8 +1,12 @@
--- Tests of lists against the library's words for them. Assumes nothing.
-use Rattle.std.proofs.Common.{◌≡◌, Bool, ◌&&◌, ◌||◌, List, [], ◌∷◌, ap, refl}
+-- Tests of lists, and the numbers below one, against the library's words for them. Assumes nothing.
+use Rattle.std.proofs.Common.{◌≡◌, ◌<◌, ◌∙◌, ℕ, Bool, ◌&&◌, ◌||◌, List, [], ◌∷◌, ap, arith, refl, sym, zero-add}
+use Rattle.std.proofs.lemmas.Grind.{same_number_lists}
+use Rattle.std.proofs.lemmas.List.FromFn.{get_or-range_with_len, length-range_with_len}
 use Rattle.std.specs.Cmp.Lexicographic.{pointwise}
-use Rattle.std.specs.List.{list_all, list_any}
-use Rattle.theory.specs.Lists.{alike, all_of, some_of}
+use Rattle.std.specs.List.{list_all, list_any, range_with_len}
+use Rattle.theory.proofs.Depth.{length_below}
+use Rattle.theory.proofs.Judgement.{at_below}
+use Rattle.theory.specs.Lists.{alike, all_of, numbers_below, some_of}
 
 module _ {X : Type 0} where
   pub some_is : (p : X → Bool) (l : List X) → list_any p l ≡ some_of p l
@@ -21,3 +25,8 @@ module _ {X : Type 0} where
   alike_is same [] (y ∷ m) = refl
   alike_is same (x ∷ l) [] = refl
   alike_is same (x ∷ l) (y ∷ m) = ap (λ b. same x y && b) (alike_is same l m)
+
+pub below_is : (n : ℕ) → range_with_len 0 n ≡ numbers_below n
+below_is n =
+    same_number_lists (range_with_len 0 n) (numbers_below n) (length-range_with_len 0 n ∙ sym (length_below n))
+    (λ k h. let low : k < n = omega (arith, length-range_with_len 0 n) in get_or-range_with_len 0 n k 0 low ∙ zero-add k ∙ sym (at_below n k low))
