@@ -5,11 +5,11 @@ ghost use Rattle.std.specs.Prelude.{◌≡◌, eqb, ltb};
 ghost use Rattle.theory.specs.Judge.{same_sets};
 ghost use Rattle.theory.specs.Lists.{all_of, some_of};
 
-// Whether n is one of the list.
+// Whether n is one of the list: any and not contains, which takes twice as long on so few.
 pub fn has(l: &[u32], n: u32) -> bool
     ensures { result ≡ some_of (eqb n) l.now }
 {
-    l.contains(&n)
+    l.iter().any(|x| n == *x)
 }
 
 // Whether one of the list is above top.
@@ -23,11 +23,7 @@ pub fn over(l: &[u32], top: u32) -> bool
 pub fn zeros(l: &[u8]) -> bool
     ensures { result ≡ all_of (eqb 0) l.now }
 {
-    let mut seen = 0;
-    for x in l {
-        seen |= *x;
-    }
-    seen == 0
+    l.iter().fold(0, |seen, x| seen | x) == 0
 }
 
 // Whether the two lists are the same.

@@ -1,12 +1,11 @@
 -- `has` meets its contract: the library's words are those of the document. Assumes nothing.
-use Rattle.std.proofs.Common.{Bool, ℕ, ◌∙◌, ap, eqb}
-use mathlib.Core.Path.{fun_ext}
-use Rattle.std.specs.List.{list_any}
+use Rattle.std.proofs.Common.{◌∙◌, eqb, rules, tests}
+use Rattle.std.proofs.lemmas.Iterator.{YieldsList-from_slice}
+use Rattle.std.proofs.lemmas.Iterator.Search.{any_from_yields_List}
 use Rattle.theory.proofs.Words.{some_is}
-use Rattle.slices.proofs.Laws.{turned}
 use Rattle.slices.proofs.has.Goals as goal
 
 pub returns : goal.returns
 returns c =
-    c.contains.ensures.value ∙ ap (λ (p : ℕ → Bool). list_any p c.args.l.now) (fun_ext λ x. turned x c.args.n)
+    any_from_yields_List (eqb c.args.n) _ _ _ c.any.ensures.ran (YieldsList-from_slice c.args.l.now cc) (λ x b q k. search (rules, tests))
     ∙ some_is (eqb c.args.n) c.args.l.now
