@@ -11,7 +11,6 @@ use native.Mathlib.Omega.{arith}
 use lib.Count.{ones}
 use lib.ListN.{get_or, length, take}
 use lib.Seq.{get_or-take, length-take-le}
-use borrow.Author.Tests.{le-ltb, lt-ltb}
 use Rattle.members.proofs.First.{at_mem, contains_first}
 use Rattle.members.specs.Promised.{first_within}
 use Rattle.shape.specs.Shape.{apart}

@@ -14,23 +14,18 @@ use theory::{LABEL, MARKS};
 fn sorted(l: &[Set]) -> bool
     ensures { result ≡ sorted_by apart l.now }
 {
-    let Some(first) = l.first() else {
-        return true;
-    };
-    let mut last = (first.count_ones(), *first);
     let mut from = 0;
     for i in 1..l.len() {
-        let next = (l[i].count_ones(), l[i]);
-        if next <= last {
+        let (last, e) = (l[i - 1], l[i]);
+        if !sets::before(last, e) {
             return false;
         }
-        if last.0 < next.0 {
+        if last.count_ones() < e.count_ones() {
             from = i;
         }
-        if members::first_within(&l[..from], next.1).is_some() {
+        if members::first_within(&l[..from], e).is_some() {
             return false;
         }
-        last = next;
     }
     true
 }

@@ -1,12 +1,10 @@
 -- `sorted` meets its contract. The loop: the sets so far stand clear, those from a place on with as many assumptions as the last. Assumes nothing.
-use Rattle.std.proofs.Common.{◌≡◌, ◌<◌}
-use Rattle.std.specs.Int.Count.{ones}
+use Rattle.std.proofs.Common.{◌-◌, ◌<◌, get_or}
 use Rattle.shape.proofs.Runs.{Run}
 use Rattle.shape.proofs.sorted.Given as goal
 
 abbrev pub invariant-loop-i : goal.invariant-loop-i
 invariant-loop-i l = record {
   low : l.from < l.i;
-  many : l.last.0 ≡ ones l.last.1;
-  run : Run l.l l.i l.from l.last.1;
+  run : Run l.l l.i l.from (get_or l.l (l.i - 1) 0);
 }
