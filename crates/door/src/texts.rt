@@ -10,6 +10,7 @@ ghost use Rattle.across.specs.Across.{wrote_by};
 
 use across::Told;
 use store::Store;
+use text::Writer;
 
 // The line of n in the listing, its newline included.
 #[unsafe(no_mangle)]
@@ -83,7 +84,8 @@ pub extern "C" fn door_refusal(number: u32, record: u32, out: &mut [u8]) -> Told
         × (out.new ≡ (fitted (refusal number «record») out.old).bytes) }
 {
     let mut text = [0u8; 30];
-    let end = text::refused(number, record, &mut text);
-    let answer = lent::fit(&text[..end], out);
+    let mut writer = Writer::new(&mut text);
+    writer.refused(number, record);
+    let answer = lent::fit(writer.text(), out);
     across::written(answer)
 }

@@ -6,8 +6,7 @@ ghost use Rattle.theory.specs.Limits.{limits};
 ghost use Rattle.store.specs.Reading.{contradicted_in};
 ghost use Rattle.store.specs.Shape.{right_shape};
 ghost use Rattle.lent.specs.Lent.{Leaves};
-ghost use Rattle.text.specs.Writer.{Room, added};
-ghost use Rattle.lines.specs.Lines.{CaseLined, Lined, RefusalLined, case_text, heading_of, line_of};
+ghost use Rattle.lines.specs.Lines.{CaseLined, Lined, RefusalLined, heading_of, line_of};
 
 use lent::Listed;
 use replies::Reply;
@@ -54,20 +53,6 @@ pub fn line(store: Store, n: u32, out: &mut [u8]) -> Listed
     Listed { answer, store }
 }
 
-// The first line of the listing to a writer; the shape was looked at.
-pub fn head(store: &Store, writer: &mut Writer)
-    requires { (right_shape store.now ≡ true) × Room (case_text store.now) writer.old }
-    ensures { writer.new ≡ added (case_text store.now) writer.old }
-{
-    let held = &store.held;
-    writer.head(
-        held.assumptions.into(),
-        held.claims.into(),
-        held.count as u32,
-        store.lists.depth.into(),
-    );
-}
-
 // The first line, where the shape is right.
 fn first(store: &Store, out: &mut [u8]) -> Result<usize, Reply>
     ensures { Leaves (heading_of store.now out.old) result out.new }
@@ -77,7 +62,7 @@ fn first(store: &Store, out: &mut [u8]) -> Result<usize, Reply>
     }
     let mut text = [0u8; 19];
     let mut writer = Writer::new(&mut text);
-    head(store, &mut writer);
+    wording::head(store, &mut writer);
     lent::fit(writer.text(), out)
 }
 

@@ -3,4 +3,3 @@ pub mod Cases
 pub mod Digits
 pub mod Lengths
 pub mod Rests
-pub mod Writing

@@ -5,6 +5,7 @@ ghost use Rattle.std.specs.Prelude.{true, ◌≡◌, ◌≤◌};
 ghost use Rattle.theory.specs.Limits.{limits};
 ghost use Rattle.store.specs.Reading.{list_held};
 ghost use Rattle.store.specs.Shape.{right_shape};
+ghost use Rattle.text.specs.Texts.{heading};
 ghost use Rattle.text.specs.Writer.{Room, added};
 ghost use Rattle.wording.specs.Wording.{line_with, word_of};
 
@@ -52,4 +53,18 @@ pub fn lined(store: &Store, n: u32, follows: bool, writer: &mut Writer)
 {
     let list = list_of(store, n);
     writer.line(n, word(n, list, follows), list);
+}
+
+// Line one of the listing; the shape was looked at.
+pub fn head(store: &Store, writer: &mut Writer)
+    requires { (right_shape store.now ≡ true) × Room (heading store.now.held.assumptions store.now.held.claims store.now.held.count store.now.lists.depth) writer.old }
+    ensures { writer.new ≡ added (heading store.now.held.assumptions store.now.held.claims store.now.held.count store.now.lists.depth) writer.old }
+{
+    let held = &store.held;
+    writer.head(
+        held.assumptions.into(),
+        held.claims.into(),
+        held.count as u32,
+        store.lists.depth.into(),
+    );
 }
