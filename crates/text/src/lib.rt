@@ -45,7 +45,7 @@ impl<'a> Writer<'a> {
 
     // A word.
     #[tactic(auto, using(std::proofs::lemmas::Grind::common_steps), unfolding(crate::specs::Writer::added, crate::specs::Writer::placed))]
-    fn word(&mut self, word: &[u8])
+    pub fn word(&mut self, word: &[u8])
         requires { Room word.now self.old }
         ensures { self.new ≡ added word.now self.old }
     {
