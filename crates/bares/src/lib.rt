@@ -9,16 +9,20 @@ use handed::Handed;
 use plains::word;
 use printing::Console;
 use replies::Reply;
-use sets::Set;
 use telling::{Fault, filled, told};
 use theory::MARKS;
 
-// The set of a bare call: numbers from 1 to 32 alone; else the line is bad.
-fn bounded(numbers: &[u32]) -> Result<Set, Fault> {
+// What is asked of the list: of a set of numbers from 1 to 32 alone; else the line is bad.
+fn query(assumptions: u32, claims: u32, what: What, numbers: &[u32]) -> Result<Query, Fault> {
     if script::has_zero(numbers) || script::has_above(numbers) {
         return Err(Fault::Bad);
     }
-    Ok(script::set_of(numbers))
+    Ok(Query {
+        assumptions,
+        claims,
+        what,
+        set: script::set_of(numbers),
+    })
 }
 
 // bareask A M N K..
@@ -30,13 +34,8 @@ pub fn ask(
     n: u32,
     set: &[u32],
 ) -> Result<(), Fault> {
-    let query = Query {
-        assumptions,
-        claims,
-        what: What::Number(n),
-        set: bounded(set)?,
-    };
-    match bare::ask(query, hand, &mut []) {
+    let asked = query(assumptions, claims, What::Number(n), set)?;
+    match bare::ask(asked, hand, &mut []) {
         Told::Word(answer) => word(console, answer),
         _ => Err(Fault::Refused(Reply::Shape)),
     }
@@ -50,29 +49,20 @@ pub fn context(
     claims: u32,
     set: &[u32],
 ) -> Result<(), Fault> {
-    let query = Query {
-        assumptions,
-        claims,
-        what: What::Context,
-        set: bounded(set)?,
-    };
+    let asked = query(assumptions, claims, What::Context, set)?;
     let mut bytes = [0u8; MARKS];
-    match bare::ask(query, hand, &mut bytes) {
-        Told::Filled(Reply::Done) => filled(
-            console,
-            &bytes,
-            assumptions as usize + claims as usize + 1,
-        ),
+    match bare::ask(asked, hand, &mut bytes) {
+        Told::Filled(Reply::Done) => filled(console, &bytes, assumptions, claims),
         Told::Filled(reply) => Err(Fault::Refused(reply)),
         _ => Err(Fault::Refused(Reply::Shape)),
     }
 }
 
 // The lines of a bare list, on bytes that are enough for any.
-fn lines(console: Console, hand: &[Handed], query: Query, text: &mut [u8]) -> Result<(), Fault>
+fn lines(console: Console, hand: &[Handed], asked: Query, text: &mut [u8]) -> Result<(), Fault>
     requires { longest ≤ length text.old }
 {
-    match bare::ask(query, hand, text) {
+    match bare::ask(asked, hand, text) {
         Told::Lines(answer) => told(console, answer, text),
         _ => Err(Fault::Refused(Reply::Shape)),
     }
@@ -86,12 +76,7 @@ pub fn stages(
     claims: u32,
     set: &[u32],
 ) -> Result<(), Fault> {
-    let query = Query {
-        assumptions,
-        claims,
-        what: What::Stages,
-        set: bounded(set)?,
-    };
+    let asked = query(assumptions, claims, What::Stages, set)?;
     let mut text = [0u8; stagetext::LONGEST];
-    lines(console, hand, query, &mut text)
+    lines(console, hand, asked, &mut text)
 }

@@ -1,4 +1,8 @@
 // The list in hand: items noted one by one, or added at once.
+ghost use Rattle.std.specs.Prelude.{[], ◌++◌, ◌∷◌, ◌≡◌, ◌<◌, ◌≤◌, Err, OnErr, OnOk, length, replicate, take, vec_len};
+ghost use Rattle.telling.specs.declared.Fault.TheVariants.{Bad};
+ghost use Rattle.theory.specs.Limits.{limits};
+
 use handed::Handed;
 use printing::Console;
 use replies::Reply;
@@ -7,14 +11,17 @@ use telling::Fault;
 use theory::{HELD, SUPPORTS};
 
 // rule C S..: one item more; a full list has no room.
-pub fn rule(hand: &mut Vec<Handed>, consequent: u32, supports: &[u32]) -> Result<(), Fault> {
+pub fn rule(hand: &mut Vec<Handed>, consequent: u32, supports: &[u32]) -> Result<(), Fault>
+    ensures full { limits.held ≤ vec_len hand.old → result ≡ Err Bad }
+    ensures ok { OnOk result (hand.new.items ≡ hand.old.items ++ record { consequent = consequent; count = length supports.now; supports = take 4 (supports.now ++ replicate 4 0) } ∷ []) }
+    ensures err { OnErr result (hand.new.items ≡ hand.old.items) }
+{
     if HELD <= hand.len() {
         return Err(Fault::Bad);
     }
+    let shown = supports.len().min(SUPPORTS);
     let mut first = [0; SUPPORTS];
-    for (place, support) in first.iter_mut().zip(supports) {
-        *place = *support;
-    }
+    first[..shown].copy_from_slice(&supports[..shown]);
     hand.push(Handed {
         consequent,
         count: supports.len(),

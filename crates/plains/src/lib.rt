@@ -35,12 +35,8 @@ pub fn context(console: Console, store: &Store, set: &[u32]) -> Result<(), Fault
     let Reply::Done = reply else {
         return Err(Fault::Refused(reply));
     };
-    let held = store.held;
-    filled(
-        console,
-        &bytes,
-        held.assumptions as usize + held.claims as usize + 1,
-    )
+    let held = &store.held;
+    filled(console, &bytes, held.assumptions.into(), held.claims.into())
 }
 
 // The lines, on bytes that are enough for any.

@@ -12,8 +12,8 @@ use text::Writer;
 // Where a program writes: its output, and what failed.
 #[derive(Clone, Copy)]
 pub struct Console {
-    pub output: Stdout,
-    pub complaints: Stderr,
+    output: Stdout,
+    complaints: Stderr,
 }
 
 impl Console {
@@ -72,6 +72,7 @@ impl Console {
 }
 
 // Reads until the bytes are full, the input ends or a read fails, and returns how many bytes it put at their start.
+// A loop over `read`: the library's reading to the end says no count where a read fails.
 pub fn read_full(input: &mut Stdin, bytes: &mut [u8]) -> usize
     ensures { result ≤ length bytes.new }
 {

@@ -34,12 +34,8 @@ pub fn context(console: Console, store: &Store, set: &[u32]) -> Result<(), Fault
     let Reply::Done = reply else {
         return Err(Fault::Refused(reply));
     };
-    let held = store.held;
-    filled(
-        console,
-        &bytes,
-        held.assumptions as usize + held.claims as usize + 1,
-    )
+    let held = &store.held;
+    filled(console, &bytes, held.assumptions.into(), held.claims.into())
 }
 
 // member N P

@@ -56,6 +56,7 @@ fn obey(
 }
 
 // The lines one after the other, from the store that holds nothing.
+// A line ends where `line_end` says, whose contract is what a line is; the library's `split` would tie it to none.
 fn replayed(console: Console, alloc: Global, bytes: &[u8])
     requires { length bytes.now ≤ 65536 }
 {

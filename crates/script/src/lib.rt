@@ -107,6 +107,7 @@ fn read_all<T: FromField>(line: &[u8], from: usize, out: &mut [T]) -> Option<usi
 }
 
 // The fields from `from` on as decimal numbers, into out; none where one is bad or out has no room.
+// This and `bytes` are names of their own: the theorem OnceEach is about the contract of each.
 pub fn numbers(line: &[u8], from: usize, out: &mut [u32]) -> Option<usize>
     ensures { AreNumbers line.now from out.old out.new result }
 {
@@ -120,7 +121,7 @@ pub fn bytes(line: &[u8], from: usize, out: &mut [u8]) -> Option<usize>
     read_all(line, from, out)
 }
 
-// Whether a field is a word.
+// Whether a field is a word. Programs match on the words; this stands for its row in the theorem OnceEach.
 pub fn same(field: &[u8], word: &[u8]) -> bool
     ensures { IsSame field.now word.now result }
 {

@@ -1,9 +1,12 @@
 // What the calls of a script share: the fields of a line as numbers, why a line has no answer and how that is told, and sets, bytes and texts.
 #![tactic(auto)]
 
-ghost use Rattle.std.specs.Prelude.{◌↔◌, ◌≡◌, ◌≤◌, IfErr, IfOk, IsOk, length};
-ghost use Rattle.script.specs.Script.{fields_of, numeral, values_of};
-ghost use Rattle.telling.specs.declared.Fault.TheVariants.{Bad};
+ghost use Rattle.std.specs.Prelude.{◌↔◌, ◌≡◌, ◌≤◌, Err, IfErr, IfOk, IsOk, Ok, eqb, false, length, ltb, true};
+ghost use Rattle.replies.specs.declared.Reply.TheVariants.{Number};
+ghost use Rattle.script.specs.Script.{fields_of, numeral, taken_all, values_of};
+ghost use Rattle.telling.specs.declared.Fault.TheVariants.{Bad, Refused};
+ghost use Rattle.theory.specs.Limits.{limits};
+ghost use Rattle.theory.specs.Lists.{some_of};
 
 use printing::Console;
 use replies::Reply;
@@ -74,7 +77,11 @@ pub fn numbers<'a>(rest: &[u8], room: &'a mut [u32; MOST]) -> Result<&'a [u32], 
 }
 
 // The set that a call asks of: with a 0 the line is bad, a number above 32 is refused.
-pub fn asked(numbers: &[u32]) -> Result<Set, Fault> {
+pub fn asked(numbers: &[u32]) -> Result<Set, Fault>
+    ensures zero { some_of (eqb 0) numbers.now ≡ true → result ≡ Err Bad }
+    ensures above { some_of (eqb 0) numbers.now ≡ false → some_of (ltb limits.assumptions) numbers.now ≡ true → result ≡ Err (Refused Number) }
+    ensures set { some_of (eqb 0) numbers.now ≡ false → some_of (ltb limits.assumptions) numbers.now ≡ false → result ≡ Ok (taken_all 0 numbers.now) }
+{
     if script::has_zero(numbers) {
         return Err(Fault::Bad);
     }
@@ -84,8 +91,9 @@ pub fn asked(numbers: &[u32]) -> Result<Set, Fault> {
     Ok(script::set_of(numbers))
 }
 
-// The first n bytes as numbers, a space between two; a store of more numbers has no shape.
-pub fn filled(console: Console, bytes: &[u8], n: usize) -> Result<(), Fault> {
+// The bytes of a context as numbers, a space between two; a store of more numbers has no shape.
+pub fn filled(console: Console, bytes: &[u8], assumptions: u32, claims: u32) -> Result<(), Fault> {
+    let n = assumptions as usize + claims as usize + 1;
     let mut between = "";
     for byte in bytes.get(..n).ok_or(Reply::Shape)? {
         print!(console; "{between}{byte}");
