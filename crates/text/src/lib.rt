@@ -43,7 +43,7 @@ impl<'a> Writer<'a> {
         self.written += 1;
     }
 
-    // A word.
+    // A word. Public for `copy_one` of promises, which speaks of it.
     #[tactic(auto, using(std::proofs::lemmas::Grind::common_steps), unfolding(crate::specs::Writer::added, crate::specs::Writer::placed))]
     pub fn word(&mut self, word: &[u8])
         requires { Room word.now self.old }
@@ -54,7 +54,7 @@ impl<'a> Writer<'a> {
         self.written = end;
     }
 
-    // The decimal digits of n.
+    // The decimal digits of n. Not by `write!`: its answer may be an error, and here is room.
     #[tactic(auto, using(crate::proofs::Added::writes, crate::proofs::Digits::steps))]
     pub fn number(&mut self, n: u32)
         requires { Room (digits n) self.old }
