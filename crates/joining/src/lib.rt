@@ -39,6 +39,7 @@ pub fn gather(labels: &Labels, supports: &[u8], struck: &[Set], joined: Set, poo
         pool.enter(joined);
         return joined;
     };
+    // Fixed places and a count, since no call of the product allocates.
     let mut spent: [Set; LABEL] = [0; LABEL];
     let mut n = 0;
     let mut why = 0;

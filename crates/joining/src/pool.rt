@@ -24,6 +24,7 @@ pub struct Pool {
 }
 
 // Those of the first so many that do not contain e put first, in their order; how many they are.
+// The count stands beside the array, since a part of an array is not lent out of a struct behind a reference.
 fn purge(list: &mut [Set], count: usize, e: Set) -> usize
     requires { count ≤ length list.old }
     ensures { (result ≤ count) × (take result list.new ≡ purged e (take count list.old)) }

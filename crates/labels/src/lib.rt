@@ -19,7 +19,7 @@ use rules::Entry;
 use sets::Set;
 use theory::{MARKS, NOGOODS};
 
-// A list as it was built: its members in their places, unused places zero.
+// A list as it was built: its members in fixed places, since no call of the product allocates; unused places zero.
 #[derive(Clone, Copy)]
 pub struct Built {
     pub count: usize,

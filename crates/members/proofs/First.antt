@@ -1,12 +1,20 @@
 -- The first member within a set: it is of the list and lies within the set, and where there is none no member does. Assumes nothing.
-use Rattle.std.specs.Prelude.{Bool, false, true, List, [], ◌∷◌, ◌≡◌, cond, ◌<◌, suc, zero, ℕ, Some, is_some, get_or, length, refl}
-use Rattle.std.proofs.Common.{arith, subst}
+use Rattle.std.specs.Prelude.{Bool, Option, false, true, List, [], ◌∷◌, ◌≡◌, cond, ◌<◌, suc, zero, ℕ, Some, is_some, get_or, length, refl}
+use Rattle.std.proofs.Common.{◌-◌, ◌^◌, eqb, ap, ap₂, ◌∙◌, arith, subst}
+use Rattle.std.specs.List.{find}
+use native.Mathlib.Nat.{mod-eq_of_lt}
+use lib.Bits.{and_comm, and_le_l, and_mask, or_add_and}
+use borrow.Author.Tests.{eq-eqb, eqb-true}
+use Rattle.sets.proofs.Operations.{and_not}
+use Rattle.sets.specs.Promised.{meet}
+use Rattle.theory.proofs.Lists.{same_test}
+use Rattle.theory.proofs.Sets.{or_within, within_or}
 use mathlib.Core.List.{Memᴰ as Mem}
 use mathlib.Core.List.Memᴰ.{head as here}
 use mathlib.Core.List.Memᴰ.{tail as there}
 use Rattle.members.specs.Promised.{first_within}
 use Rattle.theory.specs.Lists.{some_of}
-use Rattle.theory.specs.Sets.{contains, within}
+use Rattle.theory.specs.Sets.{contains, within, without}
 
 -- E contains a set of the list exactly when one is found
 pub contains_first : (l : List ℕ) (E : ℕ) → contains l E ≡ is_some (first_within l E)
@@ -22,6 +30,21 @@ found_is (G ∷ l) E F e = go (within G E) refl e (found_is l E F)
     go : (b : Bool) → within G E ≡ b → cond b (Some G) (first_within l E) ≡ Some F → (first_within l E ≡ Some F → Mem F l × (within F E ≡ true)) → Mem F (G ∷ l) × (within F E ≡ true)
     go true w e h = let q : G ≡ F = cc in (subst (λ (x : ℕ). Mem x (G ∷ l)) q (here refl), subst (λ (x : ℕ). within x E ≡ true) q w)
     go false w e h = (there (h e).0, (h e).1)
+
+-- ---- the test of a member: nothing of it is among what E has not
+module _ (E : ℕ) (q : E < 2 ^ 32) where
+  out_is : (a : ℕ) → a < 2 ^ 32 → meet a (without (2 ^ 32 - 1) E) ≡ a - meet a E
+  unfolding without
+  out_is a p = ap (λ (x : ℕ). meet a ((2 ^ 32 - 1) - x)) (and_comm (2 ^ 32 - 1) E ∙ and_mask E 32 ∙ mod-eq_of_lt q) ∙ and_not 32 a E p q
+
+  test_is : (a : ℕ) → a < 2 ^ 32 → eqb (meet a (without (2 ^ 32 - 1) E)) 0 ≡ within a E
+  test_is a p =
+      same_test (λ t. let z : meet a (without (2 ^ 32 - 1) E) ≡ 0 = eqb-true (meet a (without (2 ^ 32 - 1) E)) 0 t in or_within a E (omega (arith, out_is a p, or_add_and a E, and_le_l a E)))
+      (λ t. eq-eqb (meet a (without (2 ^ 32 - 1) E)) 0 (omega (arith, out_is a p, within_or a E t, or_add_and a E, and_le_l a E)))
+
+  pub found_by : (l : List ℕ) → ((i : ℕ) → get_or l i 0 < 2 ^ 32) → find (λ a. eqb (meet a (without (2 ^ 32 - 1) E)) 0) l ≡ first_within l E
+  found_by [] h = refl
+  found_by (x ∷ l) h = ap₂ (λ (b : Bool) (r : Option ℕ). cond b (Some x) r) (test_is x (h 0)) (found_by l (λ i. h (suc i)))
 
 -- ---- by place
 pub at_mem : (l : List ℕ) (i : ℕ) → i < length l → Mem (get_or l i 0) l

@@ -6,7 +6,7 @@ use mathlib.Core.List.Memᴰ.{tail as there}
 use mathlib.Core.List.{List, Memᴰ as Mem, [], ◌∷◌, map}
 use mathlib.Core.Logic.{◌⊎◌, inl, inr, ⊎_elim}
 use mathlib.Core.Path.{◌∙◌, ◌≡◌, ap, ap₂, refl, subst, sym}
-use Prim.Native.Nat.{◌+◌, ◌<◌, ◌≤◌, suc, zero, ℕ}
+use Prim.Native.Nat.{◌+◌, ◌-◌, ◌<◌, ◌≤◌, suc, zero, ℕ}
 use native.Mathlib.Nat.{le_of_suc-le-suc, not-suc-le-zero}
 use native.Mathlib.Numerals.{add-one}
 use native.Mathlib.Omega.{arith}
@@ -117,6 +117,17 @@ module _ (moved : List ℕ) where
   pub touched_end : (entries : List Entry) (j : ℕ) → length entries ≤ j → (marks : List ℕ) → Touched moved (map meaning (take j entries)) marks → Touched moved (map meaning entries) marks
   touched_end entries j a marks u = subst (λ (l : List Entry). Touched moved (map meaning l) marks) (take_all j entries a) u
 
+-- ---- the stage before
+record Before (h : Held) (k : ℕ) (moved : List ℕ) : Type 0 where
+  before : ℕ
+  next : k ≡ suc before
+  same : (s : ℕ) → s ≤ limits.numbers → get_or moved s 0 ≡ 0 → label_in (stage_by h (suc before)).labels s ≡ label_in (stage_by h before).labels s
+
+told_before : {h : Held} {k : ℕ} {moved : List ℕ} → Since h k moved → Before h k moved
+told_before {h} {k} {moved} t =
+    let q : k ≡ suc (k - 1) = omega (arith, t.later) in
+    record { before = k - 1; next = q; same = λ s low e. ap (λ (m : ℕ). label_in (stage_by h m).labels s) (sym q) ∙ t.same s low e }
+
 -- ---- from the marks of a step
 module _ (h : Held) where
   abbrev A : ℕ
@@ -145,7 +156,7 @@ module _ (h : Held) where
 
     pub fresh_on : Fresh h (k + 1) marks
     fresh_on = record {
-      since = λ z. record { before = k; next = add-one k; same = λ s low e. ap (λ (m : ℕ). label_in (stage_by h m).labels s) (sym (add-one k)) ∙ unmoved s low e };
+      since = λ z. record { later = omega arith; same = λ s low e. let q : k + 1 - 1 ≡ k = omega arith in unmoved s low e ∙ ap (λ (m : ℕ). label_in (stage_by h m).labels s) (sym q) };
     }
 
     -- no news and no mark: the stages agree
@@ -196,7 +207,7 @@ module _ (h : Held) where
   pub stale_from : (k : ℕ) (moved : List ℕ) → Fresh h k moved → (N ≤ limits.numbers) → ((r : Justification) → Mem r (said_by h) → (s : ℕ) → Mem s r.supports → s ≤ h.assumptions + h.claims) → (stale : List ℕ) → Touched moved (said_by h) stale → Stale h k stale
   stale_from k moved f few range stale u = λ n low z.
       let t = u n low z in
-      let i = f.since t.0 in
+      let i = told_before (f.since t.0) in
       record {
         before = i.before;
         next = i.next;
@@ -224,8 +235,8 @@ module _ (h : Held) (l : Lists) (re : Reached h l) (moved : List ℕ) (f : Fresh
   lying_is s low = lies K (stage_by h K) re.room l re.is s (omega (arith, wide h re.judgeable)) ∙ stage_label_in A' N' J' K s low
 
   module _ (r : Justification) (m : Mem r (said_by h)) (u : stirs moved r.supports ≡ false) where
-    abbrev since : Since h K moved
-    since = f.since (not_stirred moved r.supports u).0
+    abbrev since : Before h K moved
+    since = told_before (f.since (not_stirred moved r.supports u).0)
 
     abbrev b : ℕ
     b = since.before

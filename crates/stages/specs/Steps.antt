@@ -1,5 +1,5 @@
 -- One stage after the other, as the code hands them on. Assumes nothing.
-use Rattle.std.specs.Prelude.{Bool, false, not, true, ◌≡◌, ◌*◌, ◌+◌, ◌≤◌, suc, zero, ℕ, Option, Some, None, Result, Ok, Err, eqb, get_or, length, set}
+use Rattle.std.specs.Prelude.{Bool, false, not, true, ◌≡◌, ◌*◌, ◌+◌, ◌-◌, ◌≤◌, suc, zero, ℕ, Option, Some, None, Result, Ok, Err, eqb, get_or, length, set}
 use mathlib.Core.List.{List, Memᴰ as Mem}
 use Rattle.std.proofs.Math.Seq.{paste}
 use Rattle.labels.specs.Moved.{stirs}
@@ -87,9 +87,8 @@ Stale h k stale = (n : ℕ) → n ≤ limits.numbers → get_or stale n 0 ≡ 0 
 
 -- where there is no mark at place 0, each label without one is that of the stage before
 pub record Since (h : Held) (k : ℕ) (moved : List ℕ) : Type 0 where
-  pub before : ℕ
-  pub next : k ≡ suc before
-  pub same : (s : ℕ) → s ≤ limits.numbers → get_or moved s 0 ≡ 0 → label_in (stage_by h (suc before)).labels s ≡ label_in (stage_by h before).labels s
+  pub later : 1 ≤ k
+  pub same : (s : ℕ) → s ≤ limits.numbers → get_or moved s 0 ≡ 0 → label_in (stage_by h k).labels s ≡ label_in (stage_by h (k - 1)).labels s
 
 pub record Fresh (h : Held) (k : ℕ) (moved : List ℕ) : Type 0 where
   pub since : get_or moved 0 0 ≡ 0 → Since h k moved

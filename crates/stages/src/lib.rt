@@ -48,109 +48,116 @@ pub fn start(assumptions: u8) -> Lists
     lists
 }
 
-// The step to the next stage: its nogoods first, then every label with those nogoods, written over the old ones, and a mark for each that changed. Whether no list changed.
-fn next(
-    held: &Held,
-    tallies: &[u16; MARKS],
-    moved: &[u8; MARKS],
-    lists: &Lists,
-    later: &mut Lists,
-    marks: &mut [u8; MARKS],
-) -> Result<bool, Reply>
-    requires { Reached held.now lists.now × (tallies.now ≡ tallied held.now) × Fresh held.now lists.now.depth moved.now × (later.old ≡ lists.now) × (marks.old ≡ replicate (limits.numbers + 1) 0) }
-    ensures { Stepped held.now lists.now.depth later.new marks.new result }
-{
-    let stale = touched(held, moved);
-    let Some(built) = refuted(held, tallies[0] as usize, lists, stale[0], moved) else {
-        return Err(Reply::Nogoods);
-    };
-    let struck = &built.sets[..built.count];
-    let news = differs(struck, &lists.nogoods[..lists.count]);
-    let over = relabel(
-        held, tallies, &stale, moved, news, lists, struck, later, marks,
-    );
-    if let Some(n) = over {
-        return Err(Reply::Label(n));
-    }
-    later.count = built.count;
-    later.nogoods = built.sets;
-    later.depth = lists.depth + 1;
-    Ok(!news && slices::zeros(marks))
+// What a step to the next stage reads: what is held, its tally, the lists of the stage, and a mark for each label that changed in the step before.
+#[derive(Clone, Copy)]
+struct Step<'a> {
+    held: &'a Held,
+    tallies: &'a [u16; MARKS],
+    lists: &'a Lists,
+    moved: &'a [u8; MARKS],
+    ghost reached: { Reached held.now lists.now },
+    ghost counted: { tallies.now ≡ tallied held.now },
+    ghost fresh: { Fresh held.now lists.now.depth moved.now },
 }
 
-// The nogoods of the next stage, built where they are stale; none where they are more than the limit.
-fn refuted(held: &Held, end: usize, lists: &Lists, stale: u8, moved: &[u8; MARKS]) -> Option<Built>
-    requires { Reached held.now lists.now × (end ≡ get_or (tallied held.now) 0 0) × (stale ≡ 0 → Steady held.now lists.now.depth 0) × Fresh held.now lists.now.depth moved.now }
-    ensures { result ≡ built_of limits.nogoods (stage_by held.now (lists.now.depth + 1)).nogoods }
-{
-    if stale == 0 {
-        return Some(Built {
-            count: lists.count,
-            sets: lists.nogoods,
-        });
+impl Step<'_> {
+    // The nogoods of the next stage first, then every label with those nogoods, written over the old ones, and a mark for each that changed. Whether no list changed.
+    fn next(&self, later: &mut Lists, marks: &mut [u8; MARKS]) -> Result<bool, Reply>
+        requires { (later.old ≡ self.now.lists.now) × (marks.old ≡ replicate (limits.numbers + 1) 0) }
+        ensures { Stepped self.now.held.now self.now.lists.now.depth later.new marks.new result }
+    {
+        let stale = touched(self.held, self.moved);
+        let Some(built) = self.refuted(stale[0]) else {
+            return Err(Reply::Nogoods);
+        };
+        let struck = &built.sets[..built.count];
+        let news = differs(struck, &self.lists.nogoods[..self.lists.count]);
+        let over = self.relabel(&stale, news, struck, later, marks);
+        if let Some(n) = over {
+            return Err(Reply::Label(n));
+        }
+        later.count = built.count;
+        later.nogoods = built.sets;
+        later.depth = self.lists.depth + 1;
+        Ok(!news && slices::zeros(marks))
     }
-    let labels = Labels {
-        members: &lists.members,
-        sizes: &lists.sizes,
-    };
-    labels::build(
-        &held.entries[..end],
-        0,
-        &labels,
-        &lists.nogoods[..lists.count],
-        &[],
-        moved,
-        NOGOODS,
-    )
-}
 
-// The labels of the next stage over the old ones, a mark for each that changed: those that are stale built, of the others what the nogoods leave where they changed. The lowest number whose label is over, if one is.
-fn relabel(
-    held: &Held,
-    tallies: &[u16; MARKS],
-    stale: &[u8; MARKS],
-    moved: &[u8; MARKS],
-    news: bool,
-    lists: &Lists,
-    struck: &[Set],
-    later: &mut Lists,
-    marks: &mut [u8; MARKS],
-) -> Option<u8>
-    requires { Reached held.now lists.now × (tallies.now ≡ tallied held.now) × (struck.now ≡ (stage_by held.now (lists.now.depth + 1)).nogoods) × Stale held.now lists.now.depth stale.now × Fresh held.now lists.now.depth moved.now × Told held.now lists.now.depth news × (later.old ≡ lists.now) × (marks.old ≡ replicate (limits.numbers + 1) 0) }
-    ensures { Relabelled held.now lists.now.depth later.new.members later.new.sizes marks.new result }
-{
-    let labels = Labels {
-        members: &lists.members,
-        sizes: &lists.sizes,
-    };
-    let mut hi = tallies[0] as usize;
-    for i in 0..held.assumptions + held.claims {
-        let at = i as usize;
-        let n = i + 1;
-        let lo = hi;
-        hi = lo + tallies[at + 1] as usize;
-        let old = labels.of(n);
-        if stale[at + 1] != 0 {
-            let Some(label) = labels::build(
-                &held.entries[lo..hi],
-                n,
-                &labels,
-                old,
-                struck,
-                moved,
-                LABEL,
-            ) else {
-                return Some(n);
-            };
-            put(later, marks, at, label, old);
-            continue;
+    // The nogoods of the next stage, built where they are stale; none where they are more than the limit.
+    fn refuted(&self, stale: u8) -> Option<Built>
+        requires { stale ≡ 0 → Steady self.now.held.now self.now.lists.now.depth 0 }
+        ensures { result ≡ built_of limits.nogoods (stage_by self.now.held.now (self.now.lists.now.depth + 1)).nogoods }
+    {
+        let lists = self.lists;
+        if stale == 0 {
+            return Some(Built {
+                count: lists.count,
+                sets: lists.nogoods,
+            });
         }
-        if !news {
-            continue;
-        }
-        put(later, marks, at, strike(old, struck), old);
+        let labels = Labels {
+            members: &lists.members,
+            sizes: &lists.sizes,
+        };
+        let held = self.held;
+        let end = self.tallies[0] as usize;
+        labels::build(
+            &held.entries[..end],
+            0,
+            &labels,
+            &lists.nogoods[..lists.count],
+            &[],
+            self.moved,
+            NOGOODS,
+        )
     }
-    None
+
+    // The labels of the next stage over the old ones, a mark for each that changed: those that are stale built, of the others what the nogoods leave where they changed. The lowest number whose label is over, if one is.
+    fn relabel(
+        &self,
+        stale: &[u8; MARKS],
+        news: bool,
+        struck: &[Set],
+        later: &mut Lists,
+        marks: &mut [u8; MARKS],
+    ) -> Option<u8>
+        requires { (struck.now ≡ (stage_by self.now.held.now (self.now.lists.now.depth + 1)).nogoods) × Stale self.now.held.now self.now.lists.now.depth stale.now × Told self.now.held.now self.now.lists.now.depth news × (later.old ≡ self.now.lists.now) × (marks.old ≡ replicate (limits.numbers + 1) 0) }
+        ensures { Relabelled self.now.held.now self.now.lists.now.depth later.new.members later.new.sizes marks.new result }
+    {
+        let lists = self.lists;
+        let labels = Labels {
+            members: &lists.members,
+            sizes: &lists.sizes,
+        };
+        let held = self.held;
+        let mut hi = self.tallies[0] as usize;
+        for i in 0..held.assumptions + held.claims {
+            let at = i as usize;
+            let n = i + 1;
+            let lo = hi;
+            hi = lo + self.tallies[at + 1] as usize;
+            let old = labels.of(n);
+            if stale[at + 1] != 0 {
+                let Some(label) = labels::build(
+                    &held.entries[lo..hi],
+                    n,
+                    &labels,
+                    old,
+                    struck,
+                    self.moved,
+                    LABEL,
+                ) else {
+                    return Some(n);
+                };
+                put(later, marks, at, label, old);
+                continue;
+            }
+            if !news {
+                continue;
+            }
+            put(later, marks, at, strike(old, struck), old);
+        }
+        None
+    }
 }
 
 // A label put in its places with its size and a mark, where it is another than the old one.
@@ -234,7 +241,13 @@ pub fn judge(held: Held) -> Result<Lists, Reply>
     let mut moved = [1u8; MARKS];
     loop {
         let mut marks = [0u8; MARKS];
-        if next(&held, &tallies, &moved, &lists, &mut later, &mut marks)? {
+        let step = Step {
+            held: &held,
+            tallies: &tallies,
+            lists: &lists,
+            moved: &moved,
+        };
+        if step.next(&mut later, &mut marks)? {
             return Ok(lists);
         }
         lists = later;
