@@ -4,6 +4,7 @@
 ghost use Rattle.std.specs.Prelude.{◌≡◌, ◌≤◌};
 ghost use Rattle.theory.specs.Limits.{limits};
 ghost use Rattle.store.specs.Shape.{RightShape, held_fits};
+ghost use Rattle.replies.specs.Replies.{checked};
 ghost use Rattle.store.specs.Reading.{refusal_of};
 ghost use Rattle.store.specs.Calls.{Added, JudgedAnew, Opened, Withdrawn, after_of, judged_of, result_of, start_store};
 
@@ -90,23 +91,23 @@ impl Store {
         shape::right(lists, a, a + held.claims)
     }
 
-    // Why a call that reads n and e is refused: the shape, then n above the highest number or an assumption in e above the last; else done.
-    pub fn refusal(self, n: u32, e: Set) -> Reply
-        ensures { result ≡ refusal_of self n e }
+    // Whether a call that reads n and e may go on: not with another shape, then not with n above the highest number or an assumption in e above the last.
+    pub fn refusal(self, n: u32, e: Set) -> Result<(), Reply>
+        ensures { result ≡ checked (refusal_of self n e) }
     {
         if !self.shape() {
-            return Reply::Shape;
+            return Err(Reply::Shape);
         }
         let held = self.held;
         let a = held.assumptions;
         let top = (a + held.claims) as u32;
         if top < n {
-            return Reply::Number;
+            return Err(Reply::Number);
         }
         if !sets::low(e, a) {
-            return Reply::Number;
+            return Err(Reply::Number);
         }
-        Reply::Done
+        Ok(())
     }
 
     // A store that holds nothing, of so many assumptions and claims.
