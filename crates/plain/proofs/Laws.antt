@@ -5,13 +5,13 @@ use mathlib.Core.Logic.{⊎_elim}
 use mathlib.Core.Path.{◌∙◌, ◌≡◌, ap, ap₂, refl, sym}
 use Prim.Native.Nat.{◌+◌, ◌<◌, ◌≤◌, suc, zero, ℕ}
 use native.Mathlib.Omega.{arith}
-use lib.Dec.{ltb}
+use lib.Dec.{eqb, ltb}
 use lib.ListN.{get_or-eq_default, drop, get_or, length, replicate, set}
-use borrow.Author.Tests.{eq-eqb, eqb-true, le-ltb, lt-ltb, ltb-false, ltb-true, ne_eqb}
+use borrow.Author.Tests.{eq-eqb, eqb-false, eqb-true, le-ltb, lt-ltb, ltb-false, ltb-true, ne_eqb}
 use Rattle.std.specs.Prelude.{◌≢◌, Result, Ok, Err, ⊤}
 use lib.ListN.{take}
 use lib.Seq.{length-take-le}
-use Rattle.asking.proofs.Laws.{refused_bytes, refused_reply}
+use Rattle.asking.proofs.Laws.{followable_found, refused_bytes, refused_reply}
 use Rattle.asking.specs.Asking.{context_reply}
 use Rattle.following.proofs.First.{stages_since}
 use Rattle.following.specs.First.{stages_from}
@@ -73,6 +73,21 @@ sow_turn E k v m h e q =
     (⊎_elim (λ (t : ltb n k ≡ true). t ∙ sym (lt-ltb n (k + 1) (omega (arith, ltb-true n k t))))
     (λ (t : ltb n k ≡ false). let l : k ≤ n = ltb-false n k t in t ∙ sym (le-ltb n (k + 1) (above n k l ne)))
     (either (ltb n k))))
+  where
+    above : (n k : ℕ) → k ≤ n → (n ≡ k → ⊥) → k + 1 ≤ n
+    above n k l ne = omega arith
+
+pub sow_skip : (E k : ℕ) → among E k ≡ false → table (limits.numbers + 1) (sowing E k) ≡ table (limits.numbers + 1) (sowing E (k + 1))
+unfolding sowing
+sow_skip E k q = table_same (limits.numbers + 1) (sowing E k) (sowing E (k + 1)) 255 (λ n l.
+    ⊎_elim (λ (t : ltb n k ≡ true). ap (λ (b : Bool). choose (b && among E n) 0 255) (t ∙ sym (lt-ltb n (k + 1) (omega (arith, ltb-true n k t)))))
+    (λ (t : ltb n k ≡ false).
+    ⊎_elim (λ (u : eqb n k ≡ true).
+    let e : among E n ≡ false = ap (among E) (eqb-true n k u) ∙ q in
+    ap₂ (λ (b c : Bool). choose (b && c) 0 255) t e ∙ sym (ap₂ (λ (b c : Bool). choose (b && c) 0 255) (lt-ltb n (k + 1) (omega (arith, eqb-true n k u))) e))
+    (λ (u : eqb n k ≡ false). ap (λ (b : Bool). choose (b && among E n) 0 255) (t ∙ sym (le-ltb n (k + 1) (above n k (ltb-false n k t) (eqb-false n k u)))))
+    (either (eqb n k)))
+    (either (ltb n k)))
   where
     above : (n k : ℕ) → k ≤ n → (n ≡ k → ⊥) → k + 1 ≤ n
     above n k l ne = omega arith
@@ -204,10 +219,8 @@ module _ (s : Store) where
           go false x = refl
 
 -- what the calls cite
-pub ruleset of_follow = (followed_refused, followed_done)
-
-pub ruleset of_question = (question_refused, question_says)
+pub ruleset of_follow = (followed_done, followable_found)
 
 pub ruleset of_fill = (short_reply, short_bytes, full_reply, full_bytes)
 
-pub ruleset of_context = (context_refused_reply, context_refused_bytes, context_filled_reply, context_filled_bytes, top_known)
+pub ruleset of_context = (context_refused_bytes, top_known)

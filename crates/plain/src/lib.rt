@@ -89,7 +89,7 @@ pub fn word(marks: [u8; MARKS], top: u8, n: u32) -> Result<Plain, Reply>
 }
 
 // What e is to n, or why that is not told.
-#[tactic(auto, using(crate::proofs::Laws::of_question))]
+#[tactic(auto, using(crate::proofs::Laws::question_says))]
 fn said(store: Store, n: u32, e: Set) -> Result<Plain, Reply>
     ensures { result ≡ plain_of store n e }
 {
