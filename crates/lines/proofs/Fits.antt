@@ -7,7 +7,7 @@ use borrow.Author.Tests.{le-ltb}
 use Rattle.lent.specs.Lent.{Leaves, fitted, kept}
 use Rattle.lines.specs.Lines.{RefusalLined, case_text, heading_of, line_of, line_text, refusal_text}
 use Rattle.std.proofs.Common.{Result, Err}
-use Rattle.replies.specs.Replies.{number_of}
+use Rattle.replies.specs.Replies.{checked}
 use Rattle.replies.specs.declared.Reply.{Reply}
 use Rattle.replies.specs.declared.Reply.TheVariants.{Shape}
 use Rattle.store.proofs.Reading.{Readable, refused_number}
@@ -17,9 +17,9 @@ use Rattle.store.specs.declared.Store.{Store}
 
 module _ (s : Store) (out : List ℕ) where
   module _ (n : ℕ) where
-    pub line_refused : (r : Reply) → r ≡ refusal_of s n 0 → (number_of r ≡ 0 → ⊥) → Leaves (line_of s n out) (Err r) out
+    pub line_refused : (r : Reply) → Err r ≡ checked (refusal_of s n 0) → Leaves (line_of s n out) (Err r) out
     unfolding line_of
-    line_refused r e d = refused_number s n r e d (λ x. kept x out) (fitted (line_text s n) out)
+    line_refused r e = refused_number s n r e (λ x. kept x out) (fitted (line_text s n) out)
 
     pub line_rest : Readable s n 0 → {t : List ℕ} → t ≡ line_text s n → {r : Result ℕ Reply} {after : List ℕ} → Leaves (fitted t out) r after → Leaves (line_of s n out) r after
     unfolding line_of

@@ -35,10 +35,7 @@ fn contradicted(store: &Store, n: u32) -> bool
 fn read(store: Store, n: u32, out: &mut [u8]) -> Result<usize, Reply>
     ensures { Leaves (line_of store n out.old) result out.new }
 {
-    let reply = store.refusal(n, 0);
-    if replies::number(reply) != 0 {
-        return Err(reply);
-    }
+    store.refusal(n, 0)?;
     let mut text = [0u8; LONGEST];
     let mut writer = Writer::new(&mut text);
     wording::lined(&store, n, contradicted(&store, n), &mut writer);

@@ -25,6 +25,7 @@ use Rattle.following.proofs.Places.{held_placed}
 use Rattle.following.proofs.Staging.{Placed}
 use Rattle.following.specs.First.{since_of}
 use Rattle.following.specs.Marks.{marks_of, sown}
+use Rattle.following.specs.Promised.{Followable}
 use Rattle.plain.proofs.Since.{since_ever}
 use Rattle.plain.specs.Plainly.{byte_of, fill_bytes, fill_reply, followed_of, plain_after, plain_by, plain_bytes, plain_of, read_from}
 use Rattle.plain.specs.declared.Plain.{Plain}
@@ -137,8 +138,11 @@ module _ (m : List ℕ) (N : ℕ) (out : List ℕ) where
 
 -- ---- the calls
 module _ (s : Store) where
+  pub followable : Fitting s.held → Followable s.held
+  followable f = record { right = f.right; low = omega (arith, f.few, f.claims) }
+
   pub placed : Fitting s.held → Placed (said_by s.held)
-  placed f = held_placed s.held (record { right = f.right; low = omega (arith, f.few, f.claims) })
+  placed f = held_placed s.held (followable f)
 
   abbrev marks : ℕ → List ℕ
   marks E = table (limits.numbers + 1) (since_of (said_by s.held) E)

@@ -22,7 +22,7 @@ use Rattle.std.specs.Option.{unwrap_or}
 use Rattle.stagetext.proofs.Turns.{from_number, number_end, number_more, number_none, number_start, number_turn}
 use Rattle.plain.proofs.Laws.{placed}
 use Rattle.plain.proofs.Since.{since_by}
-use Rattle.replies.specs.Replies.{number_of}
+use Rattle.replies.specs.Replies.{checked}
 use Rattle.replies.specs.declared.Reply.{Reply}
 use Rattle.replies.specs.declared.Reply.TheVariants.{Number, Short}
 use Rattle.rules.specs.Held.{said_by}
@@ -175,9 +175,9 @@ module _ (m : List ℕ) (N count : ℕ) (out t : List ℕ) (low : N ≤ limits.n
 
 -- ---- the call
 module _ (s : Store) (E : ℕ) (out : List ℕ) where
-  pub lines_refused : (r : Reply) → r ≡ refusal_of s 0 E → (number_of r ≡ 0 → ⊥) → StagesLined s E out (record { answer = Err r; store = s }) out
+  pub lines_refused : (r : Reply) → Err r ≡ checked (refusal_of s 0 E) → StagesLined s E out (record { answer = Err r; store = s }) out
   unfolding stages_of
-  lines_refused r e d = hands s (refused_set s E r e d (λ x. kept x out) (fitted (stage_text (top s.held) (said_by s.held) E) out))
+  lines_refused r e = hands s (refused_set s E r e (λ x. kept x out) (fitted (stage_text (top s.held) (said_by s.held) E) out))
 
   pub lines_put : Readable s 0 E → (m : List ℕ) → m ≡ table (limits.numbers + 1) (since_of (said_by s.held) E) → (r : Result ℕ Reply) (after : List ℕ) → record { answer = r; bytes = after } ≡ put_of m (top s.held) out
       → StagesLined s E out (record { answer = r; store = s }) after

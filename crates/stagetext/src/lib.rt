@@ -126,16 +126,16 @@ pub fn put(marks: [u8; MARKS], top: u8, out: &mut [u8]) -> Result<usize, Reply>
 pub fn lines(store: Store, e: Set, out: &mut [u8]) -> Listed
     ensures { StagesLined store e out.old result out.new }
 {
-    let followed = plain::follow(store, 0, e);
-    let reply = followed.reply;
-    if replies::number(reply) != 0 {
-        return Listed {
-            answer: Err(reply),
-            store,
-        };
-    }
+    let marks = match plain::follow(store, 0, e) {
+        Ok(marks) => marks,
+        Err(reply) => {
+            return Listed {
+                answer: Err(reply),
+                store,
+            };
+        }
+    };
     let held = store.held;
-    let marks = followed.marks;
     let answer = put(marks, held.assumptions + held.claims, out);
     Listed { answer, store }
 }
