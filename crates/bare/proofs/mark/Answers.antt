@@ -26,4 +26,4 @@ pub mark-requires : goal.mark-requires
 mark-requires c = let a = c.args in let f = entry_fits a.top a.item c.requires.2 _ c.canonical-entry.ensures c.requires.0 in record { few = f.0; low = f.1; placed = f.2 }
 
 pub returns : goal.returns
-returns c = let a = c.args in c.mark.ensures ∙ ap (mark_by a.k (a.k + 1) a.marks) (means a.top a.item c.requires.2 _ c.canonical-entry.ensures)
+returns c = let a = c.args in c.mark.ensures ∙ ap (mark_by a.k (a.k + 1) a.marks.now) (means a.top a.item c.requires.2 _ c.canonical-entry.ensures)
