@@ -74,24 +74,23 @@ pub fn keep(reply: Reply, at: u32, store: Store) -> Kept
 pub fn reason(out: asking::Asked) -> Reasoned
     ensures { result ≡ reasoned_by out.answer }
 {
-    let answer = out.answer;
-    match answer {
-        Answer::Inconsistent(nogood) => Reasoned {
+    match out.answer {
+        Ok(Answer::Inconsistent(nogood)) => Reasoned {
             reply: 0,
             answer: 2,
             reason: nogood,
         },
-        Answer::Supported(member) => Reasoned {
+        Ok(Answer::Supported(member)) => Reasoned {
             reply: 0,
             answer: 1,
             reason: member,
         },
-        Answer::Unsupported => Reasoned {
+        Ok(Answer::Unsupported) => Reasoned {
             reply: 0,
             answer: 0,
             reason: 0,
         },
-        Answer::Refused(reply) => Reasoned {
+        Err(reply) => Reasoned {
             reply: replies::number(reply) as u32,
             answer: 0,
             reason: 0,
@@ -100,14 +99,14 @@ pub fn reason(out: asking::Asked) -> Reasoned
 }
 
 // The word without its reason.
-pub fn plainly(word: Plain) -> Told
+pub fn plainly(word: Result<Plain, Reply>) -> Told
     ensures { result ≡ plainly_by word }
 {
     match word {
-        Plain::Inconsistent => Told { reply: 0, value: 2 },
-        Plain::Supported => Told { reply: 0, value: 1 },
-        Plain::Unsupported => Told { reply: 0, value: 0 },
-        Plain::Refused(reply) => Told {
+        Ok(Plain::Inconsistent) => Told { reply: 0, value: 2 },
+        Ok(Plain::Supported) => Told { reply: 0, value: 1 },
+        Ok(Plain::Unsupported) => Told { reply: 0, value: 0 },
+        Err(reply) => Told {
             reply: replies::number(reply) as u32,
             value: 0,
         },

@@ -35,10 +35,11 @@ pub fn ask(
     set: &[u32],
 ) -> Result<(), Fault> {
     let asked = query(assumptions, claims, What::Number(n), set)?;
-    match bare::ask(asked, hand, &mut []) {
-        Told::Word(answer) => word(console, answer),
-        _ => Err(Fault::Refused(Reply::Shape)),
-    }
+    let Told::Word(answer) = bare::ask(asked, hand, &mut [])? else {
+        return Err(Fault::Refused(Reply::Shape));
+    };
+    word(console, answer);
+    Ok(())
 }
 
 // barecontext A M K..
@@ -51,21 +52,20 @@ pub fn context(
 ) -> Result<(), Fault> {
     let asked = query(assumptions, claims, What::Context, set)?;
     let mut bytes = [0u8; MARKS];
-    match bare::ask(asked, hand, &mut bytes) {
-        Told::Filled(Reply::Done) => filled(console, &bytes, assumptions, claims),
-        Told::Filled(reply) => Err(Fault::Refused(reply)),
-        _ => Err(Fault::Refused(Reply::Shape)),
-    }
+    let Told::Filled = bare::ask(asked, hand, &mut bytes)? else {
+        return Err(Fault::Refused(Reply::Shape));
+    };
+    filled(console, &bytes, assumptions, claims)
 }
 
 // The lines of a bare list, on bytes that are enough for any.
 fn lines(console: Console, hand: &[Handed], asked: Query, text: &mut [u8]) -> Result<(), Fault>
     requires { longest ≤ length text.old }
 {
-    match bare::ask(asked, hand, text) {
-        Told::Lines(answer) => told(console, answer, text),
-        _ => Err(Fault::Refused(Reply::Shape)),
-    }
+    let Told::Lines(length) = bare::ask(asked, hand, text)? else {
+        return Err(Fault::Refused(Reply::Shape));
+    };
+    told(console, Ok(length), text)
 }
 
 // barestages A M K..

@@ -6,18 +6,17 @@ ghost use Rattle.across.specs.Across.{barely_by, query_by};
 use across::Asked;
 use bare::Told;
 use handed::Handed;
+use replies::Reply;
 
 // The answer in numbers, as the call of a store gives it.
-fn say(told: Told) -> across::Told
+fn say(told: Result<Told, Reply>) -> across::Told
     ensures { result ≡ barely_by told }
 {
     match told {
-        Told::Word(word) => across::plainly(word),
-        Told::Filled(reply) => across::Told {
-            reply: replies::number(reply) as u32,
-            value: 0,
-        },
-        Told::Lines(lines) => across::written(lines),
+        Ok(Told::Word(word)) => across::plainly(Ok(word)),
+        Ok(Told::Filled) => across::Told { reply: 0, value: 0 },
+        Ok(Told::Lines(length)) => across::written(Ok(length)),
+        Err(reply) => across::written(Err(reply)),
     }
 }
 

@@ -7,7 +7,6 @@ ghost use Rattle.store.specs.Shape.{right_shape};
 ghost use Rattle.across.specs.Across.{found_by, plainly_by, reasoned_by};
 
 use across::{Reasoned, Told};
-use asking::Found;
 use store::Store;
 
 // Whether the store has the right shape.
@@ -44,13 +43,12 @@ pub extern "C" fn door_member(store: Store, n: u32, place: usize) -> Told
     ensures { result ≡ found_by (member_of store n place) }
 {
     let out = asking::member(store, n, place);
-    let answer = out.answer;
-    match answer {
-        Found::Is(e) => Told {
+    match out.answer {
+        Ok(e) => Told {
             reply: 0,
             value: e as usize,
         },
-        Found::Not(reply) => Told {
+        Err(reply) => Told {
             reply: replies::number(reply) as u32,
             value: 0,
         },

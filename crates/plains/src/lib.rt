@@ -12,20 +12,19 @@ use store::Store;
 use telling::{Fault, asked, filled, told};
 use theory::MARKS;
 
-// A bare word, or the refusal.
-pub fn word(console: Console, answer: Plain) -> Result<(), Fault> {
+// A bare word.
+pub fn word(console: Console, answer: Plain) {
     match answer {
         Plain::Inconsistent => console.say(b"inconsistent\n"),
         Plain::Supported => console.say(b"supported\n"),
         Plain::Unsupported => console.say(b"unsupported\n"),
-        Plain::Refused(reply) => return Err(Fault::Refused(reply)),
     }
-    Ok(())
 }
 
 // plain N K..
 pub fn ask(console: Console, store: &Store, n: u32, set: &[u32]) -> Result<(), Fault> {
-    word(console, plain::question(*store, n, asked(set)?).answer)
+    word(console, plain::question(*store, n, asked(set)?).answer?);
+    Ok(())
 }
 
 // plaincontext K..

@@ -1,7 +1,7 @@
 // The calls that read the store, one each: the call made, its reply printed.
 #![tactic(auto)]
 
-use asking::{Answer, Found};
+use asking::Answer;
 use printing::Console;
 use replies::Reply;
 use sets::Set;
@@ -18,11 +18,10 @@ fn because(console: Console, word: &str, set: Set) {
 
 // ask N K..
 pub fn ask(console: Console, store: &Store, n: u32, set: &[u32]) -> Result<(), Fault> {
-    match asking::question(*store, n, asked(set)?).answer {
+    match asking::question(*store, n, asked(set)?).answer? {
         Answer::Inconsistent(set) => because(console, "inconsistent", set),
         Answer::Supported(set) => because(console, "supported", set),
         Answer::Unsupported => console.say(b"unsupported\n"),
-        Answer::Refused(reply) => return Err(Fault::Refused(reply)),
     }
     Ok(())
 }
@@ -40,14 +39,10 @@ pub fn context(console: Console, store: &Store, set: &[u32]) -> Result<(), Fault
 
 // member N P
 pub fn member(console: Console, store: &Store, n: u32, place: u32) -> Result<(), Fault> {
-    match asking::member(*store, n, place as usize).answer {
-        Found::Is(set) => {
-            console.set(set);
-            console.say(b"\n");
-            Ok(())
-        }
-        Found::Not(reply) => Err(Fault::Refused(reply)),
-    }
+    let set = asking::member(*store, n, place as usize).answer?;
+    console.set(set);
+    console.say(b"\n");
+    Ok(())
 }
 
 // line N
