@@ -1,5 +1,5 @@
 -- Question, context and lines from a bare list of justifications, as document 02 has them. Assumes nothing.
-use Rattle.std.specs.Prelude.{not, List, [], ◌++◌, ◌∷◌, map, ◌≡◌, ◌+◌, ℕ, ltb, drop, length, Err, Result, Ok}
+use Rattle.std.specs.Prelude.{not, List, [], ◌++◌, ◌∷◌, map, ◌≡◌, ◌+◌, ℕ, ltb, drop, length, Err, Result, Ok, Bool, true, false}
 use Rattle.bare.specs.declared.Query.{Query}
 use Rattle.bare.specs.declared.Told.{Told}
 use Rattle.bare.specs.declared.Told.TheVariants.{Filled, Lines, Word}
@@ -53,6 +53,18 @@ answered r b = record { answer = r; bytes = b }
 abbrev pub said_as : {X : Type 0} → (X → Told) → Result X Reply → Result Told Reply
 said_as say (Ok x) = Ok (say x)
 said_as say (Err r) = Err r
+
+-- the answer is of the kind that is asked for
+abbrev pub in_kind : What → Told → Bool
+in_kind (Of n) (Word a) = true
+in_kind (Of n) Filled = false
+in_kind (Of n) (Lines k) = false
+in_kind Context (Word a) = false
+in_kind Context Filled = true
+in_kind Context (Lines k) = false
+in_kind Stages (Word a) = false
+in_kind Stages Filled = false
+in_kind Stages (Lines k) = true
 
 -- the text written, or 15
 abbrev pub wrote_as : Wrote → Answered

@@ -2,7 +2,6 @@
 use Rattle.std.specs.Prelude.{Bool, List, [], ◌++◌, ℕ, drop, length, Result, Ok}
 use Rattle.asking.specs.Asking.{Left, answer_number, context_bytes, context_reply, left, member_number, member_of, question_of}
 use Rattle.asking.specs.declared.Answer.{Answer}
-use Rattle.asking.specs.declared.Found.{Found}
 use Rattle.bare.specs.Bare.{Answered, ask_of}
 use Rattle.bare.specs.declared.Query.{Query}
 use Rattle.casefile.specs.Load.{load_of}
@@ -50,14 +49,14 @@ pub data Ask : Type 0 where
 
 -- what is said to each
 abbrev pub Said : Ask → Type 0
-Said (question n E) = Answer
+Said (question n E) = Result Answer Reply
 Said (context E out) = Reply
-Said (member n place) = Found
+Said (member n place) = Result ℕ Reply
 Said (line n out) = Result ℕ Reply
 Said (case_line out) = Result ℕ Reply
 Said (list_all out) = Result ℕ Reply
 Said (file out) = Result ℕ Reply
-Said (plainly n E) = Plain
+Said (plainly n E) = Result Plain Reply
 Said (plain_context E out) = Reply
 Said (stage_lines E out) = Result ℕ Reply
 
