@@ -25,6 +25,7 @@ pub struct Entry {
 }
 
 // The counts of assumptions and claims, and the justifications held, in their order; unused places zero.
+// An array with a count beside it, and no Vec: a store is a value of fixed size, which C copies.
 #[repr(C)]
 #[derive(Clone, Copy)]
 pub struct Held {

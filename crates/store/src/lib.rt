@@ -22,7 +22,7 @@ pub struct Store {
     pub lists: Lists,
 }
 
-// A reply, and the store that goes with it.
+// A reply, and the store that goes with it; no Result, since a refusal hands back a store too (theorem Refusals).
 #[derive(Clone, Copy)]
 pub struct Outcome {
     pub reply: Reply,
