@@ -47,12 +47,12 @@ module _ (l : List ℕ) where
   unfolding load_of parse_of
   load_refused x e s q = ap (λ (y : Store). record { reply = x.reply; «record» = x.«record»; store = y }) q ∙ refused_loaded (case_of l) x e
 
-  pub load_judged : (p : Parsed) → Ok p ≡ parse_of l → (o : Outcome) → o ≡ judged_of p.held → recorded p.«record» o ≡ load_of l
+  pub load_judged : (p : Parsed) → Ok p ≡ parse_of l → (o : Outcome) → o ≡ judged_of p.held → recorded p.records o ≡ load_of l
   unfolding load_of
   load_judged p e o q =
       let d : Loadable l p = parse_right l p e in
       let s : Case = d.spelled in
-      let n : p.«record» ≡ s.header.records = ap (λ (x : Parsed). x.«record») d.parsed in
+      let n : p.records ≡ s.header.records = ap (λ (x : Parsed). x.records) d.parsed in
       let a : p.held.assumptions ≡ s.header.assumptions = ap (λ (x : Parsed). x.held.assumptions) d.parsed ∙ done_assumptions s in
       let m : p.held.claims ≡ s.header.claims = ap (λ (x : Parsed). x.held.claims) d.parsed ∙ done_claims s in
       let j : judged_of p.held ≡ store_of no_store s.header.assumptions s.header.claims (held_by s) =

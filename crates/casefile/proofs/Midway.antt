@@ -108,8 +108,8 @@ module _ (r : Reader) (A M J : ℕ) where
 
 -- ---- the whole file
 
-parsed_held : (c : Header) (R : Reading (List Item)) (h : Held) → Ok h ≡ finished c.assumptions c.claims [] R → Ok (record { «record» = c.records; held = h }) ≡ parsed_of (case_with c R)
-parsed_held c (whole l) h e = let p : h ≡ held_of c.assumptions c.claims (gathered (c.assumptions + c.claims) [] l) = cc in ap (λ (x : Held). Ok (record { «record» = c.records; held = x })) p
+parsed_held : (c : Header) (R : Reading (List Item)) (h : Held) → Ok h ≡ finished c.assumptions c.claims [] R → Ok (record { records = c.records; held = h }) ≡ parsed_of (case_with c R)
+parsed_held c (whole l) h e = let p : h ≡ held_of c.assumptions c.claims (gathered (c.assumptions + c.claims) [] l) = cc in ap (λ (x : Held). Ok (record { records = c.records; held = x })) p
 parsed_held c (refused f r) h e = absurd cc
 
 parsed_fault : (c : Header) (R : Reading (List Item)) (x : Fault) → Err x ≡ finished c.assumptions c.claims [] R → Err x ≡ parsed_of (case_with c R)
@@ -122,7 +122,7 @@ module _ (r s : Reader) where
   parse_refused f e = rw (header_fault r s f e)
 
   module _ (c : Counts) (e : Takes counts_from r s (Ok c)) where
-    pub parse_held : (h : Held) → Ok h ≡ records_of c.assumptions c.claims c.records (left s) → Ok (record { «record» = c.records; held = h }) ≡ parse_of (left r)
+    pub parse_held : (h : Held) → Ok h ≡ records_of c.assumptions c.claims c.records (left s) → Ok (record { records = c.records; held = h }) ≡ parse_of (left r)
     unfolding parse_of case_of records_of
     parse_held h q = rw (header_read r s c e).taken (parsed_held (header_of c) (records_from (c.assumptions + c.claims) 0 c.records (left s)) h q)
 

@@ -80,7 +80,7 @@ refused_of f r = Err (record { reply = f; «record» = r })
 
 -- the announced count, and what is held
 abbrev pub done_of : Case → Parsed
-done_of s = record { «record» = s.header.records; held = held_of s.header.assumptions s.header.claims (held_by s) }
+done_of s = record { records = s.header.records; held = held_of s.header.assumptions s.header.claims (held_by s) }
 
 -- one or the other
 abbrev pub parsed_of : Reading Case → Result Parsed Fault

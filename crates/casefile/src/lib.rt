@@ -17,19 +17,19 @@ use store::Store;
 
 // What a file says: the announced count of its records, and all its justifications held.
 #[derive(Clone, Copy)]
-pub struct Parsed {
-    pub record: u32,
-    pub held: Held,
+struct Parsed {
+    records: u32,
+    held: Held,
 }
 
-// What a file is refused with, and the record.
+// What a file is refused with, and the record that has the fault.
 #[derive(Clone, Copy)]
-pub struct Fault {
-    pub reply: Reply,
-    pub record: u32,
+struct Fault {
+    reply: Reply,
+    record: u32,
 }
 
-// What loading answers: the reply, the record, and the store; a refusal's store means nothing.
+// What loading answers: the reply, the record, and the store. No Result: `Refusals` speaks of the store that a refusal hands back.
 #[derive(Clone, Copy)]
 pub struct Loaded {
     pub reply: Reply,
@@ -77,7 +77,7 @@ fn parse(bytes: &[u8]) -> Result<Parsed, Fault>
     let counts = items::header(&mut reader).map_err(|reply| Fault { reply, record: 0 })?;
     let held = records(reader, counts)?;
     Ok(Parsed {
-        record: counts.records,
+        records: counts.records,
         held,
     })
 }
@@ -91,7 +91,7 @@ pub fn load(bytes: &[u8]) -> Loaded
             let told = store::judged(parsed.held);
             Loaded {
                 reply: told.reply,
-                record: parsed.record,
+                record: parsed.records,
                 store: told.store,
             }
         }

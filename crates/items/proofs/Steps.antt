@@ -5,15 +5,14 @@ use mathlib.Core.Path.{◌∙◌, ◌≡◌, ap, refl, sym}
 use Prim.Native.Nat.{ℕ, ◌+◌, ◌-◌, ◌<◌, ◌≤◌, suc}
 use native.Mathlib.Omega.{arith}
 use lib.Dec.{ltb}
-use lib.ListN.{drop, length, length-append, length-set, set, take}
-use lib.Seq.{length-take-le}
+use lib.ListN.{length, length-set, set, take}
 use borrow.Author.Tests.{le-ltb, lt-ltb, ne_eqb}
-use Rattle.std.proofs.lemmas.List.{set-append_left, take-append-drop}
+use Rattle.std.proofs.lemmas.List.{take_all, take_more_set}
 use Rattle.std.specs.Prelude.{Ok, Err, ⊤}
-use Rattle.items.proofs.Taken.{Supported, supports_fault, supports_read, supports_took, unless_no, unless_yes}
+use Rattle.items.proofs.Taken.{numbers_took, unless_no, unless_yes}
 use Rattle.replies.proofs.Checked.{checked_done, checked_refusal}
 use Rattle.items.specs.Items.{Header, Item, header_from, numbers_from, record_from, unless}
-use Rattle.items.specs.Steps.{counts_from, counts_of, entry_from, supports_from, within_of}
+use Rattle.items.specs.Steps.{counts_from, counts_of, entry_from, within_of}
 use Rattle.items.specs.declared.Counts.{Counts}
 use Rattle.numbers.proofs.Numbers.{Past, Took, fault, faulted, number_took, past_more, past_none, takes, two_then, two_took}
 use Rattle.numbers.specs.Numbers.{Taken, got, bad, and_then, number_from, two_from}
@@ -22,13 +21,11 @@ use Rattle.numbers.specs.declared.Reader.{Reader}
 use Rattle.replies.specs.Replies.{checked, number_of}
 use Rattle.replies.specs.declared.Reply.TheVariants.{Done, Counts as Over, Full, Supports}
 use Rattle.replies.specs.declared.Reply.{Reply}
-use Rattle.rules.proofs.Taking.{padded_push}
 use Rattle.rules.specs.Held.{entry_of}
 use Rattle.rules.specs.Items.{fault_of, justification_of}
 use Rattle.rules.specs.declared.Entry.{Entry}
 use Rattle.theory.specs.Limits.{limits, over_counts}
 use Rattle.theory.specs.Lists.{choose}
-use Rattle.theory.specs.Places.{padded, table}
 
 -- ---- the header
 
@@ -91,25 +88,18 @@ prefixed_more : (xs : List ℕ) (n : ℕ) (t : Taken (List ℕ)) → prefixed xs
 prefixed_more xs n (got ys rest) = ap (λ (zs : List ℕ). got zs rest) (sym (append_assoc xs (n ∷ []) ys))
 prefixed_more xs n (bad f) = refl
 
-abbrev pub zeros : List ℕ
-zeros = 0 ∷ 0 ∷ 0 ∷ 0 ∷ []
-
--- i of the k supports are read into the first k places, and the reading goes on where s stands
+-- i of the places are filled, and the reading goes on where s stands
 pub record Partly (r s : Reader) (k : ℕ) (places : List ℕ) (i : ℕ) : Type 0 where
-  pub read : List ℕ
-  pub many : length read ≡ i
   pub few : i ≤ k
   pub long : length places ≡ k
-  pub stand : places ++ drop k zeros ≡ padded 0 limits.supports read
-  pub rest : numbers_from k (left r) ≡ prefixed read (numbers_from (k - i) (left s))
+  pub rest : numbers_from k (left r) ≡ prefixed (take i places) (numbers_from (k - i) (left s))
   pub past : Past r s
 
-module _ (r : Reader) (k : ℕ) (small : k ≤ limits.supports) where
-  pub partly_none : Partly r r k (take k zeros) 0
-  unfolding padded table
-  partly_none =
+module _ (r : Reader) (k : ℕ) where
+  pub partly_none : (places : List ℕ) → length places ≡ k → Partly r r k places 0
+  partly_none places h =
       let e : k - 0 ≡ k = omega arith in
-      record { read = []; many = refl; few = omega arith; long = length-take-le k zeros small; stand = take-append-drop k zeros; rest = rw e (prefixed_nil (numbers_from k (left r))); past = past_none r }
+      record { few = omega arith; long = h; rest = rw e (prefixed_nil (numbers_from k (left r))); past = past_none r }
 
   module _ (s : Reader) (places : List ℕ) (i : ℕ) (p : Partly r s k places i) where
     module _ (less : i < k) where
@@ -117,31 +107,30 @@ module _ (r : Reader) (k : ℕ) (small : k ≤ limits.supports) where
       unfolding numbers_from
       onward = let e : k - i ≡ suc (k - (i + 1)) = omega arith in rw e
 
-      pub partly_bad : (t : Reader) (f : Reply) → Takes number_from s t (Err f) → Takes (supports_from k) r r (Err f)
-      partly_bad t f e = fault (supports_from k) r f (rw (p.rest, onward, faulted number_from s t f e))
+      pub partly_bad : (t : Reader) (f : Reply) → Takes number_from s t (Err f) → Takes (numbers_from k) r r (Err f)
+      partly_bad t f e = fault (numbers_from k) r f (rw (p.rest, onward, faulted number_from s t f e))
 
       pub partly_more : (t : Reader) (n : ℕ) → Takes number_from s t (Ok n) → Partly r t k (set places i n) (i + 1)
       partly_more t n e =
           let q : Took number_from s t n = number_took s t n e in
-          let room : length p.read < limits.supports = omega (arith, p.many) in
-          let there : i < length places = omega (arith, p.long) in
           record {
-            read = p.read ++ (n ∷ []);
-            many = length-append p.read (n ∷ []) ∙ ap (λ (j : ℕ). j + 1) p.many;
             few = omega arith;
             long = length-set places i n ∙ p.long;
-            stand = sym (set-append_left places (drop k zeros) i n there) ∙ (ap (λ (x : List ℕ). set x i n) p.stand ∙ rw (← p.many, padded_push p.read limits.supports n room));
-            rest = rw (p.rest, onward, q.taken) (prefixed_more p.read n (numbers_from (k - (i + 1)) (left t)));
+            rest = rw (p.rest, onward, q.taken) (prefixed_more (take i places) n (numbers_from (k - (i + 1)) (left t)) ∙ ap (λ (x : List ℕ). prefixed x (numbers_from (k - (i + 1)) (left t))) (sym (take_more_set places i n (omega (arith, p.long)))));
             past = past_more r s t p.past q.past;
           }
 
-    pub partly_all : k ≤ i → Takes (supports_from k) r s (Ok (places ++ drop k zeros))
+    pub partly_all : k ≤ i → Takes (numbers_from k) r s (Ok places)
     unfolding numbers_from
     partly_all h =
         let e : k - i ≡ 0 = omega arith in
-        takes (supports_from k) r s (places ++ drop k zeros) (record { taken = rw (p.rest, e, append-nil, p.stand); past = p.past })
+        takes (numbers_from k) r s places (record { taken = rw (p.rest, e, append-nil, take_all i places (omega (arith, p.long))); past = p.past })
 
 -- ---- a record
+
+-- the places of the supports, before they are read
+abbrev pub zeros : List ℕ
+zeros = 0 ∷ 0 ∷ 0 ∷ 0 ∷ []
 
 -- what comes after a record's number of supports
 after_count : ℕ → ℕ → ℕ → List ℕ → Taken Item
@@ -164,30 +153,27 @@ module _ (N : ℕ) (r s : Reader) where
     record_many h = fault (entry_from N) r Supports (rw (record_two N (left r), pair.taken, lt-ltb limits.supports k h))
 
     module _ (small : k ≤ limits.supports) (t : Reader) where
-      pub record_short : (f : Reply) → Takes (supports_from k) s t (Err f) → Takes (entry_from N) r r (Err f)
+      pub record_short : (f : Reply) → Takes (numbers_from k) s t (Err f) → Takes (entry_from N) r r (Err f)
       unfolding after_count
-      record_short f e = fault (entry_from N) r f (rw (record_two N (left r), pair.taken, le-ltb limits.supports k small, supports_fault s t k f e))
+      record_short f e = fault (entry_from N) r f (rw (record_two N (left r), pair.taken, le-ltb limits.supports k small, faulted (numbers_from k) s t f e))
 
-      module _ (x : List ℕ) (list : Takes (supports_from k) s t (Ok x)) where
-        took : Took (supports_from k) s t x
-        took = supports_took s t k x list
-
-        read : Supported k (left s) x (left t)
-        read = supports_read k (left s) x (left t) small took.taken
+      module _ (x : List ℕ) (list : Takes (numbers_from k) s t (Ok x)) where
+        read : Took (numbers_from k) s t x
+        read = numbers_took k s t x list
 
         abbrev given : Item
-        given = record { consequent = c; supports = take k x }
+        given = record { consequent = c; supports = x }
 
-        pub record_faulty : (f : Reply) → Err f ≡ checked (fault_of N c (take k x)) → Takes (entry_from N) r r (Err f)
+        pub record_faulty : (f : Reply) → Err f ≡ checked (fault_of N c x) → Takes (entry_from N) r r (Err f)
         unfolding after_count
         record_faulty f e =
-            let q = checked_refusal (fault_of N c (take k x)) f (sym e) in
+            let q = checked_refusal (fault_of N c x) f (sym e) in
             fault (entry_from N) r f
-            (rw (record_two N (left r), pair.taken, le-ltb limits.supports k small, read.taken, unless_no N given (left t) (ne_eqb (number_of (fault_of N c (take k x))) 0 (λ w. q.1 (sym (ap number_of q.0) ∙ w))), q.0))
+            (rw (record_two N (left r), pair.taken, le-ltb limits.supports k small, read.taken, unless_no N given (left t) (ne_eqb (number_of (fault_of N c x)) 0 (λ w. q.1 (sym (ap number_of q.0) ∙ w))), q.0))
 
-        pub record_whole : (u : ⊤) → Ok u ≡ checked (fault_of N c (take k x)) → (e : Entry) → e ≡ entry_of (justification_of N c (take k x)) → Takes (entry_from N) r t (Ok e)
+        pub record_whole : (u : ⊤) → Ok u ≡ checked (fault_of N c x) → (e : Entry) → e ≡ entry_of (justification_of N c x) → Takes (entry_from N) r t (Ok e)
         unfolding after_count
         record_whole u g e h =
-            let d : fault_of N c (take k x) ≡ Done = checked_done (fault_of N c (take k x)) u (sym g) in
+            let d : fault_of N c x ≡ Done = checked_done (fault_of N c x) u (sym g) in
             takes (entry_from N) r t e
-            (record { taken = rw (record_two N (left r), pair.taken, le-ltb limits.supports k small, read.taken, unless_yes N given (left t) d, h); past = past_more r s t pair.past took.past })
+            (record { taken = rw (record_two N (left r), pair.taken, le-ltb limits.supports k small, read.taken, unless_yes N given (left t) d, h); past = past_more r s t pair.past read.past })

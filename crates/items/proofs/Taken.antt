@@ -6,10 +6,10 @@ use mathlib.Core.Path.{◌∙◌, ◌≡◌, ap, ap₂, refl, subst, sym}
 use Prim.Native.Nat.{ℕ, ◌≤◌, suc, zero}
 use native.Mathlib.Omega.{arith}
 use lib.Dec.{eqb, ltb}
-use lib.ListN.{drop, length, take}
+use lib.ListN.{drop, length}
 use borrow.Author.Tests.{eqb-true, ltb-false}
 use Rattle.items.specs.Items.{Header, Item, header_from, numbers_from, record_from, unless}
-use Rattle.items.specs.Steps.{counts_from, counts_of, entry_from, supports_from}
+use Rattle.items.specs.Steps.{counts_from, counts_of, entry_from}
 use Rattle.items.specs.declared.Counts.{Counts}
 use Rattle.rules.specs.declared.Entry.{Entry}
 use Rattle.std.specs.Prelude.{Ok, Err}
@@ -21,13 +21,11 @@ use Rattle.replies.proofs.Laws.{zero_done}
 use Rattle.replies.specs.Replies.{number_of}
 use Rattle.replies.specs.declared.Reply.TheVariants.{Counts as Over, Done, Full, Supports}
 use Rattle.replies.specs.declared.Reply.{Reply}
-use Rattle.rules.proofs.Entries.{length_padded, unpadded}
 use Rattle.rules.specs.Held.{entry_of}
 use Rattle.rules.specs.Items.{fault_of, justification_of}
 use Rattle.theory.proofs.Lists.{clash, either}
 use Rattle.theory.specs.Limits.{limits, over_counts}
 use Rattle.theory.specs.Lists.{choose}
-use Rattle.theory.specs.Places.{padded}
 
 -- ---- what is taken is so
 
@@ -137,32 +135,8 @@ numbers_many zero l = refl
 numbers_many (suc k) l =
     each_then (λ s. length s ≡ suc k) (number_from l) _ (λ x m. each_held (λ s. length s ≡ k) (λ s. length s ≡ suc k) (numbers_from k m) _ (numbers_many k m) (λ xs rest e. ap suc e))
 
-pub supports_took : (r s : Reader) (k : ℕ) (x : List ℕ) → Takes (supports_from k) r s (Ok x) → Took (supports_from k) r s x
-supports_took r s k x p =
-    took (supports_from k) r
-    (onward_then (left r) (numbers_from k (left r)) _ (numbers_onward (left r) k 0 (omega arith)) (λ l j m. onward_got (left r) (padded 0 limits.supports l) j m))
-    s x p
-
--- the supports that were taken, and the places that they stand in
-pub record Supported (k : ℕ) (l : List ℕ) (x rest : List ℕ) : Type 0 where
-  pub taken : numbers_from k l ≡ got (take k x) rest
-  pub long : length x ≡ limits.supports
-
-supports_got : (k : ℕ) (l : List ℕ) → k ≤ limits.supports → (t : Taken (List ℕ)) → Each (λ s. length s ≡ k) t → numbers_from k l ≡ t → (x rest : List ℕ)
-    → and_then t (λ s rest. got (padded 0 limits.supports s) rest) ≡ got x rest → Supported k l x rest
-unfolding Each
-supports_got k l small (got s m) e q x rest h =
-    let p : padded 0 limits.supports s ≡ x = cc in
-    let w : m ≡ rest = cc in
-    let n : take k x ≡ s = sym (ap (take k) p) ∙ (ap (λ (i : ℕ). take i (padded 0 limits.supports s)) (sym e) ∙ unpadded 0 limits.supports s (omega arith)) in
-    record { taken = q ∙ ap₂ got (sym n) w; long = sym (ap length p) ∙ length_padded 0 limits.supports s }
-supports_got k l small (bad f) e q x rest h = absurd cc
-
-pub supports_read : (k : ℕ) (l x rest : List ℕ) → k ≤ limits.supports → supports_from k l ≡ got x rest → Supported k l x rest
-supports_read k l x rest small e = supports_got k l small (numbers_from k l) (numbers_many k l) refl x rest e
-
-pub supports_fault : (r s : Reader) (k : ℕ) (f : Reply) → Takes (supports_from k) r s (Err f) → numbers_from k (left r) ≡ bad f
-supports_fault r s k f p = faulty_then (numbers_from k (left r)) (padded 0 limits.supports) f (faulted (supports_from k) r s f p)
+pub numbers_took : (k : ℕ) (r s : Reader) (x : List ℕ) → Takes (numbers_from k) r s (Ok x) → Took (numbers_from k) r s x
+numbers_took k r s x p = took (numbers_from k) r (numbers_onward (left r) k 0 (omega arith)) s x p
 
 -- ---- a record
 

@@ -1,6 +1,6 @@
 -- The header and the records as the code hands them on. Assumes nothing.
-use Rattle.std.specs.Prelude.{List, ℕ, ltb, Result, Ok, Err}
-use Rattle.items.specs.Items.{Header, header_from, numbers_from, record_from}
+use Rattle.std.specs.Prelude.{List, ℕ, ltb, Result, Ok, Err, ⊤}
+use Rattle.items.specs.Items.{Header, header_from, record_from}
 use Rattle.items.specs.declared.Counts.{Counts}
 use Rattle.numbers.specs.Numbers.{Taken, got, and_then}
 use Rattle.replies.specs.declared.Reply.TheVariants.{Counts as Over, Full}
@@ -10,7 +10,6 @@ use Rattle.rules.specs.Items.{justification_of}
 use Rattle.rules.specs.declared.Entry.{Entry}
 use Rattle.theory.specs.Limits.{limits, over_counts}
 use Rattle.theory.specs.Lists.{choose}
-use Rattle.theory.specs.Places.{padded}
 
 -- ---- the header
 
@@ -28,9 +27,10 @@ counts_from l = and_then (header_from l) (λ h rest. got (counts_of h) rest)
 
 -- ---- a record
 
--- k supports in their places
-abbrev pub supports_from : ℕ → List ℕ → Taken (List ℕ)
-supports_from k l = and_then (numbers_from k l) (λ s rest. got (padded 0 limits.supports s) rest)
+-- the places that were filled, or the fault
+abbrev pub filled : Result ⊤ Reply → List ℕ → Result (List ℕ) Reply
+filled (Ok u) places = Ok places
+filled (Err f) places = Err f
 
 -- the record as it is held; N is A + M
 abbrev pub entry_from : ℕ → List ℕ → Taken Entry

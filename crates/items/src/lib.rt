@@ -1,8 +1,9 @@
 // The header and the records of a case file, each where a reader stands.
 #![tactic(auto)]
 
-ghost use Rattle.std.specs.Prelude.{◌≡◌, ◌≤◌};
-ghost use Rattle.items.specs.Steps.{counts_from, entry_from, supports_from, within_of};
+ghost use Rattle.std.specs.Prelude.{◌≡◌, ◌≤◌, length};
+ghost use Rattle.items.specs.Items.{numbers_from};
+ghost use Rattle.items.specs.Steps.{counts_from, entry_from, filled, within_of};
 ghost use Rattle.numbers.specs.Reader.{Takes};
 ghost use Rattle.theory.specs.Limits.{limits};
 
@@ -58,18 +59,16 @@ pub fn header(reader: &mut Reader) -> Result<Counts, Reply>
     Ok(counts)
 }
 
-// So many supports, unused places zero; after a fault the reader stands where it stood.
-fn supports(reader: &mut Reader, count: usize) -> Result<[u32; SUPPORTS], Reply>
-    requires { count ≤ limits.supports }
-    ensures { Takes (supports_from count) reader.old reader.new result }
+// A support for each place; after a fault the reader stands where it stood.
+fn supports(reader: &mut Reader, places: &mut [u32]) -> Result<(), Reply>
+    ensures { Takes (numbers_from (length places.old)) reader.old reader.new (filled result places.new) }
 {
     let mut ahead = *reader;
-    let mut numbers = [0u32; SUPPORTS];
-    for place in &mut numbers[..count] {
+    for place in places {
         *place = ahead.number()?;
     }
     *reader = ahead;
-    Ok(numbers)
+    Ok(())
 }
 
 // The record that comes next, top being the highest number; after a fault the reader stands where it stood.
@@ -82,9 +81,9 @@ pub fn record(reader: &mut Reader, top: u8) -> Result<Entry, Reply>
     if MOST_SUPPORTS < count {
         return Err(Reply::Supports);
     }
-    let count = count as usize;
-    let numbers = supports(&mut ahead, count)?;
-    let list = &numbers[..count];
+    let mut numbers = [0; SUPPORTS];
+    let list = &mut numbers[..count as usize];
+    supports(&mut ahead, list)?;
     rules::fault(top, consequent, list)?;
     let entry = rules::canonical(top, consequent, list);
     *reader = ahead;

@@ -41,10 +41,7 @@ impl<'a> Reader<'a> {
     fn byte(&self, at: usize) -> Result<u8, Reply>
         ensures { IsByte self.now.bytes.now at result }
     {
-        match self.bytes.get(at) {
-            Some(byte) => Ok(*byte),
-            None => Err(Reply::Ends),
-        }
+        self.bytes.get(at).copied().ok_or(Reply::Ends)
     }
 
     // The next number; after a fault the reader stands where it stood.

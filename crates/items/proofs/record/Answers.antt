@@ -1,7 +1,8 @@
 -- `record` meets its contract: the first fault decides, else the record is held as it is. Assumes nothing.
 use mathlib.Core.Path.{sym}
+use lib.Seq.{length-take-le}
 use Rattle.std.proofs.lemmas.Result.{err_from_is_err_and}
-use Rattle.items.proofs.Steps.{record_faulty, record_first, record_many, record_short, record_whole}
+use Rattle.items.proofs.Steps.{record_faulty, record_first, record_many, record_short, record_whole, zeros}
 use Rattle.replies.proofs.Checked.{checked_done}
 use Rattle.items.proofs.record.Goals as goal
 
@@ -13,18 +14,22 @@ returns-in_err-consequent c =
 pub returns-then-count-gt-MOST_SUPPORTS : goal.returns-then-count-gt-MOST_SUPPORTS
 returns-then-count-gt-MOST_SUPPORTS c = record_many _ _ _ _ _ c.in_ok-consequent.ensures c.if-count-gt-MOST_SUPPORTS.true
 
-pub returns-in_err-numbers : goal.returns-in_err-numbers
-returns-in_err-numbers c =
-    let p = err_from_is_err_and c.from_residual-in_err-numbers.result c.from_residual-in_err-numbers.ensures.1 in
-    rw (p.1, p.2) (record_short _ _ _ _ _ c.in_ok-consequent.ensures c.if-count-gt-MOST_SUPPORTS.false _ _ c.in_err-numbers.ensures)
+pub returns-in_err-supports : goal.returns-in_err-supports
+returns-in_err-supports c =
+    let p = err_from_is_err_and c.from_residual-in_err-supports.result c.from_residual-in_err-supports.ensures.1 in
+    let few = c.if-count-gt-MOST_SUPPORTS.false in
+    rw (p.1, p.2) (record_short _ _ _ _ _ c.in_ok-consequent.ensures few _ _ (rw (length-take-le c.in_ok-consequent.count zeros few) at c.in_err-supports.ensures))
 
 pub returns-in_err-fault : goal.returns-in_err-fault
 returns-in_err-fault c =
     let p = err_from_is_err_and c.from_residual-in_err-fault.result c.from_residual-in_err-fault.ensures.1 in
-    rw (p.1, p.2) (record_faulty _ _ _ _ _ c.in_ok-consequent.ensures c.if-count-gt-MOST_SUPPORTS.false _ _ c.in_ok-numbers.ensures _ c.in_err-fault.ensures)
+    let few = c.if-count-gt-MOST_SUPPORTS.false in
+    rw (p.1, p.2) (record_faulty _ _ _ _ _ c.in_ok-consequent.ensures few _ _ (rw (length-take-le c.in_ok-consequent.count zeros few) at c.in_ok-supports.ensures) _ c.in_err-fault.ensures)
 
 pub canonical-entry-requires : goal.canonical-entry-requires
 canonical-entry-requires c = (c.requires, checked_done _ _ (sym c.in_ok-fault.ensures))
 
 pub returns : goal.returns
-returns c = record_whole _ _ _ _ _ c.in_ok-consequent.ensures c.if-count-gt-MOST_SUPPORTS.false _ _ c.in_ok-numbers.ensures _ c.in_ok-fault.ensures _ c.canonical-entry.ensures
+returns c =
+    let few = c.if-count-gt-MOST_SUPPORTS.false in
+    record_whole _ _ _ _ _ c.in_ok-consequent.ensures few _ _ (rw (length-take-le c.in_ok-consequent.count zeros few) at c.in_ok-supports.ensures) _ c.in_ok-fault.ensures _ c.canonical-entry.ensures
