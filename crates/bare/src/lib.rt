@@ -81,7 +81,7 @@ fn mark(top: u8, item: Handed, marks: &[u8; MARKS], k: u8) -> u8
     let supports = item.supports;
     let n = item.count;
     let entry = rules::canonical(top, item.consequent, &supports[..n]);
-    following::mark(entry, marks, k, k + 1)
+    following::mark(&entry, marks, k, k + 1)
 }
 
 // The marks after stage k: each item once, one after the other.

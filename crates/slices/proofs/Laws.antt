@@ -1,21 +1,18 @@
--- The steps of a loop over a list: some pass, all are zero, two lists are the same. Assumes nothing.
+-- The steps of a loop over a list: some pass, all are zero. Assumes nothing.
 use mathlib.Core.Bool.{Bool, ◌&&◌, ◌||◌, false, true}
 use mathlib.Core.List.{List, [], ◌∷◌}
 use mathlib.Core.Path.{◌∙◌, ◌≡◌, ap, ap₂, refl, sym}
-use Prim.Native.Nat.{◌+◌, ◌<◌, ◌≤◌, suc, ℕ}
-use native.Mathlib.Numerals.{add-one}
+use Prim.Native.Nat.{◌+◌, ◌<◌, ◌≤◌, ℕ}
 use native.Mathlib.Omega.{arith}
 use lib.Bits.{or_zero_l}
 use lib.Dec.{eqb}
-use lib.ListN.{drop, drop_of_length-le, get_or, length}
-use lib.Seq.{drop-cons}
-use borrow.Author.Tests.{eq-eqb, eqb-true, ne_eqb}
+use lib.ListN.{drop, get_or, length}
+use borrow.Author.Tests.{eq-eqb, eqb-true}
 use Rattle.theory.proofs.Lists.{and_intro, and_left, and_right, same_test}
 use Rattle.theory.proofs.Places.{all_end, all_step, any_step}
 use Rattle.theory.proofs.Sets.{within_le, within_left, within_right}
 use Rattle.std.specs.List.{fold}
-use Rattle.theory.specs.Judge.{same_sets}
-use Rattle.theory.specs.Lists.{alike, all_of, some_of}
+use Rattle.theory.specs.Lists.{all_of, some_of}
 use Rattle.theory.specs.Sets.{union}
 
 -- ---- some pass
@@ -68,33 +65,3 @@ module _ {X : Type 0} (p : X → Bool) (l : List X) (i seen : ℕ) (all : Bool) 
 
   pub zero_end : length l ≤ i → eqb seen 0 ≡ all
   zero_end h = turned seen 0 ∙ and_true (eqb 0 seen) ∙ ap (λ (b : Bool). eqb 0 seen && b) (sym (all_end p l i h)) ∙ inv
-
--- ---- two lists are the same
-module _ (a b : List ℕ) (i : ℕ) where
-  same_step : i < length a → i < length b → same_sets (drop i a) (drop i b) ≡ eqb (get_or a i 0) (get_or b i 0) && same_sets (drop (i + 1) a) (drop (i + 1) b)
-  unfolding same_sets alike
-  same_step h k =
-      ap₂ same_sets (drop-cons a i 0 h) (drop-cons b i 0 k)
-      ∙ ap (λ (j : ℕ). eqb (get_or a i 0) (get_or b i 0) && same_sets (drop j a) (drop j b)) (sym (add-one i))
-
-  pub same_miss : i < length a → i < length b → (get_or a i 0 ≡ get_or b i 0 → ⊥) → same_sets (drop i a) (drop i b) ≡ false
-  same_miss h k n = same_step h k ∙ rw (ne_eqb (get_or a i 0) (get_or b i 0) n)
-
-  pub same_hit : i < length a → i < length b → get_or a i 0 ≡ get_or b i 0 → same_sets (drop i a) (drop i b) ≡ same_sets (drop (i + 1) a) (drop (i + 1) b)
-  same_hit h k e = same_step h k ∙ ap (λ (t : Bool). t && same_sets (drop (i + 1) a) (drop (i + 1) b)) (eq-eqb (get_or a i 0) (get_or b i 0) e)
-
-  pub same_end : length a ≤ i → length b ≤ i → same_sets (drop i a) (drop i b) ≡ true
-  unfolding same_sets alike
-  same_end h k = ap₂ same_sets (drop_of_length-le a {i = i} h) (drop_of_length-le b {i = i} k)
-
--- lists of different lengths differ
-pub same_length : (a b : List ℕ) → (length a ≡ length b → ⊥) → same_sets a b ≡ false
-unfolding same_sets alike
-same_length [] [] h = absurd (h refl)
-same_length [] (y ∷ b) h = refl
-same_length (x ∷ a) [] h = refl
-same_length (x ∷ a) (y ∷ b) h = go (eqb x y) (same_length a b (λ e. h (ap suc e)))
-  where
-    go : (t : Bool) → same_sets a b ≡ false → t && same_sets a b ≡ false
-    go true e = e
-    go false e = refl

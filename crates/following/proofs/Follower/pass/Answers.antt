@@ -9,8 +9,8 @@ mark-requires c =
     let s = c.entries-entry-items in
     entry_right h.held h.followable _ (used_at h.held h.followable s.result.now s.ensures c.loop-entry.entry-index _ c.loop-entry-test.true refl)
 
-pub bounds-marks-entry : goal.bounds-marks-entry
-bounds-marks-entry c =
+pub bounds-marks-n : goal.bounds-marks-n
+bounds-marks-n c =
     let h = c.args.self.now in
     let s = c.entries-entry-items in
     omega (arith, (entry_right h.held h.followable _ (used_at h.held h.followable s.result.now s.ensures c.loop-entry.entry-index _ c.loop-entry-test.true refl)).low)
