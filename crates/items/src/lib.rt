@@ -26,8 +26,8 @@ pub struct Counts {
     pub records: u32,
 }
 
-#[tactic(auto, unfolding(crate::specs::Steps::within_of))]
 // The header's counts, where they are within the limits.
+#[tactic(auto, unfolding(crate::specs::Steps::within_of))]
 fn within(assumptions: u32, claims: u32, records: u32) -> Result<Counts, Reply>
     ensures { result ≡ within_of assumptions claims records }
 {
