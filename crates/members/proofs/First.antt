@@ -1,7 +1,13 @@
 -- The first member within a set: it is of the list and lies within the set, and where there is none no member does. Assumes nothing.
-use Rattle.std.specs.Prelude.{Bool, Option, false, true, List, [], ◌∷◌, ◌≡◌, cond, ◌<◌, suc, zero, ℕ, Some, is_some, get_or, length, refl}
+use Rattle.std.specs.Prelude.{Bool, Option, false, true, List, [], ◌∷◌, ◌≡◌, cond, ◌<◌, suc, zero, ℕ, Some, None, is_some, get_or, length, refl}
 use Rattle.std.proofs.Common.{◌-◌, ◌^◌, eqb, ap, ap₂, ◌∙◌, arith, subst}
-use Rattle.std.specs.List.{find}
+use Rattle.std.proofs.Common.{◌+◌, sym}
+use Rattle.std.proofs.lemmas.Iterator.Adapters.{position_from-zero}
+use Rattle.std.proofs.lemmas.List.Folds.{find_at}
+use Rattle.std.proofs.lemmas.List.Quantifiers.{position-Some}
+use Rattle.std.proofs.lemmas.List.Sums.{position_or_len_is}
+use Rattle.std.proofs.lemmas.Option.{slice_get-get_or}
+use Rattle.std.specs.List.{find, position, position_from, slice_get}
 use native.Mathlib.Nat.{mod-eq_of_lt}
 use lib.Bits.{and_comm, and_le_l, and_mask, or_add_and}
 use borrow.Author.Tests.{eq-eqb, eqb-true}
@@ -45,6 +51,23 @@ module _ (E : ℕ) (q : E < 2 ^ 32) where
   pub found_by : (l : List ℕ) → ((i : ℕ) → get_or l i 0 < 2 ^ 32) → find (λ a. eqb (meet a (without (2 ^ 32 - 1) E)) 0) l ≡ first_within l E
   found_by [] h = refl
   found_by (x ∷ l) h = ap₂ (λ (b : Bool) (r : Option ℕ). cond b (Some x) r) (test_is x (h 0)) (found_by l (λ i. h (suc i)))
+
+-- ---- the first that passes, by its place
+pub placed_find : (p : ℕ → Bool) (l : List ℕ) (i : ℕ) → position p l ≡ Some i → find p l ≡ Some (get_or l i 0)
+placed_find p l i e =
+    let h = position-Some p l i 0 e in
+    find_at p l ∙ ap (slice_get l) (position_or_len_is p l i 0 (omega (arith, h.0)) h.2 (λ q. h.1)) ∙ slice_get-get_or l i 0 h.0
+
+none_from : (p : ℕ → Bool) (n : ℕ) (l : List ℕ) → position_from p n l ≡ None → find p l ≡ None
+none_from p n [] e = refl
+none_from p n (x ∷ l) e = go (p x) e (none_from p (n + 1) l)
+  where
+    go : (b : Bool) → cond b (Some n) (position_from p (n + 1) l) ≡ None → (position_from p (n + 1) l ≡ None → find p l ≡ None) → cond b (Some x) (find p l) ≡ None
+    go true q h = cc
+    go false q h = h q
+
+pub placed_none : (p : ℕ → Bool) (l : List ℕ) → position p l ≡ None → find p l ≡ None
+placed_none p l e = none_from p 0 l (sym (position_from-zero p l) ∙ e)
 
 -- ---- by place
 pub at_mem : (l : List ℕ) (i : ℕ) → i < length l → Mem (get_or l i 0) l
