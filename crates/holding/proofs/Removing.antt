@@ -12,11 +12,6 @@ use lib.ListN.{get_or-eq_default, get_or, length, length-set, set}
 use lib.Seq.{get_or-set_other, get_or-set_same}
 use borrow.Author.Tests.{le-ltb, lt-ltb}
 use Rattle.holding.proofs.Dropping.{dropped_at, dropped_length, place_among}
-use lib.ListN.{drop, length-drop, take}
-use lib.Seq.{length-take-le}
-use Rattle.std.specs.List.{RotatedLeft}
-use borrow.Rule.Slice.PartMut.{put_mid}
-use Rattle.holding.proofs.Moving.{part_here, part_high, part_length, part_low, part_of}
 use Rattle.holding.specs.Placing.{place_of, remove_at, with_entries}
 use Rattle.rules.proofs.Entries.{entry_at, nothing_said, places, said_many, vacant_entry}
 use Rattle.rules.proofs.Order.{same_mem}
@@ -38,25 +33,30 @@ inside_any [] i y z h = absurd (not-suc-le-zero h)
 inside_any (x ∷ l) zero y z h = refl
 inside_any (x ∷ l) (suc i) y z h = inside_any l i y z (le_of_suc-le-suc h)
 
--- ---- places moved down by one, from `at` up to the last
-pub record Closing (l m : List Entry) (at last : ℕ) : Type 0 where
+-- ---- places moved down by one, from `at` up to place i
+pub record Closing (l m : List Entry) (at i : ℕ) : Type 0 where
   pub long : length m ≡ length l
   pub low : (k : ℕ) → k < at → get_or m k beyond ≡ get_or l k beyond
-  pub closed : (k : ℕ) → at ≤ k → k < last → get_or m k beyond ≡ get_or l (k + 1) beyond
-  pub high : (k : ℕ) → last < k → get_or m k beyond ≡ get_or l k beyond
+  pub closed : (k : ℕ) → at ≤ k → k < i → get_or m k beyond ≡ get_or l (k + 1) beyond
+  pub high : (k : ℕ) → i ≤ k → get_or m k beyond ≡ get_or l k beyond
 
-pub closing : (l m : List Entry) (at n : ℕ) → at < n → n ≤ length l → length m ≡ n - at → RotatedLeft (take (n - at) (drop at l)) m (length (take (n - at) (drop at l))) 1 → Closing l (put_mid at (n - at) l m) at (n - 1)
-closing l m at n p q e r =
-    let s : length (take (n - at) (drop at l)) ≡ n - at = length-take-le (n - at) (drop at l) (omega (arith, length-drop at l)) in
-    let fits : at + (n - at) ≤ length l = omega arith in
-    record {
-      long = part_length l m at (n - at) e fits;
-      low = part_low l m at (n - at) e fits;
-      closed = λ k h g.
-          let f : at + (k - at + 1) ≡ k + 1 = omega arith in
-          part_here l m at (n - at) e fits k h (omega arith) ∙ r.0 (k - at) beyond (omega (arith, s)) ∙ part_of l at (n - at) (k - at + 1) (omega arith) ∙ ap (λ (x : ℕ). get_or l x beyond) f;
-      high = λ k h. part_high l m at (n - at) e fits k (omega arith);
-    }
+pub close_none : (l : List Entry) (at : ℕ) → Closing l l at at
+close_none l at = record { long = refl; low = λ k h. refl; closed = λ k p q. absurd (omega arith); high = λ k h. refl }
+
+pub close_more : (l m : List Entry) (at i : ℕ) → at ≤ i → i < length l → Closing l m at i → Closing l (set m i (get_or m (i + 1) beyond)) at (i + 1)
+close_more l m at i p q s = record {
+  long = length-set m i (get_or m (i + 1) beyond) ∙ s.long;
+  low = λ k h. get_or-set_other m i k (get_or m (i + 1) beyond) beyond (λ e. omega arith) ∙ s.low k h;
+  closed = λ k h j. ⊎_elim
+      (λ (e : k ≡ i).
+      ap (λ (x : ℕ). get_or (set m i (get_or m (i + 1) beyond)) x beyond) e ∙ get_or-set_same m i (get_or m (i + 1) beyond) beyond (omega (arith, s.long)) ∙ s.high (i + 1) (omega arith) ∙ ap (λ (x : ℕ). get_or l (x + 1) beyond) (sym e))
+      (λ (o : k < i). get_or-set_other m i k (get_or m (i + 1) beyond) beyond (λ e. omega arith) ∙ s.closed k h o)
+      (eq-or-lt_of_le (up k i j));
+  high = λ k h. get_or-set_other m i k (get_or m (i + 1) beyond) beyond (λ e. omega arith) ∙ s.high k (omega arith);
+}
+  where
+    up : (k i : ℕ) → k < i + 1 → k ≤ i
+    up k i j = omega arith
 
 -- the last place then made vacant, where all after it are
 module _ (l m : List Entry) (at last : ℕ) (p : at ≤ last) (q : last < length l) (s : Closing l m at last) (spare : (k : ℕ) → last < k → k < length l → get_or l k beyond ≡ vacant) where
@@ -83,7 +83,7 @@ module _ (l m : List Entry) (at last : ℕ) (p : at ≤ last) (q : last < length
               get_or-set_other m last k vacant beyond (λ e. omega arith) ∙ s.closed k (omega arith) b ∙ inside_any l (k + 1) beyond vacant (omega arith) ∙ ap (λ (x : ℕ). get_or l x vacant) e ∙ later k (omega arith))
           | no b ↦ ⊎_elim
               (λ (e : last ≡ k). ap (λ (x : ℕ). get_or (set m last vacant) x beyond) (sym e) ∙ get_or-set_same m last vacant beyond (omega (arith, s.long)) ∙ sym (after (suc k) (omega arith)) ∙ later k (omega arith))
-              (λ (o : last < k). get_or-set_other m last k vacant beyond (λ e. omega arith) ∙ s.high k o ∙ spare k o h ∙ sym (after (suc k) (omega arith)) ∙ later k (omega arith))
+              (λ (o : last < k). get_or-set_other m last k vacant beyond (λ e. omega arith) ∙ s.high k (omega arith) ∙ spare k o h ∙ sym (after (suc k) (omega arith)) ∙ later k (omega arith))
               (eq-or-lt_of_le (not_lt last k b))
         ]
       ])

@@ -52,15 +52,17 @@ fn place(held: Held, entry: Entry) -> usize
     held.entries[..held.count].partition_point(|other| order::comes(other, &entry))
 }
 
-// The justification put in at a place; those from there on move up by one.
+// The justification put in at a place; those from there on move up by one. No rotate: it needs C's memmove, and the library needs memcpy and memset alone.
 fn moved(mut held: Held, at: usize, entry: Entry) -> Held
     requires { (at ≤ held.count) × (held.count < limits.held) }
     ensures { result ≡ with_entries held (held.count + 1) (insert_at held.entries at held.count entry) }
 {
-    let count = held.count + 1;
-    held.entries[at..count].rotate_right(1);
+    let count = held.count;
+    for i in (at..count).rev() {
+        held.entries[i + 1] = held.entries[i];
+    }
     held.entries[at] = entry;
-    held.count = count;
+    held.count = count + 1;
     held
 }
 
@@ -69,9 +71,11 @@ fn closed(mut held: Held, at: usize) -> Held
     requires { (held_right held ≡ true) × (at < held.count) }
     ensures { result ≡ with_entries held (held.count - 1) (remove_at held.entries at) }
 {
-    let count = held.count;
-    held.entries[at..count].rotate_left(1);
-    held.entries[count - 1] = Entry::VACANT;
-    held.count = count - 1;
+    let last = held.count - 1;
+    for i in at..last {
+        held.entries[i] = held.entries[i + 1];
+    }
+    held.entries[last] = Entry::VACANT;
+    held.count = last;
     held
 }
