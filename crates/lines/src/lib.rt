@@ -43,6 +43,7 @@ fn read(store: Store, n: u32, out: &mut [u8]) -> Result<usize, Reply>
 }
 
 // The line of n as the listing has it, its newline included.
+#[tactic(auto, using(lent::proofs::Fits::hands))]
 pub fn line(store: Store, n: u32, out: &mut [u8]) -> Listed
     ensures { Lined store n out.old result out.new }
 {
@@ -51,6 +52,7 @@ pub fn line(store: Store, n: u32, out: &mut [u8]) -> Listed
 }
 
 // The first line, where the shape is right.
+#[tactic(auto, using(text::proofs::Added::texts, crate::proofs::Longest::case_length), unfolding(crate::specs::Lines::case_text, crate::specs::Lines::heading_of))]
 fn first(store: &Store, out: &mut [u8]) -> Result<usize, Reply>
     ensures { Leaves (heading_of store.now out.old) result out.new }
 {
@@ -64,6 +66,7 @@ fn first(store: &Store, out: &mut [u8]) -> Result<usize, Reply>
 }
 
 // The first line of the listing.
+#[tactic(auto, using(lent::proofs::Fits::hands))]
 pub fn case_line(store: Store, out: &mut [u8]) -> Listed
     ensures { CaseLined store out.old result out.new }
 {
@@ -72,6 +75,7 @@ pub fn case_line(store: Store, out: &mut [u8]) -> Listed
 }
 
 // The line of a refusal and of the record being read.
+#[tactic(auto, using(text::proofs::Added::texts, text::proofs::Lengths::refusal_length, replies::proofs::Laws::two_digits), unfolding(crate::specs::Lines::refusal_text))]
 pub fn refusal(reply: Reply, record: u32, out: &mut [u8]) -> Result<usize, Reply>
     ensures { RefusalLined reply «record» out.old result out.new }
 {

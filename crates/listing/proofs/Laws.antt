@@ -1,5 +1,5 @@
 -- What the calls of the listing leave, test by test. Assumes nothing.
-use mathlib.Core.Bool.{false, true}
+use mathlib.Core.Bool.{true}
 use mathlib.Core.List.{List}
 use mathlib.Core.Path.{◌∙◌, ◌≡◌, ap, sym}
 use Prim.Native.Nat.{◌<◌, ◌≤◌, ℕ}
@@ -9,26 +9,14 @@ use Rattle.casefile.specs.Load.{load_of}
 use Rattle.casefile.specs.declared.Loaded.{Loaded}
 use Rattle.lent.specs.Lent.{Leaves, fitted}
 use Rattle.lines.specs.Lines.{refusal_text}
-use Rattle.std.proofs.Common.{Result, Err}
+use Rattle.std.proofs.Common.{Result}
 use Rattle.listing.proofs.Loaded.{loaded_right}
-use Rattle.listing.specs.Listing.{Prints, listed_of, listing_of, listing_text, loaded_text}
+use Rattle.listing.specs.Listing.{Prints, listing_of, listing_text, loaded_text}
 use Rattle.replies.specs.Replies.{number_of}
-use Rattle.replies.specs.declared.Reply.TheVariants.{Long, Shape}
+use Rattle.replies.specs.declared.Reply.TheVariants.{Long}
 use Rattle.store.specs.Shape.{right_shape}
-use Rattle.store.specs.declared.Store.{Store}
 use Rattle.theory.specs.Limits.{file_bytes}
 use Rattle.replies.specs.declared.Reply.{Reply}
-
--- ---- the listing of a store
-
-module _ (s : Store) (out : List ℕ) where
-  pub listing_shape : right_shape s ≡ false → Leaves (listed_of s out) (Err Shape) out
-  unfolding listed_of
-  listing_shape e = rw e
-
-  pub listing_rest : right_shape s ≡ true → {r : Result ℕ Reply} {after : List ℕ} → Leaves (fitted (listing_text s) out) r after → Leaves (listed_of s out) r after
-  unfolding listed_of
-  listing_rest e l = l ∙ rw e
 
 -- ---- the listing of a file
 

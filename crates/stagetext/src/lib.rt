@@ -94,6 +94,7 @@ impl<'a> Marked<'a> {
     }
 
     // Whether so many bytes are enough; where the longest lines fit, none is measured.
+    #[tactic(auto, using(crate::proofs::Longest::rows_most))]
     fn fits(&self, count: u8, given: usize) -> bool
         ensures { result ≡ leb (length (rows_of (length self.now.marks.now) self.now.marks.now count)) given }
     {
@@ -103,6 +104,7 @@ impl<'a> Marked<'a> {
 
 // The lines of all stages up to the last with something new, where there is room for them; 4 where top is no number's.
 // The length is known before a byte is written.
+#[tactic(auto, using(crate::proofs::Laws::put_above, crate::proofs::Laws::latest_low, crate::proofs::Laws::put_short, crate::proofs::Laws::rows_first))]
 pub fn put(marks: [u8; MARKS], top: u8, out: &mut [u8]) -> Result<usize, Reply>
     ensures { Leaves (put_of marks top out.old) result out.new }
 {

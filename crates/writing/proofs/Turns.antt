@@ -1,11 +1,8 @@
 -- The file while it is written, part by part, and what the call leaves. Assumes nothing.
-use Rattle.std.proofs.Common.{List, [], ◌∷◌, ◌++◌, ◌≡◌, ◌∙◌, ℕ, ◌+◌, ◌<◌, ◌≤◌, true, false, Result, Err, ap, refl, sym, map, take, drop, get_or, length, arith}
+use Rattle.std.proofs.Common.{List, [], ◌∷◌, ◌++◌, ◌≡◌, ◌∙◌, ℕ, ◌+◌, ◌<◌, ◌≤◌, true, ap, refl, sym, map, take, drop, get_or, length, arith}
 use native.Mathlib.Numerals.{add-one}
 use lib.ListN.{drop_of_length-le}
 use lib.Seq.{drop-cons, length-take-le}
-use Rattle.lent.specs.Lent.{Leaves, fitted}
-use Rattle.replies.specs.declared.Reply.{Reply}
-use Rattle.replies.specs.declared.Reply.TheVariants.{Shape}
 use Rattle.rules.proofs.Entries.{fits_elim as entry-elim}
 use Rattle.rules.proofs.Scan.{right_elim}
 use Rattle.rules.proofs.Steps.{all_at, beyond}
@@ -21,7 +18,7 @@ use Rattle.theory.specs.Limits.{limits}
 use Rattle.theory.specs.Lists.{each}
 use Rattle.writing.proofs.Back.{bytes_one, bytes_two, record_bytes}
 use Rattle.writing.proofs.Files.{file_parts}
-use Rattle.writing.specs.Writing.{bytes_of, file_of, record_for, write_of}
+use Rattle.writing.specs.Writing.{bytes_of, file_of, record_for}
 
 pub ruleset shortest = (bytes_one, bytes_two)
 
@@ -92,14 +89,3 @@ pub ruleset records = (held_parts, counts, held_entry, entries_turn, each_end)
 pub shape_fits : (s : Store) → right_shape s ≡ true → held_fits s.held ≡ true
 unfolding right_shape
 shape_fits s t = and_left (held_fits s.held) (lists_right s.lists s.held.assumptions (top s.held)) t
-
-module _ (s : Store) (out : List ℕ) where
-  pub write_shape : right_shape s ≡ false → Leaves (write_of s out) (Err Shape) out
-  unfolding write_of
-  write_shape e = rw e
-
-  pub write_rest : right_shape s ≡ true → {t : List ℕ} → t ≡ file_of s.held → {r : Result ℕ Reply} {after : List ℕ} → Leaves (fitted t out) r after → Leaves (write_of s out) r after
-  unfolding write_of
-  write_rest e f l = l ∙ ap (λ (x : List ℕ). fitted x out) f ∙ rw e
-
-pub ruleset call = (shape_fits, write_shape, write_rest)

@@ -73,7 +73,7 @@ fn put_held(held: &Held, out: &mut Writer)
 }
 
 // The case file of the store, where its shape is right and there is room.
-#[tactic(auto, using(text::proofs::Added::texts, crate::proofs::Turns::call, crate::proofs::Files::file_length))]
+#[tactic(auto, using(text::proofs::Added::texts, crate::proofs::Turns::shape_fits, crate::proofs::Files::file_length), unfolding(crate::specs::Writing::write_of))]
 fn written(store: &Store, out: &mut [u8]) -> Result<usize, Reply>
     ensures { Leaves (write_of store.now out.old) result out.new }
 {
@@ -87,6 +87,7 @@ fn written(store: &Store, out: &mut [u8]) -> Result<usize, Reply>
 }
 
 // Writes the case file of the store.
+#[tactic(auto, using(lent::proofs::Fits::hands))]
 pub fn write(store: Store, out: &mut [u8]) -> Listed
     ensures { Writes store out.old result out.new }
 {

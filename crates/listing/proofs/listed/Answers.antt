@@ -1,15 +1,10 @@
 -- `listed` meets its contract. Assumes nothing.
 use Rattle.std.proofs.Common.{◌≡◌, ◌≤◌, ◌∙◌, ap, arith, length, refl, sym}
-use borrow.Author.Tests.{leb-false, leb-true}
-use Rattle.lent.proofs.Fits.{fitted_long, fitted_short}
+use borrow.Author.Tests.{leb-true}
+use Rattle.lent.proofs.Fits.{fitted_long}
 use Rattle.listing.specs.Listing.{listing_text}
 use Rattle.text.proofs.Added.{texts}
 use Rattle.listing.proofs.listed.Goals as goal
-
-pub returns-then-not-fits : goal.returns-then-not-fits
-returns-then-not-fits c =
-    let same : listing_text c.of-page.result.store ≡ listing_text c.args.store = ap listing_text c.of-page.ensures in
-    fitted_short (listing_text c.args.store) c.args.out.now (omega (arith, leb-false _ _ (sym c.fits.ensures ∙ c.if-not-fits.true), ap length same))
 
 pub returns : goal.returns
 returns c =
