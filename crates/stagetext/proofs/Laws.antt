@@ -13,8 +13,8 @@ use Rattle.following.proofs.Passing.{marked_no, marked_yes}
 use Rattle.following.proofs.Staging.{Placed}
 use Rattle.following.specs.First.{since_of}
 use Rattle.following.specs.Marks.{marked}
-use Rattle.lent.proofs.Fits.{fitted_long, fitted_short, hands}
-use Rattle.lent.specs.Lent.{fitted, kept}
+use Rattle.lent.proofs.Fits.{fitted_long, fitted_short}
+use Rattle.lent.specs.Lent.{Leaves, fitted, kept}
 use Rattle.std.proofs.Common.{Result, Ok, Err, cond, get_or-take}
 use Prim.Native.Nat.{max}
 use Rattle.std.specs.List.{filter, fold, reduce}
@@ -26,7 +26,7 @@ use Rattle.replies.specs.Replies.{checked}
 use Rattle.replies.specs.declared.Reply.{Reply}
 use Rattle.replies.specs.declared.Reply.TheVariants.{Number, Short}
 use Rattle.rules.specs.Held.{said_by}
-use Rattle.stagetext.specs.Stagetext.{StagesLined, body_of, last_stage, latest, part_of, put_of, row_of, rows_in, rows_of, stage_line, stage_text, stages_of}
+use Rattle.stagetext.specs.Stagetext.{body_of, last_stage, latest, part_of, put_of, row_of, rows_in, rows_of, stage_line, stage_text, stages_of}
 use Rattle.store.proofs.Reading.{Readable, refused_set}
 use Rattle.store.specs.Reading.{refusal_of}
 use Rattle.store.specs.Shape.{top}
@@ -175,15 +175,14 @@ module _ (m : List ℕ) (N count : ℕ) (out t : List ℕ) (low : N ≤ limits.n
 
 -- ---- the call
 module _ (s : Store) (E : ℕ) (out : List ℕ) where
-  pub lines_refused : (r : Reply) → Err r ≡ checked (refusal_of s 0 E) → StagesLined s E out (record { answer = Err r; store = s }) out
+  pub lines_refused : (r : Reply) → Err r ≡ checked (refusal_of s 0 E) → Leaves (stages_of s E out) (Err r) out
   unfolding stages_of
-  lines_refused r e = hands s (refused_set s E r e (λ x. kept x out) (fitted (stage_text (top s.held) (said_by s.held) E) out))
+  lines_refused r e = refused_set s E r e (λ x. kept x out) (fitted (stage_text (top s.held) (said_by s.held) E) out)
 
   pub lines_put : Readable s 0 E → (m : List ℕ) → m ≡ table (limits.numbers + 1) (since_of (said_by s.held) E) → (r : Result ℕ Reply) (after : List ℕ) → record { answer = r; bytes = after } ≡ put_of m (top s.held) out
-      → StagesLined s E out (record { answer = r; store = s }) after
+      → Leaves (stages_of s E out) r after
   unfolding stages_of
   lines_put k m e r after p =
       let N : ℕ = top s.held in
       let low : N ≤ limits.numbers = omega (arith, k.fit.few, k.fit.claims) in
-      hands s
-      (p ∙ sym (put_within m N out low) ∙ ap (λ (t : List ℕ). fitted t out) (ap (rows_in (N + 1)) e ∙ text_is (said_by s.held) (placed s k.fit) E N low) ∙ rw (k.right, k.set))
+      p ∙ sym (put_within m N out low) ∙ ap (λ (t : List ℕ). fitted t out) (ap (rows_in (N + 1)) e ∙ text_is (said_by s.held) (placed s k.fit) E N low) ∙ rw (k.right, k.set)

@@ -5,7 +5,7 @@ ghost use Rattle.std.specs.Prelude.{◌≡◌, ◌+◌, ◌≤◌, leb, length};
 ghost use Rattle.theory.specs.Limits.{limits};
 ghost use Rattle.lent.specs.Lent.{Leaves};
 ghost use Rattle.text.specs.Writer.{Room, added};
-ghost use Rattle.stagetext.specs.Stagetext.{StagesLined, body_of, latest, put_of, row_of, rows_of};
+ghost use Rattle.stagetext.specs.Stagetext.{StagesLined, body_of, latest, put_of, row_of, rows_of, stages_of};
 
 use lent::Listed;
 use replies::Reply;
@@ -124,20 +124,20 @@ pub fn put(marks: [u8; MARKS], top: u8, out: &mut [u8]) -> Result<usize, Reply>
     Ok(writer.written)
 }
 
+// The lines of the stages from e, where e can be read.
+fn followed(store: Store, e: Set, out: &mut [u8]) -> Result<usize, Reply>
+    ensures { Leaves (stages_of store e out.old) result out.new }
+{
+    let marks = plain::follow(store, 0, e)?;
+    let held = store.held;
+    put(marks, held.assumptions + held.claims, out)
+}
+
 // One line a stage from 0 up to the last with something new: the stage, then every number that followed from e by then.
+#[tactic(auto, using(lent::proofs::Fits::hands))]
 pub fn lines(store: Store, e: Set, out: &mut [u8]) -> Listed
     ensures { StagesLined store e out.old result out.new }
 {
-    let marks = match plain::follow(store, 0, e) {
-        Ok(marks) => marks,
-        Err(reply) => {
-            return Listed {
-                answer: Err(reply),
-                store,
-            };
-        }
-    };
-    let held = store.held;
-    let answer = put(marks, held.assumptions + held.claims, out);
+    let answer = followed(store, e, out);
     Listed { answer, store }
 }
