@@ -6,7 +6,7 @@ ghost use Rattle.lent.specs.Lent.{Leaves, fitted};
 use replies::Reply;
 use store::Store;
 
-// The length of a text or why there is none, and the store that came in.
+// The length of a text or why there is none, and the store that came in: a refusal hands it back too (theorem `Refusals`).
 #[derive(Clone, Copy)]
 pub struct Listed {
     pub answer: Result<usize, Reply>,

@@ -78,7 +78,7 @@ impl<'a> Marked<'a> {
         }
     }
 
-    // How long the lines of the first stages are, by writing each into the same bytes.
+    // How long the lines of the first stages are, by writing each into the same bytes: a loop beside that of `rows`, since each line begins a writer anew.
     #[tactic(auto, using(text::proofs::Added::texts, crate::proofs::Laws::sums, crate::proofs::Longest::row_most, crate::proofs::Longest::rows_most))]
     fn measured(&self, count: u8) -> usize
         ensures { result ≡ length (rows_of (length self.now.marks.now) self.now.marks.now count) }
