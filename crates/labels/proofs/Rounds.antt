@@ -2,7 +2,7 @@
 use mathlib.Core.Bool.{Bool, false, not, true}
 use mathlib.Core.List.{List, [], ◌++◌}
 use mathlib.Core.Logic.{⊎_elim}
-use Rattle.std.specs.Prelude.{Option, None, Some, is_some}
+use Rattle.std.specs.Prelude.{Option, None, Some, Result, Ok, Err, is_some}
 use mathlib.Core.Path.{◌∙◌, ◌≡◌, ap, refl, subst, sym}
 use Prim.Native.Nat.{◌+◌, ◌<◌, ◌≤◌, ℕ}
 use native.Mathlib.Omega.{arith}
@@ -15,24 +15,32 @@ use Rattle.joining.specs.Pool.{Filled, Offered, Refused, Well, offered_all}
 use Rattle.labels.proofs.Passes.{begin, pass, pass_grows, pass_prefix, pass_whole, well_begin}
 use Rattle.labels.proofs.Selects.{admitted_all, pass_selects, sound_none}
 use Rattle.labels.specs.Moved.{Hushed, Still}
-use Rattle.labels.specs.Promised.{built_of, placed_list}
+use Rattle.labels.specs.Promised.{built_of, placed_first, placed_list}
+use Rattle.labels.specs.declared.Built.{Built}
+use Rattle.labels.specs.declared.Full.{Full}
 use Rattle.theory.proofs.Label.{contains_elim}
 use Rattle.theory.proofs.Lists.{clash}
 use Rattle.theory.proofs.Picks.{picks_selection}
 use Rattle.theory.proofs.Select.{Selection}
 use Rattle.theory.specs.Limits.{limits}
 use Rattle.theory.specs.Lists.{choose}
+use Rattle.theory.specs.Places.{padded}
 use Rattle.theory.specs.Sets.{contains}
 use Rattle.theory.specs.Stages.{Justification}
 use Rattle.theory.specs.Step.{picks}
 
 -- what stands after the first above the limit is not looked at
 pub built_first : (limit : ℕ) (l : List ℕ) → built_of limit (take (limit + 1) l) ≡ built_of limit l
-unfolding built_of
+unfolding built_of placed_first
 built_first limit l = elim (dec_lt limit (length l)) [
-  | yes h ↦ ap (λ (b : Bool). choose b None (Some (placed_list (take (limit + 1) l)))) (lt-ltb limit (length (take (limit + 1) l)) (omega (arith, length-take (limit + 1) l))) ∙ sym (ap (λ (b : Bool). choose b None (Some (placed_list l))) (lt-ltb limit (length l) h))
+  | yes h ↦
+      ap (by_length (take (limit + 1) l)) (lt-ltb limit (length (take (limit + 1) l)) (omega (arith, length-take (limit + 1) l)))
+      ∙ ap (λ (m : List ℕ). Err (record { first = padded 0 limits.nogoods m })) (take-take limit (limit + 1) l (omega arith)) ∙ sym (ap (by_length l) (lt-ltb limit (length l) h))
   | no h ↦ ap (built_of limit) (take_all (limit + 1) l (omega arith))
 ]
+  where
+    by_length : List ℕ → Bool → Result Built Full
+    by_length m b = choose b (Err (placed_first limit m)) (Ok (placed_list m))
 
 module _ (limit : ℕ) (struck cands : List ℕ) where
   abbrev X : List ℕ

@@ -26,6 +26,12 @@ pub struct Built {
     pub sets: [Set; NOGOODS],
 }
 
+// The first sets of a list that has more than its limit, as many as the limit; unused places zero.
+#[derive(Clone, Copy)]
+pub struct Full {
+    pub first: [Set; NOGOODS],
+}
+
 // Each set of the list offered to the pool.
 fn pour(list: &[Set], labels: &Labels, struck: &[Set], pool: &mut Pool)
     ensures { Offered struck.now list.now (filled pool.old) (filled pool.new) }
@@ -97,23 +103,24 @@ fn pooled(
     }
 }
 
-// The sets in the places of a list, if they are no more than the limit.
-fn drawn(pool: &[Set], limit: usize) -> Option<Built>
+// The sets in the places of a list, if they are no more than the limit; else the first of them.
+fn drawn(pool: &[Set], limit: usize) -> Result<Built, Full>
     requires { limit ≤ limits.nogoods }
     ensures { result ≡ built_of limit pool.now }
 {
     let count = pool.len();
-    if limit < count {
-        return None;
-    }
     let mut sets: [Set; NOGOODS] = [0; NOGOODS];
+    if limit < count {
+        sets[..limit].copy_from_slice(&pool[..limit]);
+        return Err(Full { first: sets });
+    }
     sets[..count].copy_from_slice(pool);
-    Some(Built { count, sets })
+    Ok(Built { count, sets })
 }
 
-// The list of n at the next stage, if it is not longer than the limit: from its justifications, the labels as they lie, the old list of n
-// and the sets struck; a justification that is not stirred adds nothing. Where a set went out for want of room, what the pool holds is the
-// beginning of the list, and another walk over the candidates begins with it and finds more.
+// The list of n at the next stage, or the first of it where it is longer than the limit: from its justifications, the labels as they lie, the old
+// list of n and the sets struck; a justification that is not stirred adds nothing. Where a set went out for want of room, what the pool holds is
+// the beginning of the list, and another walk over the candidates begins with it and finds more.
 pub fn build(
     rules: &[Entry],
     n: u8,
@@ -122,7 +129,7 @@ pub fn build(
     struck: &[Set],
     moved: &[u8; MARKS],
     limit: usize,
-) -> Option<Built>
+) -> Result<Built, Full>
     requires { Joinable rules.now × (limit ≤ limits.nogoods) × Still (lying labels.now.members.now labels.now.sizes.now) (map meaning rules.now) n old.now struck.now moved.now }
     ensures { Build rules.now n labels.now.members.now labels.now.sizes.now old.now struck.now limit result }
 {

@@ -1,5 +1,5 @@
 -- From the lists of one stage to those of the next, list by list, over plain variables. Assumes nothing.
-use Rattle.std.specs.Prelude.{Option, None, Some, Ok, Err}
+use Rattle.std.specs.Prelude.{None, Some, Result, Ok, Err}
 use mathlib.Core.Bool.{Bool, false}
 use mathlib.Core.List.{List, [], ◌∷◌}
 use mathlib.Core.Logic.{⊎_elim}
@@ -14,8 +14,9 @@ use borrow.Author.Tests.{le-ltb, lt-ltb}
 use Rattle.joining.specs.Layout.{lying}
 use Rattle.labels.proofs.Rounds.{built_first}
 use Rattle.labels.specs.Entries.{between}
-use Rattle.labels.specs.Promised.{Build, built_of, placed_list}
+use Rattle.labels.specs.Promised.{Build, built_of, placed_first, placed_list}
 use Rattle.labels.specs.declared.Built.{Built}
+use Rattle.labels.specs.declared.Full.{Full}
 use Rattle.replies.specs.declared.Reply.TheVariants.{Label, Nogoods}
 use Rattle.rules.proofs.Laws.{right_range}
 use Rattle.rules.specs.Held.{said_by}
@@ -34,24 +35,24 @@ use Rattle.theory.specs.Step.{candidates, label_in, picks}
 
 -- ---- what a built list says of the whole
 module _ (limit : ℕ) (X : List ℕ) where
-  pub built_over : None ≡ built_of limit X → limit < length X
+  pub built_over : (f : Full) → Err f ≡ built_of limit X → limit < length X
   unfolding built_of
-  built_over e = elim (dec_lt limit (length X)) [
+  built_over f e = elim (dec_lt limit (length X)) [
     | yes h ↦ h
-    | no h ↦ (let z : ◌≡◌ {A = Option Built} None (Some (placed_list X)) = e ∙ ap (λ (b : Bool). choose b None (Some (placed_list X))) (le-ltb limit (length X) (omega arith)) in cc)
+    | no h ↦ (let z : ◌≡◌ {A = Result Built Full} (Err f) (Ok (placed_list X)) = e ∙ ap (λ (b : Bool). choose b (Err (placed_first limit X)) (Ok (placed_list X))) (le-ltb limit (length X) (omega arith)) in cc)
   ]
 
-  pub built_is : (b : Built) → Some b ≡ built_of limit X → (length X ≤ limit) × (b ≡ placed_list X)
+  pub built_is : (b : Built) → Ok b ≡ built_of limit X → (length X ≤ limit) × (b ≡ placed_list X)
   unfolding built_of
   built_is b e = elim (dec_lt limit (length X)) [
-    | yes h ↦ (let z : ◌≡◌ {A = Option Built} (Some b) None = e ∙ ap (λ (t : Bool). choose t None (Some (placed_list X))) (lt-ltb limit (length X) h) in absurd (none z))
-    | no h ↦ (omega arith, inside (e ∙ ap (λ (t : Bool). choose t None (Some (placed_list X))) (le-ltb limit (length X) (omega arith))))
+    | yes h ↦ (let z : ◌≡◌ {A = Result Built Full} (Ok b) (Err (placed_first limit X)) = e ∙ ap (λ (t : Bool). choose t (Err (placed_first limit X)) (Ok (placed_list X))) (lt-ltb limit (length X) h) in absurd (full z))
+    | no h ↦ (omega arith, inside (e ∙ ap (λ (t : Bool). choose t (Err (placed_first limit X)) (Ok (placed_list X))) (le-ltb limit (length X) (omega arith))))
   ]
     where
-      none : {c : Built} → ◌≡◌ {A = Option Built} (Some c) None → ⊥
-      none z = let q : ◌≡◌ {A = ℕ} 0 1 = cc in omega arith
+      full : {c : Built} {f : Full} → ◌≡◌ {A = Result Built Full} (Ok c) (Err f) → ⊥
+      full z = let q : ◌≡◌ {A = ℕ} 0 1 = cc in omega arith
 
-      inside : {c d : Built} → ◌≡◌ {A = Option Built} (Some c) (Some d) → c ≡ d
+      inside : {c d : Built} → ◌≡◌ {A = Result Built Full} (Ok c) (Ok d) → c ≡ d
       inside z = cc
 
 -- ---- a list in its places
@@ -60,10 +61,11 @@ unfolding placed_list
 placed_listed X r is few = record { counted = ap (λ (b : Built). b.count) is; few = omega (arith, ap (λ (b : Built). b.count) is); lie = ap (λ (b : Built). b.sets) is }
 
 -- ---- those that stay, as if they were built
-pub listed_built : (X : List ℕ) (count : ℕ) (places : List ℕ) → Listed X count places → ◌≡◌ {A = Option Built} (Some (record { count = count; sets = places })) (built_of limits.nogoods X)
+pub listed_built : (X : List ℕ) (count : ℕ) (places : List ℕ) → Listed X count places → ◌≡◌ {A = Result Built Full} (Ok (record { count = count; sets = places })) (built_of limits.nogoods X)
 unfolding built_of placed_list
 listed_built X count places n =
-    ap (λ (b : Built). Some b) (ap₂ made n.counted n.lie) ∙ sym (ap (λ (b : Bool). choose b None (Some (placed_list X))) (le-ltb limits.nogoods (length X) (omega (arith, n.counted, n.few))))
+    ap (λ (b : Built). Ok b) (ap₂ made n.counted n.lie)
+    ∙ sym (ap (λ (b : Bool). choose b (Err (placed_first limits.nogoods X)) (Ok (placed_list X))) (le-ltb limits.nogoods (length X) (omega (arith, n.counted, n.few))))
   where
     made : ℕ → List ℕ → Built
     made c l = record { count = c; sets = l }
@@ -90,14 +92,14 @@ module _ (h : Held) (l : Lists) (re : Reached h l) where
   at_next : {X : Type 0} (f : Stage → X) → f (stage_at h.assumptions N (said_by h) (suc l.depth)) ≡ f new_stage
   at_next f = ap (λ (k : ℕ). f (stage_by h k)) (sym (add-one l.depth))
 
-  pub nogoods_built : (end : ℕ) → end ≡ get_or (tallied h) 0 0 → (r : Option Built) → Build (take end h.entries) 0 l.members l.sizes (take l.count l.nogoods) [] limits.nogoods r → r ≡ built_of limits.nogoods (stage_by h (l.depth + 1)).nogoods
+  pub nogoods_built : (end : ℕ) → end ≡ get_or (tallied h) 0 0 → (r : Result Built Full) → Build (take end h.entries) 0 l.members l.sizes (take l.count l.nogoods) [] limits.nogoods r → r ≡ built_of limits.nogoods (stage_by h (l.depth + 1)).nogoods
   nogoods_built end q r e =
       e ∙ ap (built_of limits.nogoods) (ap (picks (limits.nogoods + 1) [] []) (first_candidates h re.judgeable end q (lying l.members l.sizes) (take l.count l.nogoods) ∙ cands (take l.count l.nogoods) old_stage.nogoods 0 (nogoods_lie l.depth old_stage re.room l re.is))
       ∙ next_nogoods h.assumptions N (said_by h) upto l.depth (limits.nogoods + 1) ∙ at_next (λ s. take (limits.nogoods + 1) s.nogoods)) ∙ built_first limits.nogoods new_stage.nogoods
 
   module _ (tallies : List ℕ) (te : tallies ≡ tallied h) where
     pub label_built : (struck : List ℕ) → struck ≡ (stage_by h (l.depth + 1)).nogoods → (i lo : ℕ) → i < N → lo ≡ below (said_by h) (i + 1) → (old : List ℕ) → old ≡ lying l.members l.sizes (i + 1)
-        → (r : Option Built) → Build (between h.entries lo (lo + get_or tallies (i + 1) 0)) (i + 1) l.members l.sizes old struck limits.label r → r ≡ built_of limits.label (get_or (stage_by h (l.depth + 1)).labels i [])
+        → (r : Result Built Full) → Build (between h.entries lo (lo + get_or tallies (i + 1) 0)) (i + 1) l.members l.sizes old struck limits.label r → r ≡ built_of limits.label (get_or (stage_by h (l.depth + 1)).labels i [])
     unfolding label_in
     label_built struck se i lo low le old oe r e =
         let a : i + 1 ≡ suc i = add-one i in

@@ -11,7 +11,7 @@ ghost use Rattle.stages.specs.Judged.{Judge, Judgeable, Start};
 ghost use Rattle.stages.specs.Steps.{Fresh, Put, Reached, Relabelled, Stale, Steady, Stepped, Told, Touched, spared_of, stage_by, tallied};
 
 use joining::laid::{Labels, MEMBERS};
-use labels::Built;
+use labels::{Built, Full};
 use replies::Reply;
 use rules::Held;
 use sets::Set;
@@ -67,7 +67,7 @@ impl Step<'_> {
         ensures { Stepped self.now.held.now self.now.lists.now.depth later.new marks.new result }
     {
         let stale = touched(self.held, self.moved);
-        let Some(built) = self.refuted(stale[0]) else {
+        let Ok(built) = self.refuted(stale[0]) else {
             return Err(Reply::Nogoods);
         };
         let struck = &built.sets[..built.count];
@@ -82,14 +82,14 @@ impl Step<'_> {
         Ok(!news && slices::zeros(marks))
     }
 
-    // The nogoods of the next stage, built where they are stale; none where they are more than the limit.
-    fn refuted(&self, stale: u8) -> Option<Built>
+    // The nogoods of the next stage, built where they are stale; the first of them where they are more than the limit.
+    fn refuted(&self, stale: u8) -> Result<Built, Full>
         requires { stale ≡ 0 → Steady self.now.held.now self.now.lists.now.depth 0 }
         ensures { result ≡ built_of limits.nogoods (stage_by self.now.held.now (self.now.lists.now.depth + 1)).nogoods }
     {
         let lists = self.lists;
         if stale == 0 {
-            return Some(Built {
+            return Ok(Built {
                 count: lists.count,
                 sets: lists.nogoods,
             });
@@ -137,7 +137,7 @@ impl Step<'_> {
             hi = lo + self.tallies[at + 1] as usize;
             let old = labels.of(n);
             if stale[at + 1] != 0 {
-                let Some(label) = labels::build(
+                let Ok(label) = labels::build(
                     &held.entries[lo..hi],
                     n,
                     &labels,

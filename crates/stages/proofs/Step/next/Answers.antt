@@ -21,11 +21,11 @@ refuted-requires c =
 pub returns-in_default : goal.returns-in_default
 returns-in_default c =
     let h = c.args.self.now.held.now in
-    next_over (c.args.self.now.lists.now.depth + 1) _ (built_over limits.nogoods (stage_by h (c.args.self.now.lists.now.depth + 1)).nogoods (sym c.in_default.is ∙ c.refuted.ensures))
+    next_over (c.args.self.now.lists.now.depth + 1) _ (built_over limits.nogoods (stage_by h (c.args.self.now.lists.now.depth + 1)).nogoods _ (sym c.in_default.is ∙ c.refuted.ensures))
 
 pub shared_ref_as_front-struck : goal.shared_ref_as_front-struck
 shared_ref_as_front-struck c =
-    let b = built_is limits.nogoods (stage_by c.args.self.now.held.now (c.args.self.now.lists.now.depth + 1)).nogoods c.in-Some.built (sym c.in-Some.is ∙ c.refuted.ensures) in
+    let b = built_is limits.nogoods (stage_by c.args.self.now.held.now (c.args.self.now.lists.now.depth + 1)).nogoods c.in-Ok.built (sym c.in-Ok.is ∙ c.refuted.ensures) in
     (placed_listed _ _ b.1 b.0).few
 
 pub shared_ref_as_front-differs : goal.shared_ref_as_front-differs
@@ -36,7 +36,7 @@ relabel-over-requires c =
     let p = c.args.self.now in
     let h = c.args.self.now.held.now in
     let k = c.args.self.now.lists.now.depth in
-    let b = built_is limits.nogoods (stage_by h (k + 1)).nogoods c.in-Some.built (sym c.in-Some.is ∙ c.refuted.ensures) in
+    let b = built_is limits.nogoods (stage_by h (k + 1)).nogoods c.in-Ok.built (sym c.in-Ok.is ∙ c.refuted.ensures) in
     let n = placed_listed _ _ b.1 b.0 in (
       listed_taken _ _ _ n,
       stale_from h k _ p.fresh (wide h p.reached.judgeable) (λ r m s o. ((right_range h p.reached.judgeable.right r m).between s o).1) c.touched-stale.result c.touched-stale.ensures,
@@ -45,19 +45,19 @@ relabel-over-requires c =
       c.requires.1,
     )
 
-pub returns-in-Some-over : goal.returns-in-Some-over
-returns-in-Some-over c =
+pub returns-in-Some : goal.returns-in-Some
+returns-in-Some c =
     let h = c.args.self.now.held.now in
     let k = c.args.self.now.lists.now.depth in
-    let b = built_is limits.nogoods (stage_by h (k + 1)).nogoods c.in-Some.built (sym c.in-Some.is ∙ c.refuted.ensures) in
-    next_beyond (k + 1) (stage_by h (k + 1)) b.0 _ (sym c.in-Some-over.is ∙ c.relabel-over.ensures.over)
+    let b = built_is limits.nogoods (stage_by h (k + 1)).nogoods c.in-Ok.built (sym c.in-Ok.is ∙ c.refuted.ensures) in
+    next_beyond (k + 1) (stage_by h (k + 1)) b.0 _ (sym c.in-Some.is ∙ c.relabel-over.ensures.over)
 
 pub returns-then-not-news : goal.returns-then-not-news
 returns-then-not-news c =
     let p = c.args.self.now in
     let h = c.args.self.now.held.now in
     let k = c.args.self.now.lists.now.depth in
-    let b = built_is limits.nogoods (stage_by h (k + 1)).nogoods c.in-Some.built (sym c.in-Some.is ∙ c.refuted.ensures) in
+    let b = built_is limits.nogoods (stage_by h (k + 1)).nogoods c.in-Ok.built (sym c.in-Ok.is ∙ c.refuted.ensures) in
     let n = placed_listed _ _ b.1 b.0 in
     let r = c.relabel-over.ensures in
     let z = c.in_default-over.is in (
@@ -72,7 +72,7 @@ returns-else-not-news c =
     let p = c.args.self.now in
     let h = c.args.self.now.held.now in
     let k = c.args.self.now.lists.now.depth in
-    let b = built_is limits.nogoods (stage_by h (k + 1)).nogoods c.in-Some.built (sym c.in-Some.is ∙ c.refuted.ensures) in
+    let b = built_is limits.nogoods (stage_by h (k + 1)).nogoods c.in-Ok.built (sym c.in-Ok.is ∙ c.refuted.ensures) in
     let n = placed_listed _ _ b.1 b.0 in
     let r = c.relabel-over.ensures in
     let z = c.in_default-over.is in (

@@ -74,7 +74,7 @@ returns-in_default c =
     let n = stage_length h.assumptions (h.assumptions + h.claims) (said_by h) (c.args.self.now.lists.now.depth + 1) in
     let b = label_built h c.args.self.now.lists.now p.reached c.args.self.now.tallies.now p.counted _ r.0 l.i l.hi c.loop-i-test.true l.invariant.part _ c.of-old.ensures _ c.build.ensures in
     over_at h c.args.self.now.lists.now.depth l.i l.invariant.short (omega (arith, c.loop-i-test.true))
-    (built_over limits.label (get_or (stage_by h (c.args.self.now.lists.now.depth + 1)).labels l.i []) (sym c.in_default.is ∙ b)) _ _ _
+    (built_over limits.label (get_or (stage_by h (c.args.self.now.lists.now.depth + 1)).labels l.i []) _ (sym c.in_default.is ∙ b)) _ _ _
 
 pub put-requires : goal.put-requires
 put-requires c =
@@ -82,8 +82,8 @@ put-requires c =
     let r = c.requires in
     let h = c.args.self.now.held.now in
     let l = c.loop-i in
-    let b = built_is limits.label (get_or (stage_by h (c.args.self.now.lists.now.depth + 1)).labels l.i []) c.in-Some.label
-    (sym c.in-Some.is ∙ label_built h c.args.self.now.lists.now p.reached c.args.self.now.tallies.now p.counted _ r.0 l.i l.hi c.loop-i-test.true l.invariant.part _ c.of-old.ensures _ c.build.ensures) in
+    let b = built_is limits.label (get_or (stage_by h (c.args.self.now.lists.now.depth + 1)).labels l.i []) c.in-Ok.label
+    (sym c.in-Ok.is ∙ label_built h c.args.self.now.lists.now p.reached c.args.self.now.tallies.now p.counted _ r.0 l.i l.hi c.loop-i-test.true l.invariant.part _ c.of-old.ensures _ c.build.ensures) in
     (omega (arith, b.0, counted _ _ b.1), omega (arith, wide h p.reached.judgeable, c.loop-i-test.true))
 
 pub loop-i-preserved-then-stale-at-ne0 : goal.loop-i-preserved-then-stale-at-ne0
@@ -93,9 +93,9 @@ loop-i-preserved-then-stale-at-ne0 c =
     let h = c.args.self.now.held.now in
     let l = c.loop-i in
     let w = wide h p.reached.judgeable in
-    let b = built_is limits.label (get_or (stage_by h (c.args.self.now.lists.now.depth + 1)).labels l.i []) c.in-Some.label
-    (sym c.in-Some.is ∙ label_built h c.args.self.now.lists.now p.reached c.args.self.now.tallies.now p.counted _ r.0 l.i l.hi c.loop-i-test.true l.invariant.part _ c.of-old.ensures _ c.build.ensures) in
-    relabelling_put h c.args.self.now.lists.now.depth _ _ _ l.hi l.i l.invariant w c.loop-i-test.true _ (tally_on h p.reached.judgeable _ p.counted (l.i + 1) l.hi (omega (arith, w, c.loop-i-test.true)) l.invariant.part) c.in-Some.label b.1 b.0 _
+    let b = built_is limits.label (get_or (stage_by h (c.args.self.now.lists.now.depth + 1)).labels l.i []) c.in-Ok.label
+    (sym c.in-Ok.is ∙ label_built h c.args.self.now.lists.now p.reached c.args.self.now.tallies.now p.counted _ r.0 l.i l.hi c.loop-i-test.true l.invariant.part _ c.of-old.ensures _ c.build.ensures) in
+    relabelling_put h c.args.self.now.lists.now.depth _ _ _ l.hi l.i l.invariant w c.loop-i-test.true _ (tally_on h p.reached.judgeable _ p.counted (l.i + 1) l.hi (omega (arith, w, c.loop-i-test.true)) l.invariant.part) c.in-Ok.label b.1 b.0 _
     (old_is h c.args.self.now.lists.now p.reached l.i c.loop-i-test.true _ c.of-old.ensures) _ _ _ c.put.ensures
 
 pub loop-i-preserved-then-not-news : goal.loop-i-preserved-then-not-news
