@@ -23,14 +23,15 @@ pub enum Answer {
     Unsupported,
 }
 
-// What a question answers, and the store that came in.
+// What a question answers, and the store that came in: a refusal hands it back too (theorem `Refusals`). A struct of its own, as a member and a line
+// have: one over the type of the answer would put a Result within it into every signature.
 #[derive(Clone, Copy)]
 pub struct Asked {
     pub answer: Result<Answer, Reply>,
     pub store: Store,
 }
 
-// A member, or why there is none, and the store that came in.
+// A member, or why there is none, and the store that came in, as above.
 #[derive(Clone, Copy)]
 pub struct Shown {
     pub answer: Result<Set, Reply>,

@@ -16,7 +16,7 @@ use replies::Reply;
 use sets::Set;
 use theory::{ASSUMPTIONS, CLAIMS, HELD, MARKS, NUMBERS, SUPPORTS};
 
-// The last number, as stages are counted.
+// The last number, once more as a byte: so stages are counted, whose marks are bytes.
 const LAST: u8 = NUMBERS as u8;
 
 // What is asked of a list: of a number, of every number, or every stage.
@@ -113,7 +113,7 @@ fn follow(top: u8, list: &[Handed], e: Set) -> [u8; MARKS]
     marks
 }
 
-// What the marks say to what is asked.
+// What the marks say to what is asked: a match and no closure, since C hands over as a value what is asked.
 fn tell(marks: [u8; MARKS], top: u8, what: What, out: &mut [u8]) -> Result<Told, Reply>
     ensures { answered result out.new ≡ told_in marks top what out.old }
 {

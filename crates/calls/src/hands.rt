@@ -45,3 +45,22 @@ pub fn season(console: Console, store: &mut Store, hand: &[Handed]) -> Result<()
     console.say(b"\n");
     Ok(())
 }
+
+#[cfg(test)]
+mod tests {
+    use super::*;
+
+    // There is room for 256 items; the next is refused, and the list stays.
+    #[test]
+    fn items_are_noted(rt: HostRuntime) {
+        let mut hand = Vec::new(rt.alloc());
+        for consequent in 0..256 {
+            assert!(rt; rule(&mut hand, consequent, &[1, 2, 3, 4, 5]).is_ok());
+        }
+        assert!(rt; rule(&mut hand, 256, &[]).is_err());
+        assert_eq!(rt; hand.len(), 256);
+        assert_eq!(rt; hand[255].consequent, 255);
+        assert_eq!(rt; hand[255].count, 5);
+        assert_eq!(rt; hand[255].supports, [1, 2, 3, 4]);
+    }
+}

@@ -12,10 +12,10 @@ use replies::Reply;
 use rules::Entry;
 use theory::{ASSUMPTIONS, CLAIMS, HELD, SUPPORTS};
 
-// The most records of a file.
+// The most records of a file, once more at the width of the numbers that a file spells.
 const MOST_RECORDS: u32 = HELD as u32;
 
-// The most supports of a record.
+// The most supports of a record, so too.
 const MOST_SUPPORTS: u32 = SUPPORTS as u32;
 
 // A header's counts of assumptions, claims and records.

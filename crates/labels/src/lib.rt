@@ -44,7 +44,7 @@ fn pour(list: &[Set], labels: &Labels, struck: &[Set], pool: &mut Pool)
     }
 }
 
-// Whether the label of a support is marked, or place 0, as it is in the first step.
+// Whether the label of a support is marked, or place 0, as it is in the first step. A loop: with `any` it stayed open that each support has a mark.
 pub fn stirred(entry: Entry, moved: &[u8; MARKS]) -> bool
     requires { Few entry × Ranged (meaning entry).supports }
     ensures { result ≡ stirs moved.now (meaning entry).supports }

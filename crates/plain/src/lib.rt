@@ -34,14 +34,14 @@ impl From<Plain> for u8 {
     }
 }
 
-// What a question answers, and the store that came in.
+// What a question answers, and the store that came in, as in `asking`: a refusal hands it back too (theorem `Refusals`).
 #[derive(Clone, Copy)]
 pub struct Told {
     pub answer: Result<Plain, Reply>,
     pub store: Store,
 }
 
-// The marks of stage 0: those of the assumptions in e.
+// The marks of stage 0: those of the assumptions in e. 255 and no Option: the definitions of marks say so (`sown`, `followed_of`), and C is handed bytes.
 pub fn sown(e: Set) -> [u8; MARKS]
     ensures { result ≡ sown e }
 {

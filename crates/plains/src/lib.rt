@@ -27,7 +27,7 @@ pub fn ask(console: Console, store: &Store, n: u32, set: &[u32]) -> Result<(), F
     Ok(())
 }
 
-// plaincontext K..
+// plaincontext K..; as in `reads`, by the other call: one function over the call would ask in a clause that it may be made, and be no shorter.
 pub fn context(console: Console, store: &Store, set: &[u32]) -> Result<(), Fault> {
     let mut bytes = [0u8; MARKS];
     let reply = plain::context(*store, asked(set)?, &mut bytes).reply;

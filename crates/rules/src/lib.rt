@@ -58,7 +58,8 @@ pub fn fault(top: u8, consequent: u32, supports: &[u32]) -> Result<(), Reply>
     Ok(())
 }
 
-// A justification without fault in its place, its supports as a set.
+// A justification without fault in its place, its supports as a set. That a number is no higher than the highest is a clause, here and above: a type
+// round a byte would be made and taken off again at each call.
 pub fn canonical(top: u8, consequent: u32, supports: &[u32]) -> Entry
     requires { (top ≤ limits.numbers) × (fault_of top consequent supports.now ≡ Done) }
     ensures { Canonical top consequent supports.now result }

@@ -54,7 +54,7 @@ impl FromField for u8 {
     }
 }
 
-// The first place from `from` on whose byte does not pass, or the length.
+// The first place from `from` on whose byte does not pass, or the length. Over the places, since `from` may lie past the end.
 fn past<F: Fn(u8) -> bool>(bytes: &[u8], from: usize, passes: F) -> usize
     requires { F.IsAlwaysCallable passes }
     ensures { (p : ℕ → Bool) → ((b : ℕ) (r : Bool) → F.post passes b r → r ≡ p b) → result ≡ past p bytes.now from }
@@ -84,6 +84,7 @@ pub fn field(line: &[u8], from: usize) -> Range<usize>
 }
 
 // What all fields from `from` on say, into out: how many there are; none where one is bad or out has no room.
+// A loop, and no `split`: where a field begins and ends is what `field` promises, and out is lent, with what it had left after the last.
 fn read_all<T: FromField>(line: &[u8], from: usize, out: &mut [T]) -> Option<usize>
     ensures { AreRead T.reading line.now from out.old out.new result }
 {

@@ -10,7 +10,7 @@ use theory::ASSUMPTIONS;
 // The number itself and no type round it: a store crosses the C interface with its sets as such numbers.
 pub type Set = u32;
 
-// How many assumptions a set can have.
+// How many assumptions a set can have, once more as a byte: so an assumption is counted, in `has`, `only` and every loop over them.
 pub const WIDTH: u8 = ASSUMPTIONS as u8;
 
 // The assumptions in a or in b.

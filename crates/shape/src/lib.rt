@@ -11,6 +11,7 @@ use stages::Lists;
 use theory::{LABEL, MARKS};
 
 // Whether each stands clear before all later ones: before the next, and no set of fewer assumptions within a later one.
+// Over the places, since those before each are looked at.
 fn sorted(l: &[Set]) -> bool
     ensures { result ≡ sorted_by apart l.now }
 {

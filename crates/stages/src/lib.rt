@@ -18,6 +18,7 @@ use sets::Set;
 use theory::{LABEL, MARKS, NOGOODS, NUMBERS};
 
 // The labels and nogoods of a stage: label n from place n - 1 times its limit on, its size beside it; unused places zero.
+// Fixed places with sizes beside them, and no Vec: a store is a value of fixed size, which C copies.
 #[repr(C)]
 #[derive(Clone, Copy)]
 pub struct Lists {
@@ -28,7 +29,7 @@ pub struct Lists {
     pub depth: u8,
 }
 
-// The lists of stage 0.
+// The lists of stage 0. By number, since a label stands at its number times the limit.
 pub fn start(assumptions: u8) -> Lists
     requires { assumptions ≤ limits.assumptions }
     ensures { Start assumptions result }
@@ -111,7 +112,7 @@ impl Step<'_> {
         )
     }
 
-    // The labels of the next stage over the old ones, a mark for each that changed: those that are stale built, of the others what the nogoods leave where they changed. The lowest number whose label is over, if one is.
+    // The labels of the next stage over the old ones, a mark for each that changed: those that are stale built, of the others what the nogoods leave where they changed. The lowest number whose label is over, if one is. By number, as above.
     fn relabel(
         &self,
         stale: &[u8; MARKS],

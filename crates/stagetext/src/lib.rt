@@ -14,7 +14,7 @@ use store::Store;
 use text::Writer;
 use theory::{MARKS, NUMBERS};
 
-// The last number.
+// The last number, once more as a byte, as the highest number of a store is.
 const LAST: u8 = NUMBERS as u8;
 
 // No line of a stage is longer.

@@ -14,7 +14,8 @@ use store::Store;
 use text::Writer;
 use theory::LABEL;
 
-// The nogoods where n is 0, else the label of n.
+// The nogoods where n is 0, else the label of n. That the shape is right is a clause and no type, here and in lines and listing: each call looks at it
+// once and then writes, and a type round a store would be made for that one call.
 fn list_of(store: &Store, n: u32) -> &[Set]
     requires { (right_shape store.now ≡ true) × (n ≤ limits.numbers) }
     ensures { result.now ≡ list_held store.now.lists n }
