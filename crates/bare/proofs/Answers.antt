@@ -1,14 +1,14 @@
 -- What a list that was followed to the end answers is what is asked of it. Assumes nothing.
-use mathlib.Core.Bool.{Bool, false, not, true}
+use mathlib.Core.Bool.{Bool, false, true}
 use mathlib.Core.List.{List, ◌++◌}
-use mathlib.Core.Path.{◌∙◌, ◌≡◌, ap, ap₂, refl, sym}
+use mathlib.Core.Path.{◌∙◌, ◌≡◌, ap, refl, sym}
 use Prim.Native.Nat.{◌+◌, ◌≤◌, ℕ}
 use native.Mathlib.Omega.{arith}
 use lib.Dec.{ltb}
 use lib.ListN.{drop, length}
 use borrow.Author.Tests.{ltb-false, ne_eqb}
 use Rattle.bare.proofs.Items.{bare_placed}
-use Rattle.bare.specs.Bare.{Answered, answered, ask_of, barely, faults_of, said_as, tell_of, told_in, wrote_as}
+use Rattle.bare.specs.Bare.{answered, ask_of, barely, faults_of, said_as, tell_of, told_in, wrote_as}
 use Rattle.bare.specs.declared.Told.TheVariants.{Filled, Word}
 use Rattle.bare.specs.declared.Told.{Told}
 use Rattle.replies.proofs.Checked.{checked_done, checked_refusal}
@@ -28,7 +28,6 @@ use Rattle.replies.specs.declared.Reply.{Reply}
 use Rattle.replies.specs.declared.Reply.TheVariants.{Counts, Done, Number, Short}
 use Rattle.stagetext.proofs.Laws.{put_within, text_is}
 use Rattle.stagetext.specs.Stagetext.{rows_in}
-use Rattle.store.specs.Calls.{is_done}
 use Rattle.theory.specs.Limits.{limits, over_counts}
 use Rattle.theory.specs.Lists.{choose}
 use Rattle.theory.specs.Places.{table}

@@ -1,21 +1,20 @@
 -- The functions of this crate, test by test. Assumes nothing.
-use mathlib.Core.Bool.{Bool, ◌&&◌, ◌||◌, false, not, true}
-use mathlib.Core.List.{List, [], ◌∷◌}
-use mathlib.Core.Path.{◌∙◌, ◌≡◌, ap, ap₂, refl, sym}
-use Prim.Native.Nat.{◌+◌, ◌<◌, ◌≤◌, ℕ}
+use mathlib.Core.Bool.{Bool, ◌||◌, false, true}
+use mathlib.Core.List.{[], ◌∷◌}
+use mathlib.Core.Path.{◌∙◌, ◌≡◌, ap, refl, sym}
+use Prim.Native.Nat.{◌<◌, ◌≤◌, ℕ}
 use native.Mathlib.Decide.{dec_lt}
 use native.Mathlib.Omega.{arith}
 use lib.Dec.{leb, ltb}
-use lib.ListN.{get_or, length, replicate, set, take}
-use borrow.Author.Tests.{eq-eqb, le-leb, le-ltb, lt-ltb, ltb-false, ne_eqb}
+use lib.ListN.{length, take}
+use borrow.Author.Tests.{le-leb, lt-ltb, ltb-false}
 use Rattle.bare.specs.Bare.{fault_of_item, just_of}
 use Rattle.bare.specs.declared.Query.{Query}
 use Rattle.handed.proofs.Supplied.{supplied_few}
 use Rattle.handed.specs.Supplied.{supplied_by}
 use Rattle.handed.specs.declared.Handed.{Handed}
 use Rattle.replies.specs.Replies.{number_of}
-use Rattle.replies.specs.declared.Reply.{Reply}
-use Rattle.replies.specs.declared.Reply.TheVariants.{Counts, Done, Number, Supports}
+use Rattle.replies.specs.declared.Reply.TheVariants.{Done, Supports}
 use Rattle.rules.proofs.Laws.{canonical_fits, faultless_ranged}
 use Rattle.rules.specs.Held.{entry_of, meaning}
 use Rattle.rules.specs.Items.{fault_of, justification_of}

@@ -14,10 +14,7 @@ use handed::Handed;
 use plain::Plain;
 use replies::Reply;
 use sets::Set;
-use theory::{ASSUMPTIONS, CLAIMS, HELD, MARKS, NUMBERS, SUPPORTS};
-
-// The last number, once more as a byte: so stages are counted, whose marks are bytes.
-const LAST: u8 = NUMBERS as u8;
+use theory::{ASSUMPTIONS, CLAIMS, HELD, MARKS, SUPPORTS};
 
 // What is asked of a list: of a number, of every number, or every stage.
 #[derive(Clone, Copy)]
@@ -103,7 +100,7 @@ fn follow(top: u8, list: &[Handed], e: Set) -> [u8; MARKS]
     ensures { result ≡ table (limits.numbers + 1) (since_of (barely top list.now) e) }
 {
     let mut marks = plain::sown(e);
-    for k in 0..=LAST {
+    for k in 0..MARKS as u8 {
         let next = pass(top, list, marks, k);
         if next == marks {
             return marks;
@@ -150,20 +147,9 @@ pub fn ask(query: Query, list: &[Handed], out: &mut [u8]) -> Result<Told, Reply>
     tell(marks, top, query.what, out)
 }
 
-// Of the first n of a list by value.
-fn ask_first(query: Query, list: [Handed; HELD], n: usize, out: &mut [u8]) -> Result<Told, Reply>
-    requires { n ≤ limits.held }
-    ensures { Answers query (take n list) out.old result out.new }
-{
-    ask(query, &list[..n], out)
-}
-
-// .. and of all where n is more: a caller of this one takes no slice of items.
+// What is asked of the first n of a list by value, and of all where n is more: a caller of this one takes no slice of items.
 pub fn ask_some(query: Query, list: [Handed; HELD], n: usize, out: &mut [u8]) -> Result<Told, Reply>
     ensures { Answers query (take n list) out.old result out.new }
 {
-    if HELD < n {
-        return ask_first(query, list, HELD, out);
-    }
-    ask_first(query, list, n, out)
+    ask(query, &list[..usize::min(n, HELD)], out)
 }

@@ -12,12 +12,6 @@ use replies::Reply;
 use rules::Entry;
 use theory::{ASSUMPTIONS, CLAIMS, HELD, SUPPORTS};
 
-// The most records of a file, once more at the width of the numbers that a file spells.
-const MOST_RECORDS: u32 = HELD as u32;
-
-// The most supports of a record, so too.
-const MOST_SUPPORTS: u32 = SUPPORTS as u32;
-
 // A header's counts of assumptions, claims and records.
 #[derive(Clone, Copy)]
 pub struct Counts {
@@ -37,7 +31,7 @@ fn within(assumptions: u32, claims: u32, records: u32) -> Result<Counts, Reply>
     if CLAIMS < claims {
         return Err(Reply::Counts);
     }
-    if MOST_RECORDS < records {
+    if HELD < records as usize {
         return Err(Reply::Full);
     }
     Ok(Counts {
@@ -78,7 +72,7 @@ pub fn record(reader: &mut Reader, top: u8) -> Result<Entry, Reply>
 {
     let mut ahead = *reader;
     let (consequent, count) = ahead.two()?;
-    if MOST_SUPPORTS < count {
+    if SUPPORTS < count as usize {
         return Err(Reply::Supports);
     }
     let mut numbers = [0; SUPPORTS];

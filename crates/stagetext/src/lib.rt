@@ -14,9 +14,6 @@ use store::Store;
 use text::Writer;
 use theory::{MARKS, NUMBERS};
 
-// The last number, once more as a byte, as the highest number of a store is.
-const LAST: u8 = NUMBERS as u8;
-
 // No line of a stage is longer.
 const WIDEST: usize = 3 + 406 + 1;
 
@@ -108,7 +105,7 @@ impl<'a> Marked<'a> {
 pub fn put(marks: [u8; MARKS], top: u8, out: &mut [u8]) -> Result<usize, Reply>
     ensures { Leaves (put_of marks top out.old) result out.new }
 {
-    if LAST < top {
+    if NUMBERS < top as usize {
         return Err(Reply::Number);
     }
     let end = top as usize + 1;

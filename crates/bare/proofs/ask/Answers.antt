@@ -1,5 +1,5 @@
 -- `bare::ask` meets its contract: the counts, the items, the set, then what the marks say. Assumes nothing.
-use Rattle.std.proofs.Common.{◌≡◌, ◌≤◌, ◌∙◌, ap, sym, arith, rules}
+use Rattle.std.proofs.Common.{◌∙◌, sym, arith, rules}
 use Rattle.std.proofs.lemmas.Result.{err_from_is_err_and}
 use Rattle.bare.proofs.Answers.{asked_fault, asked_over, asked_set, asked_told}
 use Rattle.bare.proofs.Steps.{counts_low}

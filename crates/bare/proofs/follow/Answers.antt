@@ -1,5 +1,5 @@
 -- `bare::follow` meets its contract: after a stage that marks nothing new, or after as many as there are numbers, nothing follows. Assumes nothing.
-use Rattle.std.proofs.Common.{◌≡◌, ◌∙◌, ◌+◌, ap, sym, ℕ, arith}
+use Rattle.std.proofs.Common.{◌∙◌, ◌+◌, ap, sym, ℕ, arith}
 use mathlib.Core.List.{List}
 use Rattle.std.specs.Cmp.Lexicographic.{same_text}
 use Rattle.bare.proofs.Items.{bare_placed}

@@ -1,12 +1,10 @@
 -- `bare::judge` meets its contract: the first item with a fault decides. Assumes nothing.
-use Rattle.std.proofs.Common.{◌≡◌, ◌∙◌, ap, sym, refl, ℕ, arith, add-one, take}
+use Rattle.std.proofs.Common.{◌∙◌, ap, sym, refl, ℕ, arith, add-one, take}
 use Rattle.std.proofs.lemmas.Result.{err_from_is_err_and}
 use lib.Seq.{take_all}
 use borrow.Author.Tests.{ne_eqb}
 use Rattle.bare.proofs.Items.{faults_at, faults_next}
 use Rattle.bare.specs.Bare.{faults_of}
-use Rattle.handed.specs.declared.Handed.{Handed}
-use mathlib.Core.List.{List}
 use Rattle.replies.proofs.Checked.{checked_done, checked_refusal, done_checked, refusal_checked}
 use Rattle.replies.specs.Replies.{number_of}
 use Rattle.bare.proofs.judge.Goals as goal

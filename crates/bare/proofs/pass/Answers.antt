@@ -1,5 +1,5 @@
 -- `bare::pass` meets its contract. Assumes nothing.
-use Rattle.std.proofs.Common.{◌≡◌, ◌∙◌, ◌+◌, ap, sym, refl, ℕ, arith, rules, add-one, length, set, take}
+use Rattle.std.proofs.Common.{◌∙◌, ◌+◌, ap, sym, refl, ℕ, arith, add-one, set, take}
 use lib.Seq.{take_all}
 use mathlib.Core.List.{List}
 use Rattle.bare.proofs.Items.{faults_each, pass_next}
@@ -8,7 +8,6 @@ use Rattle.bare.specs.Bare.{barely, just_of}
 use Rattle.following.specs.Marks.{given_by, mark_by, pass_over}
 use Rattle.handed.proofs.Supplied.{item_at}
 use Rattle.handed.specs.declared.Handed.{Handed}
-use Rattle.theory.specs.Limits.{limits}
 use Rattle.bare.proofs.pass.Goals as goal
 
 pub loop-item-init : goal.loop-item-init

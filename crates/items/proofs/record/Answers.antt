@@ -11,19 +11,19 @@ returns-in_err-consequent c =
     let p = err_from_is_err_and c.from_residual.result c.from_residual.ensures.1 in
     rw (p.1, p.2) (record_first _ _ _ _ c.in_err-consequent.ensures)
 
-pub returns-then-count-gt-MOST_SUPPORTS : goal.returns-then-count-gt-MOST_SUPPORTS
-returns-then-count-gt-MOST_SUPPORTS c = record_many _ _ _ _ _ c.in_ok-consequent.ensures c.if-count-gt-MOST_SUPPORTS.true
+pub returns-then-count-gt-SUPPORTS : goal.returns-then-count-gt-SUPPORTS
+returns-then-count-gt-SUPPORTS c = record_many _ _ _ _ _ c.in_ok-consequent.ensures c.if-count-gt-SUPPORTS.true
 
 pub returns-in_err-supports : goal.returns-in_err-supports
 returns-in_err-supports c =
     let p = err_from_is_err_and c.from_residual-in_err-supports.result c.from_residual-in_err-supports.ensures.1 in
-    let few = c.if-count-gt-MOST_SUPPORTS.false in
+    let few = c.if-count-gt-SUPPORTS.false in
     rw (p.1, p.2) (record_short _ _ _ _ _ c.in_ok-consequent.ensures few _ _ (rw (length-take-le c.in_ok-consequent.count zeros few) at c.in_err-supports.ensures))
 
 pub returns-in_err-fault : goal.returns-in_err-fault
 returns-in_err-fault c =
     let p = err_from_is_err_and c.from_residual-in_err-fault.result c.from_residual-in_err-fault.ensures.1 in
-    let few = c.if-count-gt-MOST_SUPPORTS.false in
+    let few = c.if-count-gt-SUPPORTS.false in
     rw (p.1, p.2) (record_faulty _ _ _ _ _ c.in_ok-consequent.ensures few _ _ (rw (length-take-le c.in_ok-consequent.count zeros few) at c.in_ok-supports.ensures) _ c.in_err-fault.ensures)
 
 pub canonical-entry-requires : goal.canonical-entry-requires
@@ -31,5 +31,5 @@ canonical-entry-requires c = (c.requires, checked_done _ _ (sym c.in_ok-fault.en
 
 pub returns : goal.returns
 returns c =
-    let few = c.if-count-gt-MOST_SUPPORTS.false in
+    let few = c.if-count-gt-SUPPORTS.false in
     record_whole _ _ _ _ _ c.in_ok-consequent.ensures few _ _ (rw (length-take-le c.in_ok-consequent.count zeros few) at c.in_ok-supports.ensures) _ c.in_ok-fault.ensures _ c.canonical-entry.ensures

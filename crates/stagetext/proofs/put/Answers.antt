@@ -10,5 +10,5 @@ pub returns : goal.returns
 returns c =
     let a = c.args in
     let long : length a.marks ≡ limits.numbers + 1 = search rules in
-    let whole = put_done a.marks a.top _ a.out.now _ c.if-top-gt-LAST.false (rows_first a.marks a.top (omega (arith, long, c.if-top-gt-LAST.false)) _) (ap (λ (x : ℕ). x + 1) c.last-count.ensures) (leb-true _ _ (sym c.fits.ensures ∙ c.if-not-fits.false)) in
+    let whole = put_done a.marks a.top _ a.out.now _ c.if-top-gt-NUMBERS.false (rows_first a.marks a.top (omega (arith, long, c.if-top-gt-NUMBERS.false)) _) (ap (λ (x : ℕ). x + 1) c.last-count.ensures) (leb-true _ _ (sym c.fits.ensures ∙ c.if-not-fits.false)) in
     grind (arith, texts, whole)
