@@ -92,7 +92,7 @@ impl Reading<'_> {
         }
     }
 
-    // The byte for e; follows tells whether the number follows from all assumptions together.
+    // The byte for e; follows tells whether the number follows from all assumptions together. No From: the answer alone does not tell the byte.
     fn byte(&self, e: Set, follows: bool) -> u8
         ensures { result ≡ byte_of (unlabelled self.now.lists.now self.now.n && follows) (standing self.now.lists.now self.now.n e) }
     {

@@ -14,7 +14,7 @@ ghost use Rattle.holding.specs.Promised.{Inserted, IsHeld, Removed};
 use rules::{Entry, Held};
 
 // That what is held has its right shape is a clause and no type: each caller knows it from a test of a whole store or file,
-// and a type round what is held would be made for one call and taken off again to judge it.
+// and a type round what is held would be made for one call and taken off again to judge it. So with the room for one more.
 
 // Whether the justification is held.
 pub fn holds(held: Held, entry: Entry) -> bool

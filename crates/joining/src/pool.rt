@@ -38,7 +38,7 @@ fn purge(list: &mut [Set], count: usize, e: Set) -> usize
     kept
 }
 
-// e put among the first so many in listing order; the last of all is left over.
+// e put among the first so many in listing order; the last of all is left over. A count beside the array, as above.
 fn squeeze(list: &mut [Set], count: usize, e: Set) -> Set
     requires { (count ≤ length list.old) × (sorted_by before (take count list.old) ≡ true) }
     ensures { take count list.new ++ result ∷ [] ≡ placed e (take count list.old) }

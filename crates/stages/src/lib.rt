@@ -205,7 +205,7 @@ fn write(members: &mut [Set], from: usize, label: &[Set])
     members[from..from + label.len()].copy_from_slice(label);
 }
 
-// How many justifications of each number are held: they stand in the order of their numbers.
+// How many justifications of each number are held: they stand in the order of their numbers. That what is held can be judged is a clause, as `judge` asks it.
 fn tally(held: &Held) -> [u16; MARKS]
     requires { Judgeable limits.assumptions held.now }
     ensures { result ≡ tallied held.now }

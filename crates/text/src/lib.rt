@@ -7,7 +7,7 @@ ghost use Rattle.text.specs.Texts.{braced, digits, field, heading, refusal, row,
 
 use sets::{Set, WIDTH};
 
-// Lent bytes, and how many of them are written from the first on.
+// Lent bytes, and how many of them are written from the first on. That there is room is a clause of each method, since each asks it of a text of its own.
 #[derive(Drop)]
 pub struct Writer<'a> {
     bytes: &'a mut [u8],
