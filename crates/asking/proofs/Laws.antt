@@ -7,13 +7,15 @@ use native.Mathlib.Omega.{arith}
 use lib.Dec.{eqb, ltb}
 use lib.ListN.{get_or, length}
 use borrow.Author.Tests.{le-ltb, lt-ltb, ne_eqb}
-use Rattle.std.specs.Prelude.{◌≢◌, Result, Ok, Err, ⊤}
-use Rattle.asking.specs.Asking.{Room, byte_of, context_reply, member_at, member_of, question_of, standing}
+use Rattle.std.specs.List.{position}
+use Rattle.std.specs.Prelude.{◌≢◌, Result, Ok, Err, Some, None, ⊤}
+use Rattle.asking.specs.Asking.{Room, byte_of, context_reply, first_in, member_at, member_of, question_of, standing}
 use Rattle.asking.specs.declared.Answer.{Answer}
 use Rattle.following.proofs.Places.{all_told}
 use Rattle.following.proofs.Sowing.{marks_long}
 use Rattle.following.specs.Marks.{all_marks}
 use Rattle.following.specs.Promised.{Followable}
+use Rattle.members.proofs.First.{placed_find, placed_none}
 use Rattle.replies.proofs.Checked.{checked_done, checked_refusal, refusal_checked}
 use Rattle.replies.specs.Replies.{checked, number_of}
 use Rattle.replies.specs.declared.Reply.{Reply}
@@ -30,6 +32,16 @@ use Rattle.store.specs.declared.Store.{Store}
 use Rattle.theory.specs.Demands.{follows_from_all}
 use Rattle.theory.specs.Limits.{limits}
 use Rattle.theory.specs.Lists.{choose}
+use Rattle.theory.specs.Sets.{within}
+
+-- ---- the first member within a set, by its place
+pub first_named : (l : List ℕ) (E p : ℕ) → position (λ F. within F E) l ≡ Some p → first_in l E ≡ Some (get_or l p 0)
+unfolding first_in
+first_named l E p e = placed_find (λ F. within F E) l p e
+
+pub first_none : (l : List ℕ) (E : ℕ) → position (λ F. within F E) l ≡ None → first_in l E ≡ None
+unfolding first_in
+first_none l E e = placed_none (λ F. within F E) l e
 
 -- the marks of what follows from all assumptions together are one for each number
 pub marks_all : (h : Held) (m : List ℕ) → m ≡ all_marks h → length m ≡ limits.numbers + 1
