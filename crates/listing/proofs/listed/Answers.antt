@@ -8,7 +8,7 @@ use Rattle.listing.proofs.listed.Goals as goal
 
 pub returns : goal.returns
 returns c =
-    let same : listing_text c.of-page.result.store ≡ listing_text c.args.store = ap listing_text c.of-page.ensures in
+    let same : listing_text c.of-page.result.store.now ≡ listing_text c.args.store = ap listing_text c.of-page.ensures in
     let room : length (listing_text c.args.store) ≤ length c.args.out.now = omega (arith, leb-true _ _ (sym c.fits.ensures ∙ c.if-not-fits.false), ap length same) in
     let whole = fitted_long (listing_text c.args.store) c.args.out.now room refl in
     grind (arith, texts, whole)

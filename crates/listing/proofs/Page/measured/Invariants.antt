@@ -4,4 +4,4 @@ use Rattle.listing.specs.Listing.{lines_below}
 use Rattle.listing.proofs.Page.measured.Given as goal
 
 abbrev pub invariant-loop-n : goal.invariant-loop-n
-invariant-loop-n l = l.sum ≡ length (lines_below l.self.store l.n)
+invariant-loop-n l = l.sum ≡ length (lines_below l.self.store.now l.n)

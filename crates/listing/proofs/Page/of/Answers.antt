@@ -3,4 +3,4 @@ use Rattle.lines.proofs.Follows.{followable}
 use Rattle.listing.proofs.Page.of.Goals as goal
 
 pub from_all-marks-requires : goal.from_all-marks-requires
-from_all-marks-requires c = followable c.args.store c.requires
+from_all-marks-requires c = followable c.args.store.now c.requires.0

@@ -5,4 +5,4 @@ use Rattle.text.specs.Writer.{added}
 use Rattle.listing.proofs.Page.rows.Given as goal
 
 abbrev pub invariant-loop-n : goal.invariant-loop-n
-invariant-loop-n l = l.writer ≡ added (lines_below l.self.store l.n) l.initial.writer
+invariant-loop-n l = l.writer ≡ added (lines_below l.self.store.now l.n) l.initial.writer
