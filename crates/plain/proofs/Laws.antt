@@ -6,9 +6,9 @@ use mathlib.Core.Path.{◌∙◌, ◌≡◌, ap, ap₂, refl, sym}
 use Prim.Native.Nat.{◌+◌, ◌<◌, ◌≤◌, suc, zero, ℕ}
 use native.Mathlib.Omega.{arith}
 use lib.Dec.{eqb, ltb}
-use lib.ListN.{get_or-eq_default, drop, get_or, length, replicate, set}
+use lib.ListN.{drop, get_or, length, replicate, set}
 use borrow.Author.Tests.{eq-eqb, eqb-false, eqb-true, le-ltb, lt-ltb, ltb-false, ltb-true, ne_eqb}
-use Rattle.std.specs.Prelude.{◌≢◌, Result, Ok, Err, ⊤}
+use Rattle.std.specs.Prelude.{Result, Ok, Err, ⊤}
 use lib.ListN.{take}
 use lib.Seq.{length-take-le}
 use Rattle.asking.proofs.Laws.{followable_found, refused_bytes, refused_reply}
@@ -20,7 +20,6 @@ use Rattle.replies.proofs.Laws.{zero_done}
 use Rattle.replies.specs.Replies.{checked}
 use Rattle.store.proofs.Reading.{readable}
 use Rattle.theory.proofs.Lists.{clash}
-use Rattle.following.proofs.Passing.{get_d_any}
 use Rattle.following.proofs.Places.{held_placed}
 use Rattle.following.proofs.Staging.{Placed}
 use Rattle.following.specs.First.{since_of}
@@ -32,13 +31,13 @@ use Rattle.plain.specs.declared.Plain.{Plain}
 use Rattle.plain.specs.declared.Plain.TheVariants.{Inconsistent, Supported, Unsupported}
 use Rattle.replies.specs.Replies.{number_of}
 use Rattle.replies.specs.declared.Reply.{Reply}
-use Rattle.replies.specs.declared.Reply.TheVariants.{Done, Number, Short}
+use Rattle.replies.specs.declared.Reply.TheVariants.{Done, Short}
 use Rattle.rules.specs.Held.{said_by}
 use Rattle.sets.proofs.Membership.{range_members}
 use Rattle.stages.proofs.Tables.{replicate_table, set_table, table_same}
 use Rattle.store.proofs.Reading.{Readable, refused}
 use Rattle.store.proofs.Shapes.{Fitting}
-use Rattle.store.specs.Calls.{answer, is_done}
+use Rattle.store.specs.Calls.{is_done}
 use Rattle.store.specs.Reading.{refusal_of}
 use Rattle.store.specs.Shape.{top}
 use Rattle.store.specs.declared.Store.{Store}

@@ -55,6 +55,7 @@ pub fn sown(e: Set) -> [u8; MARKS]
 }
 
 // For each number the first stage at which it follows from e, 255 where it never does; or why a call that reads n and e is refused.
+// Never is no None: since_of and marks_of, of which theorems speak, have 255 for it.
 #[tactic(auto, using(crate::proofs::Laws::of_follow))]
 pub fn follow(store: Store, n: u32, e: Set) -> Result<[u8; MARKS], Reply>
     ensures { result ≡ followed_of store n e }

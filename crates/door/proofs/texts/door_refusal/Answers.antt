@@ -15,4 +15,4 @@ text-requires c = whole_room c.new-writer.ensures _ c.refused.ensures (refusal_m
 pub returns : goal.returns
 returns c =
     let said = c.fit-answer.ensures ∙ ap (λ (t : List ℕ). fitted t c.args.out.now) (c.text.ensures ∙ whole_text c.new-writer.ensures _ c.refused.ensures) in
-    (c.written.ensures ∙ ap (λ (w : Wrote). wrote_by w.answer) said, ap (λ (w : Wrote). w.bytes) said)
+    (c.from.ensures ∙ ap (λ (w : Wrote). wrote_by w.answer) said, ap (λ (w : Wrote). w.bytes) said)
