@@ -41,7 +41,7 @@ pub struct Told {
     pub store: Store,
 }
 
-// The marks of stage 0: those of the assumptions in e. 255 and no Option: the definitions of marks say so (`sown`, `followed_of`), and C is handed bytes.
+// The marks of stage 0: those of the assumptions in e.
 pub fn sown(e: Set) -> [u8; MARKS]
     ensures { result ≡ sown e }
 {
