@@ -14,7 +14,7 @@ use Prim.Native.Nat.{◌+◌, ◌<◌, ◌^◌, ◌≤◌, ℕ}
 use native.Mathlib.Omega.{arith}
 use lib.Dec.{eqb, leb, ltb}
 use lib.ListN.{drop, get_or, length}
-use borrow.Author.Tests.{le-ltb, ltb-false, not-false, not-true}
+use borrow.Author.Tests.{eq-eqb, le-ltb, ltb-false, not-false, not-true}
 use Rattle.asking.specs.Asking.{answer_number, context_reply, first_in, member_at, member_number, member_of, question_of, reasoned, standing}
 use Rattle.bare.specs.Bare.{Answered, answered, ask_of, barely, faults_of, tell_of, told_number, wrote_as, in_kind, said_as}
 use Rattle.bare.specs.declared.Query.{Query}
@@ -428,6 +428,35 @@ module _ (q : Query) (l : List Handed) (out : List ℕ) where
       let w : What = q.what in
       kind_choose w (ltb limits.assumptions q.assumptions || ltb limits.claims q.claims) Counts _
       (kind_choose w (not (is_done (faults_of Q l))) (faults_of Q l) _ (kind_choose w (not (in_range q.assumptions q.set)) Number _ (tell_kind w)))
+
+  -- ---- what no number refuses is an answer
+  abbrev Answers0 : Answered → Type 0
+  Answers0 x = told_number x.answer ≡ 0 → (t : Told) × (x.answer ≡ Ok t)
+
+  said_choose : (b : Bool) (r : Reply) (y : Answered) → (b ≡ true → number_of r ≡ 0 → ⊥) → Answers0 y → Answers0 (choose b (answered (Err r) out) y)
+  said_choose true r y k h z = absurd (k refl z)
+  said_choose false r y k h z = h z
+
+  tell_said : (w : What) → Answers0 (tell_of Q (barely Q l) q.set w out)
+  unfolding fitted
+  tell_said (Of n) = word_said (ltb Q n)
+    where
+      word_said : (b : Bool) → Answers0 (answered (choose b (Err Number) (Ok (Word (plain_by (barely Q l) q.set n)))) out)
+      word_said true z = absurd (omega arith)
+      word_said false z = (_, refl)
+  tell_said Context = said_choose (ltb (length out) (Q + 1)) Short _ (λ p z. omega arith) (λ z. (_, refl))
+  tell_said Stages = lines_said (ltb (length out) (length (stage_text Q (barely Q l) q.set)))
+    where
+      lines_said : (b : Bool) → Answers0 (wrote_as (choose b (kept Short out) (record { answer = Ok (length (stage_text Q (barely Q l) q.set)); bytes = stage_text Q (barely Q l) q.set ++ drop (length (stage_text Q (barely Q l) q.set)) out })))
+      lines_said true z = absurd (omega arith)
+      lines_said false z = (_, refl)
+
+  pub bare_said : Answers0 (ask_of q l out)
+  unfolding ask_of
+  bare_said =
+      said_choose (ltb limits.assumptions q.assumptions || ltb limits.claims q.claims) Counts _ (λ p z. omega arith)
+      (said_choose (not (is_done (faults_of Q l))) (faults_of Q l) _ (λ p z. let e : is_done (faults_of Q l) ≡ true = eq-eqb _ 0 z in cc)
+      (said_choose (not (in_range q.assumptions q.set)) Number _ (λ p z. omega arith) (tell_said q.what)))
 
 -- ---- all of it
 

@@ -37,6 +37,8 @@ pub record Refusals (C : Calls) : Type 0 where
   -- a refusal of a bare list is said as the call of a store says it; any other answer is a word, a context or lines, as is asked
   pub bare_kind : (q : Query) (l : List Handed) (out : List ℕ) → (told_number (C.bare q l out).answer ≡ 0 → ⊥) → (r : Reply) × ((C.bare q l out).answer ≡ Err r)
   pub bare_done : (q : Query) (l : List Handed) (out : List ℕ) → (t : Told) → (C.bare q l out).answer ≡ Ok t → in_kind q.what t ≡ true
+  -- and what no number refuses is such an answer
+  pub bare_said : (q : Query) (l : List Handed) (out : List ℕ) → told_number (C.bare q l out).answer ≡ 0 → (t : Told) × ((C.bare q l out).answer ≡ Ok t)
   pub printing_bytes : (bytes out : List ℕ) → (written_number (C.printing bytes out).answer ≡ 0 → ⊥) → (C.printing bytes out).bytes ≡ out
 
 pub record Demand1 (C : Calls) : Type 2 where

@@ -156,6 +156,7 @@ refusals_too = record {
   bare_bytes = refusals.bare_bytes;
   bare_kind = refusals.bare_kind;
   bare_done = refusals.bare_done;
+  bare_said = refusals.bare_said;
   printing_bytes = λ bytes out k.
       ap (λ (w : Wrote). w.bytes) (prints_ours bytes out)
       ∙ refusals.printing_bytes bytes out (λ z. k (ap (λ (w : Wrote). written_number w.answer) (prints_ours bytes out) ∙ z));
