@@ -50,15 +50,17 @@ fn held_fits(held: Held) -> bool
     held.right()
 }
 
-// The store of the justifications held, judged anew from stage 0; or the refusal.
+// The store of the justifications held, judged anew from stage 0; or the refusal. A match and no `?`, with which adding takes more than its bound of the stack.
 fn anew(held: Held) -> Result<Store, Reply>
     ensures { result ≡ result_of (judged_of held) }
 {
     if !held_fits(held) {
         return Err(Reply::Shape);
     }
-    let lists = stages::judge(held)?;
-    Ok(Store { held, lists })
+    match stages::judge(held) {
+        Ok(lists) => Ok(Store { held, lists }),
+        Err(reply) => Err(reply),
+    }
 }
 
 // .. with a store that means nothing beside a refusal.

@@ -1,7 +1,6 @@
 -- `anew` meets its contract: what is held, then the stages. Assumes nothing.
 use mathlib.Core.Path.{◌∙◌, sym}
 use native.Mathlib.Omega.{arith}
-use Rattle.std.proofs.lemmas.Result.{err_from_is_err_and}
 use Rattle.store.proofs.Judging.{anew_done, anew_refused, anew_shape}
 use Rattle.store.proofs.Shapes.{fits_elim}
 use Rattle.store.proofs.anew.Goals as goal
@@ -12,10 +11,8 @@ returns-then-not-held_fits c = anew_shape c.args.held (sym c.held_fits.ensures �
 pub judge-requires : goal.judge-requires
 judge-requires c = let f = fits_elim c.args.held (sym c.held_fits.ensures ∙ c.if-not-held_fits.false) in record { right = f.right; assumptions = f.few; numbers = omega (arith, f.few, f.claims) }
 
-pub returns-in_err-lists : goal.returns-in_err-lists
-returns-in_err-lists c =
-    let p = err_from_is_err_and c.from_residual.result c.from_residual.ensures.1 in
-    rw (p.1, p.2) (anew_refused c.args.held (sym c.held_fits.ensures ∙ c.if-not-held_fits.false) _ c.in_err-lists.ensures)
+pub returns-in-Err : goal.returns-in-Err
+returns-in-Err c = anew_refused c.args.held (sym c.held_fits.ensures ∙ c.if-not-held_fits.false) _ c.in-Err.ensures
 
-pub returns : goal.returns
-returns c = anew_done c.args.held (sym c.held_fits.ensures ∙ c.if-not-held_fits.false) _ c.in_ok-lists.ensures
+pub returns-in-Ok : goal.returns-in-Ok
+returns-in-Ok c = anew_done c.args.held (sym c.held_fits.ensures ∙ c.if-not-held_fits.false) _ c.in-Ok.ensures
