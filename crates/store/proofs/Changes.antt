@@ -2,14 +2,14 @@
 use mathlib.Core.Bool.{Bool, false, not, true}
 use mathlib.Core.List.{List}
 use mathlib.Core.Logic.{⊎_elim}
-use mathlib.Core.Path.{◌≡◌, ap, refl, subst, sym}
+use mathlib.Core.Path.{◌∙◌, ◌≡◌, ap, refl, subst, sym}
 use Prim.Native.Nat.{◌<◌, ◌≤◌, ℕ}
 use native.Mathlib.Omega.{arith}
 use lib.Dec.{leb}
 use lib.ListN.{length}
-use borrow.Author.Tests.{eqb-true, leb-false, not-false}
+use borrow.Author.Tests.{eq-eqb, eqb-true, leb-false, ne_eqb, not-false}
 use Rattle.changing.specs.Changing.{excluded, included, less_of, more_of, sifted}
-use Rattle.std.specs.Prelude.{Err, MatchResult, Ok, Result}
+use Rattle.std.specs.Prelude.{Err, Ok, Result}
 use Rattle.rules.specs.declared.Held.{Held}
 use Rattle.replies.proofs.Laws.{zero_done}
 use Rattle.replies.specs.Replies.{number_of}
@@ -24,9 +24,9 @@ use Rattle.rules.proofs.Scan.{right_elim}
 use Rattle.rules.specs.Held.{dropped, entry_of, fitting, held_of, held_right, meaning, put, said_by}
 use Rattle.rules.specs.Items.{fault_of, justification_of, same_justification}
 use Rattle.rules.specs.declared.Entry.{Entry}
-use Rattle.store.proofs.Judging.{anew_stored, kept_refusal, kept_store}
+use Rattle.store.proofs.Judging.{anew_stored}
 use Rattle.store.proofs.Shapes.{Fitting, shape_elim}
-use Rattle.store.specs.Calls.{add_of, after_of, answer, checked_of, is_done, joined_by, judged_of, parted_from, result_of, withdraw_of}
+use Rattle.store.specs.Calls.{add_of, after_of, answer, checked_of, else_kept, is_done, joined_by, judged_of, parted_from, withdraw_of}
 use Rattle.store.specs.Shape.{right_shape, top}
 use Rattle.store.specs.declared.Outcome.{Outcome}
 use Rattle.store.specs.declared.Store.{Store}
@@ -41,19 +41,20 @@ through f false p q = q refl
 -- ---- the store after a change, test by test
 
 module _ (s : Store) where
-  after_refused : (r : Reply) → answer r s ≡ after_of s (Err r)
+  pub after_refused : (r : Reply) → answer r s ≡ after_of s (Err r)
   unfolding after_of
   after_refused r = refl
 
-  pub after_store : (changed : Result Held Reply) (x : Store) → MatchResult changed (λ h. Ok x ≡ result_of (judged_of h)) (λ e. ◌≡◌ {A = Result Store Reply} (Ok x) (Err e)) → answer Done x ≡ after_of s changed
-  unfolding after_of
-  after_store (Ok h) x t = kept_store (judged_of h) s x t
-  after_store (Err e) x t = cc
+  module _ (h : Held) (o : Outcome) (e : o ≡ judged_of h) where
+    kept : else_kept s o ≡ after_of s (Ok h)
+    unfolding after_of
+    kept = ap (else_kept s) e
 
-  pub after_refusal : (changed : Result Held Reply) (r : Reply) → MatchResult changed (λ h. Err r ≡ result_of (judged_of h)) (λ e. ◌≡◌ {A = Result Store Reply} (Err r) (Err e)) → answer r s ≡ after_of s changed
-  unfolding after_of
-  after_refusal (Ok h) r t = kept_refusal (judged_of h) s r t
-  after_refusal (Err e) r t = let q : r ≡ e = cc in ap (λ (x : Reply). answer x s) q
+    pub after_stages : (number_of o.reply ≡ 0 → ⊥) → answer o.reply s ≡ after_of s (Ok h)
+    after_stages f = sym (ap (λ (b : Bool). choose b o (answer o.reply s)) (ne_eqb (number_of o.reply) 0 f)) ∙ kept
+
+    pub after_done : number_of o.reply ≡ 0 → o ≡ after_of s (Ok h)
+    after_done d = sym (ap (λ (b : Bool). choose b o (answer o.reply s)) (eq-eqb (number_of o.reply) 0 d)) ∙ kept
 
 -- ---- adding and withdrawing
 

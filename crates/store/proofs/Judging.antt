@@ -1,12 +1,11 @@
 -- From what the stages say to the answer of judging; the refusals of adding and withdrawing before it. Assumes nothing.
 use Rattle.std.specs.Prelude.{Ok, Err}
-use mathlib.Core.Bool.{Bool, false, not, true}
+use mathlib.Core.Bool.{false, true}
 use mathlib.Core.List.{List, []}
-use mathlib.Core.Path.{◌∙◌, ◌≡◌, ap, ap₂, refl, sym}
+use mathlib.Core.Path.{◌∙◌, ◌≡◌, ap, ap₂, refl, subst, sym}
 use Prim.Native.Nat.{◌+◌, ◌<◌, ◌≤◌, ℕ}
-use borrow.Author.Tests.{eqb-true, le-leb, le-ltb, lt-ltb, ne_eqb}
-use Rattle.replies.proofs.Laws.{zero_done}
-use Rattle.theory.specs.Lists.{choose}
+use native.Mathlib.Omega.{arith}
+use borrow.Author.Tests.{le-leb, le-ltb, lt-ltb, ne_eqb}
 use Rattle.replies.specs.Replies.{number_of}
 use Rattle.replies.specs.declared.Reply.{Reply}
 use Rattle.replies.specs.declared.Reply.TheVariants.{Counts, Done, Label, Nogoods, Shape}
@@ -19,7 +18,7 @@ use Rattle.stages.specs.Judged.{judged_by}
 use Rattle.stages.specs.Lists.{first_stage, lists_of}
 use Rattle.stages.specs.declared.Lists.{Lists}
 use Rattle.store.proofs.Shapes.{Fitting, fits_elim}
-use Rattle.store.specs.Calls.{add_of, answer, checked_of, else_kept, is_done, joined_by, judged_of, result_of, no_store, of_verdict, open_of, parted_from, start_store, store_of, withdraw_of}
+use Rattle.store.specs.Calls.{add_of, answer, checked_of, else_kept, joined_by, judged_of, no_store, of_verdict, open_of, parted_from, start_store, store_of, withdraw_of}
 use Rattle.store.specs.Shape.{held_fits, right_shape, top}
 use Rattle.store.specs.declared.Outcome.{Outcome}
 use Rattle.store.specs.declared.Store.{Store}
@@ -42,7 +41,7 @@ module _ (h : Held) where
   unfolding judged_of store_of
   judged_fits t = rw t
 
-  judged_shape : held_fits h ≡ false → answer Shape no_store ≡ judged_of h
+  pub judged_shape : held_fits h ≡ false → answer Shape no_store ≡ judged_of h
   unfolding judged_of
   judged_shape t = rw t
 
@@ -51,55 +50,21 @@ module _ (h : Held) where
     outcome v e =
         ap (of_verdict no_store h) (sym e) ∙ ap (λ (k : Held). of_verdict no_store k stages_say) (sym (again h (fits_elim h t))) ∙ judged_fits t
 
-    pub anew_refused : (r : Reply) → Err r ≡ judged_by stages_say → Err r ≡ result_of (judged_of h)
-    anew_refused r e = go stages_say e ∙ ap result_of (outcome stages_say refl)
+    pub judged_refused : (r : Reply) → Err r ≡ judged_by stages_say → answer r no_store ≡ judged_of h
+    judged_refused r e = go stages_say e ∙ outcome stages_say refl
       where
-        go : (v : Verdict) → Err r ≡ judged_by v → Err r ≡ result_of (of_verdict no_store h v)
+        go : (v : Verdict) → Err r ≡ judged_by v → answer r no_store ≡ of_verdict no_store h v
         go (settled d s) q = cc
-        go nogoods_over q = let same : r ≡ Nogoods = cc in ap Err same
-        go (label_over n) q = let same : r ≡ Label n = cc in ap Err same
+        go nogoods_over q = let same : r ≡ Nogoods = cc in ap (λ (x : Reply). answer x no_store) same
+        go (label_over n) q = let same : r ≡ Label n = cc in ap (λ (x : Reply). answer x no_store) same
 
-    pub anew_done : (l : Lists) → Ok l ≡ judged_by stages_say → Ok (record { held = h; lists = l }) ≡ result_of (judged_of h)
-    anew_done l e = go stages_say e ∙ ap result_of (outcome stages_say refl)
+    pub judged_done : (l : Lists) → Ok l ≡ judged_by stages_say → answer Done (record { held = h; lists = l }) ≡ judged_of h
+    judged_done l e = go stages_say e ∙ outcome stages_say refl
       where
-        go : (v : Verdict) → Ok l ≡ judged_by v → Ok (record { held = h; lists = l }) ≡ result_of (of_verdict no_store h v)
-        go (settled d s) q = let same : l ≡ lists_of d s = cc in ap (λ (x : Lists). Ok (record { held = h; lists = x })) same
+        go : (v : Verdict) → Ok l ≡ judged_by v → answer Done (record { held = h; lists = l }) ≡ of_verdict no_store h v
+        go (settled d s) q = let same : l ≡ lists_of d s = cc in ap (λ (x : Lists). answer Done (record { held = h; lists = x })) same
         go nogoods_over q = cc
         go (label_over n) q = cc
-
-  pub anew_shape : held_fits h ≡ false → Err Shape ≡ result_of (judged_of h)
-  anew_shape t = ap result_of (judged_shape t)
-
-  -- a refusal of judging hands back no store
-  pub judged_kept : else_kept no_store (judged_of h) ≡ judged_of h
-  unfolding judged_of store_of
-  judged_kept = go (held_fits h) stages_say
-    where
-      go : (b : Bool) (v : Verdict) → else_kept no_store (choose (not b) (answer Shape no_store) (of_verdict no_store (held_of h.assumptions h.claims (said_by h)) v)) ≡ choose (not b) (answer Shape no_store) (of_verdict no_store (held_of h.assumptions h.claims (said_by h)) v)
-      go false v = refl
-      go true (settled d g) = refl
-      go true nogoods_over = refl
-      go true (label_over n) = refl
-
--- ---- an outcome from a result: its store, or a refusal and the store that stands in its place
-
-module _ (o : Outcome) where
-  pub kept_store : (s x : Store) → Ok x ≡ result_of o → answer Done x ≡ else_kept s o
-  kept_store s x t = go (is_done o.reply) refl t
-    where
-      go : (b : Bool) → is_done o.reply ≡ b → Ok x ≡ choose b (Ok o.store) (Err o.reply) → answer Done x ≡ choose b o (answer o.reply s)
-      go true q t =
-          let d : o.reply ≡ Done = zero_done o.reply (eqb-true (number_of o.reply) 0 q) in
-          let e : x ≡ o.store = cc in
-          ap₂ answer (sym d) e
-      go false q t = cc
-
-  pub kept_refusal : (s : Store) (r : Reply) → Err r ≡ result_of o → answer r s ≡ else_kept s o
-  kept_refusal s r t = go (is_done o.reply) t
-    where
-      go : (b : Bool) → Err r ≡ choose b (Ok o.store) (Err o.reply) → answer r s ≡ choose b o (answer o.reply s)
-      go true t = cc
-      go false t = let e : r ≡ o.reply = cc in ap (λ (x : Reply). answer x s) e
 
 -- ---- opening
 

@@ -62,10 +62,6 @@ JudgedAnew h r = r ≡ judged_of h
 abbrev pub is_done : Reply → Bool
 is_done r = eqb (number_of r) 0
 
--- o as a result: its store, or its refusal
-abbrev pub result_of : Outcome → Result Store Reply
-result_of o = choose (is_done o.reply) (Ok o.store) (Err o.reply)
-
 -- o; a refusal hands back s
 abbrev pub else_kept : Store → Outcome → Outcome
 else_kept s o = choose (is_done o.reply) o (answer o.reply s)

@@ -6,7 +6,7 @@ ghost use Rattle.theory.specs.Limits.{limits};
 ghost use Rattle.store.specs.Shape.{RightShape, held_fits};
 ghost use Rattle.replies.specs.Replies.{checked};
 ghost use Rattle.store.specs.Reading.{refusal_of};
-ghost use Rattle.store.specs.Calls.{Added, JudgedAnew, Opened, Withdrawn, after_of, judged_of, result_of, start_store};
+ghost use Rattle.store.specs.Calls.{Added, JudgedAnew, Opened, Withdrawn, after_of, start_store};
 
 use replies::Reply;
 use rules::Held;
@@ -50,27 +50,20 @@ fn held_fits(held: Held) -> bool
     held.right()
 }
 
-// The store of the justifications held, judged anew from stage 0; or the refusal. A match and no `?`, with which adding takes more than its bound of the stack.
-fn anew(held: Held) -> Result<Store, Reply>
-    ensures { result ≡ result_of (judged_of held) }
-{
-    if !held_fits(held) {
-        return Err(Reply::Shape);
-    }
-    match stages::judge(held) {
-        Ok(lists) => Ok(Store { held, lists }),
-        Err(reply) => Err(reply),
-    }
-}
-
-// .. with a store that means nothing beside a refusal.
+// The store of the justifications held, judged anew from stage 0; or the refusal. No Result of a store within it, nor in `after`: with a copy of a store more, adding and loading take more than their bound of the stack.
 pub fn judged(held: Held) -> Outcome
     ensures { JudgedAnew held result }
 {
-    match anew(held) {
-        Ok(store) => Outcome {
+    if !held_fits(held) {
+        return Outcome {
+            reply: Reply::Shape,
+            store: start(0, 0),
+        };
+    }
+    match stages::judge(held) {
+        Ok(lists) => Outcome {
             reply: Reply::Done,
-            store,
+            store: Store { held, lists },
         },
         Err(reply) => Outcome {
             reply,
@@ -132,11 +125,15 @@ impl Store {
     pub fn after(self, changed: Result<Held, Reply>) -> Outcome
         ensures { result ≡ after_of self changed }
     {
-        match changed.and_then(anew) {
-            Ok(store) => Outcome {
-                reply: Reply::Done,
-                store,
-            },
+        match changed {
+            Ok(held) => {
+                let out = judged(held);
+                let reply = out.reply;
+                if replies::number(reply) != 0 {
+                    return Outcome { reply, store: self };
+                }
+                out
+            }
             Err(reply) => Outcome { reply, store: self },
         }
     }
