@@ -1,10 +1,8 @@
 -- What goes out to a program in C or Rust: what the product's calls answer, in numbers. Assumes nothing.
 use Rattle.std.proofs.Math.Option.{Option, none, some}
-use Rattle.std.specs.Prelude.{ℕ, suc, zero}
+use Rattle.std.specs.Prelude.{ℕ, suc, zero, Result, Ok, Err}
 use Rattle.asking.specs.declared.Answer.{Answer}
-use Rattle.asking.specs.declared.Answer.TheVariants.{Inconsistent, Refused, Supported, Unsupported}
-use Rattle.asking.specs.declared.Found.{Found}
-use Rattle.asking.specs.declared.Found.TheVariants.{Is, Not}
+use Rattle.asking.specs.declared.Answer.TheVariants.{Inconsistent, Supported, Unsupported}
 use Rattle.bare.specs.declared.Query.{Query}
 use Rattle.bare.specs.declared.Told.{Told as Barely}
 use Rattle.bare.specs.declared.Told.TheVariants.{Filled, Lines, Word}
@@ -15,10 +13,8 @@ use Rattle.across.specs.declared.Asked.{Asked}
 use Rattle.across.specs.declared.Kept.{Kept}
 use Rattle.across.specs.declared.Reasoned.{Reasoned}
 use Rattle.across.specs.declared.Told.{Told}
-use Rattle.lent.specs.declared.Written.{Written}
-use Rattle.lent.specs.declared.Written.TheVariants.{Length, Refused as Unwritten}
 use Rattle.plain.specs.declared.Plain.{Plain}
-use Rattle.plain.specs.declared.Plain.TheVariants.{Inconsistent as Contradicted, Refused as Unasked, Supported as Followed, Unsupported as Unreached}
+use Rattle.plain.specs.declared.Plain.TheVariants.{Inconsistent as Contradicted, Supported as Followed, Unsupported as Unreached}
 use Rattle.replies.specs.Replies.{named_by, number_of}
 use Rattle.replies.specs.declared.Reply.{Reply}
 use Rattle.store.specs.declared.Outcome.{Outcome}
@@ -49,29 +45,29 @@ loaded_by l = kept_by l.reply l.«record» l.store
 abbrev pub reasoned : ℕ → ℕ → ℕ → Reasoned
 reasoned r a e = record { reply = r; answer = a; reason = e }
 
-abbrev pub reasoned_by : Answer → Reasoned
-reasoned_by (Inconsistent G) = reasoned 0 2 G
-reasoned_by (Supported F) = reasoned 0 1 F
-reasoned_by Unsupported = reasoned 0 0 0
-reasoned_by (Refused r) = reasoned (number_of r) 0 0
+abbrev pub reasoned_by : Result Answer Reply → Reasoned
+reasoned_by (Ok (Inconsistent G)) = reasoned 0 2 G
+reasoned_by (Ok (Supported F)) = reasoned 0 1 F
+reasoned_by (Ok Unsupported) = reasoned 0 0 0
+reasoned_by (Err r) = reasoned (number_of r) 0 0
 
 abbrev pub told : ℕ → ℕ → Told
 told r v = record { reply = r; value = v }
 
-abbrev pub found_by : Found → Told
-found_by (Is E) = told 0 E
-found_by (Not r) = told (number_of r) 0
+abbrev pub found_by : Result ℕ Reply → Told
+found_by (Ok E) = told 0 E
+found_by (Err r) = told (number_of r) 0
 
 -- the plain path names no set
-abbrev pub plainly_by : Plain → Told
-plainly_by Contradicted = told 0 2
-plainly_by Followed = told 0 1
-plainly_by Unreached = told 0 0
-plainly_by (Unasked r) = told (number_of r) 0
+abbrev pub plainly_by : Result Plain Reply → Told
+plainly_by (Ok Contradicted) = told 0 2
+plainly_by (Ok Followed) = told 0 1
+plainly_by (Ok Unreached) = told 0 0
+plainly_by (Err r) = told (number_of r) 0
 
-abbrev pub wrote_by : Written → Told
-wrote_by (Length n) = told 0 n
-wrote_by (Unwritten r) = told (number_of r) 0
+abbrev pub wrote_by : Result ℕ Reply → Told
+wrote_by (Ok n) = told 0 n
+wrote_by (Err r) = told (number_of r) 0
 
 -- ---- the bare list
 
@@ -85,7 +81,8 @@ abbrev pub query_by : Asked → Query
 query_by q = record { assumptions = q.assumptions; claims = q.claims; what = what_by q.what q.number; set = q.set }
 
 -- a word, the reply of the context, or the length of the lines: as the call of a store has it
-abbrev pub barely_by : Barely → Told
-barely_by (Word a) = plainly_by a
-barely_by (Filled r) = told (number_of r) 0
-barely_by (Lines w) = wrote_by w
+abbrev pub barely_by : Result Barely Reply → Told
+barely_by (Ok (Word a)) = plainly_by (Ok a)
+barely_by (Ok Filled) = told 0 0
+barely_by (Ok (Lines n)) = wrote_by (Ok n)
+barely_by (Err r) = told (number_of r) 0

@@ -2,14 +2,16 @@
 #![tactic(auto)]
 
 ghost use Rattle.std.specs.Prelude.{◌≡◌};
-ghost use Rattle.across.specs.Across.{kept_by, named_or0, plainly_by, query_by, reasoned_by, wrote_by};
+ghost use Rattle.replies.specs.Replies.{number_of};
+ghost use Rattle.across.specs.Across.{barely_by, found_by, kept_by, loaded_by, made_by, named_or0, plainly_by, query_by, reasoned_by, wrote_by};
 
 use asking::Answer;
 use bare::{Query, What};
-use lent::Written;
+use casefile::Loaded;
 use plain::Plain;
 use replies::Reply;
-use store::Store;
+use sets::Set;
+use store::{Outcome, Store};
 
 // What a call that makes a store answers: the reply's number, the number that reply 8 names, the record of a file, and the store; 0 where there is none.
 #[repr(C)]
@@ -49,109 +51,168 @@ pub struct Asked {
     pub set: u32,
 }
 
+// The number of a reply, as it crosses.
+pub fn number(reply: Reply) -> u32
+    ensures { result ≡ number_of reply }
+{
+    u32::from(replies::number(reply))
+}
+
 // The number that a reply names, or 0.
 fn named(reply: Reply) -> u32
     ensures { result ≡ named_or0 reply }
 {
     if let Reply::Label(n) = reply {
-        return n as u32;
+        return u32::from(n);
     }
     0
 }
 
 // A reply, a record and a store.
-pub fn keep(reply: Reply, at: u32, store: Store) -> Kept
+fn keep(reply: Reply, at: u32, store: Store) -> Kept
     ensures { result ≡ kept_by reply at store }
 {
     Kept {
-        reply: replies::number(reply) as u32,
+        reply: number(reply),
         named: named(reply),
         record: at,
         store,
     }
 }
 
-// The word with its reason.
-pub fn reason(out: asking::Asked) -> Reasoned
-    ensures { result ≡ reasoned_by out.answer }
-{
-    let answer = out.answer;
-    match answer {
-        Answer::Inconsistent(nogood) => Reasoned {
-            reply: 0,
-            answer: 2,
-            reason: nogood,
-        },
-        Answer::Supported(member) => Reasoned {
-            reply: 0,
-            answer: 1,
-            reason: member,
-        },
-        Answer::Unsupported => Reasoned {
-            reply: 0,
-            answer: 0,
-            reason: 0,
-        },
-        Answer::Refused(reply) => Reasoned {
-            reply: replies::number(reply) as u32,
-            answer: 0,
-            reason: 0,
-        },
+// Of a call that reads no file.
+impl From<Outcome> for Kept {
+    ghost from_gives = { λ out kept. kept ≡ made_by out };
+
+    fn from(out: Outcome) -> Kept {
+        keep(out.reply, 0, out.store)
     }
 }
 
-// The word without its reason.
-pub fn plainly(word: Plain) -> Told
-    ensures { result ≡ plainly_by word }
-{
-    match word {
-        Plain::Inconsistent => Told { reply: 0, value: 2 },
-        Plain::Supported => Told { reply: 0, value: 1 },
-        Plain::Unsupported => Told { reply: 0, value: 0 },
-        Plain::Refused(reply) => Told {
-            reply: replies::number(reply) as u32,
+// Of a file.
+impl From<Loaded> for Kept {
+    ghost from_gives = { λ out kept. kept ≡ loaded_by out };
+
+    fn from(out: Loaded) -> Kept {
+        keep(out.reply, out.record, out.store)
+    }
+}
+
+// The word with its reason.
+impl From<Result<Answer, Reply>> for Reasoned {
+    ghost from_gives = { λ answer told. told ≡ reasoned_by answer };
+
+    fn from(answer: Result<Answer, Reply>) -> Reasoned {
+        match answer {
+            Ok(Answer::Inconsistent(nogood)) => Reasoned {
+                reply: 0,
+                answer: 2,
+                reason: nogood,
+            },
+            Ok(Answer::Supported(member)) => Reasoned {
+                reply: 0,
+                answer: 1,
+                reason: member,
+            },
+            Ok(Answer::Unsupported) => Reasoned {
+                reply: 0,
+                answer: 0,
+                reason: 0,
+            },
+            Err(reply) => Reasoned {
+                reply: number(reply),
+                answer: 0,
+                reason: 0,
+            },
+        }
+    }
+}
+
+impl Told {
+    // A refusal, which has no value.
+    fn refused(reply: Reply) -> Told
+        ensures { result ≡ wrote_by (Err reply) }
+    {
+        Told {
+            reply: number(reply),
             value: 0,
-        },
+        }
+    }
+}
+
+// The word without its reason: what its byte in a context is.
+impl From<Result<Plain, Reply>> for Told {
+    ghost from_gives = { λ word told. told ≡ plainly_by word };
+
+    fn from(word: Result<Plain, Reply>) -> Told {
+        match word {
+            Ok(Plain::Inconsistent) => Told { reply: 0, value: 2 },
+            Ok(Plain::Supported) => Told { reply: 0, value: 1 },
+            Ok(Plain::Unsupported) => Told { reply: 0, value: 0 },
+            Err(reply) => Told::refused(reply),
+        }
+    }
+}
+
+// A member, or the refusal.
+impl From<Result<Set, Reply>> for Told {
+    ghost from_gives = { λ member told. told ≡ found_by member };
+
+    fn from(member: Result<Set, Reply>) -> Told {
+        match member {
+            Ok(e) => Told {
+                reply: 0,
+                value: e as usize,
+            },
+            Err(reply) => Told::refused(reply),
+        }
     }
 }
 
 // The length of a text, or the refusal.
-pub fn written(answer: Written) -> Told
-    ensures { result ≡ wrote_by answer }
-{
-    match answer {
-        Written::Length(n) => Told { reply: 0, value: n },
-        Written::Refused(reply) => Told {
-            reply: replies::number(reply) as u32,
-            value: 0,
-        },
+impl From<Result<usize, Reply>> for Told {
+    ghost from_gives = { λ answer told. told ≡ wrote_by answer };
+
+    fn from(answer: Result<usize, Reply>) -> Told {
+        match answer {
+            Ok(n) => Told { reply: 0, value: n },
+            Err(reply) => Told::refused(reply),
+        }
+    }
+}
+
+// The answer of a bare list, as the call of a store gives it.
+impl From<Result<bare::Told, Reply>> for Told {
+    ghost from_gives = { λ answer told. told ≡ barely_by answer };
+
+    fn from(answer: Result<bare::Told, Reply>) -> Told {
+        match answer {
+            Ok(bare::Told::Word(word)) => Told::from(Ok(word)),
+            Ok(bare::Told::Filled) => Told { reply: 0, value: 0 },
+            Ok(bare::Told::Lines(length)) => Told {
+                reply: 0,
+                value: length,
+            },
+            Err(reply) => Told::refused(reply),
+        }
     }
 }
 
 // What is asked of a bare list, as the call takes it.
-pub fn query(asked: Asked) -> Query
-    ensures { result ≡ query_by asked }
-{
-    if asked.what == 0 {
-        return Query {
+impl From<Asked> for Query {
+    ghost from_gives = { λ asked query. query ≡ query_by asked };
+
+    fn from(asked: Asked) -> Query {
+        let what = match asked.what {
+            0 => What::Number(asked.number),
+            1 => What::Context,
+            _ => What::Stages,
+        };
+        Query {
             assumptions: asked.assumptions,
             claims: asked.claims,
-            what: What::Number(asked.number),
+            what,
             set: asked.set,
-        };
-    }
-    if asked.what == 1 {
-        return Query {
-            assumptions: asked.assumptions,
-            claims: asked.claims,
-            what: What::Context,
-            set: asked.set,
-        };
-    }
-    Query {
-        assumptions: asked.assumptions,
-        claims: asked.claims,
-        what: What::Stages,
-        set: asked.set,
+        }
     }
 }

@@ -1,222 +1,141 @@
--- Question, context and member, test by test. Assumes nothing.
-use mathlib.Core.Bool.{Bool, ◌&&◌, false, true}
-use mathlib.Core.List.{List, [], ◌++◌, ◌∷◌, append_assoc}
-use mathlib.Core.Option.{Option, none, some}
-use mathlib.Core.Path.{◌∙◌, ◌≡◌, ap, ap₂, refl, sym}
-use Prim.Native.Nat.{◌*◌, ◌+◌, ◌-◌, ◌<◌, ◌≤◌, suc, zero, ℕ}
-use native.Mathlib.Numerals.{add-one}
+-- Question, context and member: a refusal, and what is known where there is none. Assumes nothing.
+use mathlib.Core.Bool.{Bool, ◌&&◌}
+use mathlib.Core.List.{List}
+use mathlib.Core.Path.{◌∙◌, ◌≡◌, ap, sym}
+use Prim.Native.Nat.{◌<◌, ◌+◌, ◌≤◌, ℕ}
 use native.Mathlib.Omega.{arith}
 use lib.Dec.{eqb, ltb}
-use lib.ListN.{drop, get_or, length, length-drop, length-take, set, take}
-use lib.Seq.{drop-cons, get_or-drop, get_or-take, length-take-le, set_at}
-use borrow.Author.Tests.{le-leb, le-ltb, lt-leb, lt-ltb, ne_eqb}
-use Rattle.asking.specs.Asking.{Left, Room, byte_of, context_reply, first_in, left, member_at, member_of, question_of, reasoned, standing}
+use lib.ListN.{get_or, length}
+use borrow.Author.Tests.{le-ltb, lt-ltb, ne_eqb}
+use Rattle.std.specs.List.{position}
+use Rattle.std.specs.Prelude.{◌≢◌, Result, Ok, Err, Some, None, ⊤}
+use Rattle.asking.specs.Asking.{Room, byte_of, context_reply, first_in, member_at, member_of, question_of, standing}
 use Rattle.asking.specs.declared.Answer.{Answer}
-use Rattle.asking.specs.declared.Answer.TheVariants.{Inconsistent, Refused, Supported, Unsupported}
-use Rattle.asking.specs.declared.Asked.{Asked}
-use Rattle.asking.specs.declared.Found.{Found}
-use Rattle.asking.specs.declared.Found.TheVariants.{Is, Not}
-use Rattle.asking.specs.declared.Shown.{Shown}
 use Rattle.following.proofs.Places.{all_told}
+use Rattle.following.proofs.Sowing.{marks_long}
 use Rattle.following.specs.Marks.{all_marks}
-use Rattle.members.specs.Promised.{first_within}
-use Rattle.replies.specs.Replies.{number_of}
+use Rattle.following.specs.Promised.{Followable}
+use Rattle.members.proofs.First.{placed_find, placed_none}
+use Rattle.replies.proofs.Checked.{checked_done, checked_refusal, refusal_checked}
+use Rattle.replies.specs.Replies.{checked, number_of}
 use Rattle.replies.specs.declared.Reply.{Reply}
-use Rattle.replies.specs.declared.Reply.TheVariants.{Done, Place, Short}
+use Rattle.replies.specs.declared.Reply.TheVariants.{Done, Short}
+use Rattle.rules.specs.Held.{said_by}
+use Rattle.rules.specs.declared.Held.{Held}
 use Rattle.shape.proofs.Elim.{label_few, lists_elim}
-use Rattle.stages.specs.declared.Lists.{Lists}
-use Rattle.store.proofs.Reading.{Readable, refused, refused_number, refused_set}
+use Rattle.store.proofs.Reading.{Readable, readable, refused, refused_number, refused_set}
 use Rattle.store.proofs.Shapes.{shape_elim}
-use Rattle.store.specs.Calls.{answer, is_done}
-use Rattle.store.specs.Reading.{contradicted_in, label_held, nogoods_held, refusal_of, unlabelled}
-use Rattle.store.specs.Shape.{right_shape, top}
+use Rattle.store.specs.Calls.{is_done}
+use Rattle.store.specs.Reading.{contradicted_in, refusal_of, unlabelled}
+use Rattle.store.specs.Shape.{top}
 use Rattle.store.specs.declared.Store.{Store}
-use Rattle.theory.proofs.Places.{get_d_table, is_table, length_table}
-use Rattle.theory.specs.Cases.{from}
+use Rattle.theory.specs.Demands.{follows_from_all}
 use Rattle.theory.specs.Limits.{limits}
 use Rattle.theory.specs.Lists.{choose}
-use Rattle.theory.specs.Places.{table}
 use Rattle.theory.specs.Sets.{within}
 
--- ---- a part of a list
-part_length : (l : List ℕ) (from count : ℕ) → from + count ≤ length l → length (take count (drop from l)) ≡ count
-part_length l from count h = simp (length-take, length-drop) (omega arith)
-
-pub reach_law : (l : List ℕ) (from count E r : ℕ) → r ≡ first_within (take (from + count - from) (drop from l)) E → r ≡ first_within (take count (drop from l)) E
-reach_law l from count E r e = let n : from + count - from ≡ count = omega arith in e ∙ ap (λ (k : ℕ). first_within (take k (drop from l)) E) n
-
 -- ---- the first member within a set, by its place
-pub first_named : (l : List ℕ) (E : ℕ) → first_within l E < length l → first_in l E ≡ some (get_or l (first_within l E) 0)
-unfolding first_in first_within
-first_named [] E h = absurd (omega arith)
-first_named (F ∷ l) E h = go (within F E) h (first_named l E)
-  where
-    go : (b : Bool) → choose b 0 (suc (first_within l E)) < suc (length l) → (first_within l E < length l → first_in l E ≡ some (get_or l (first_within l E) 0))
-        → choose b (some F) (first_in l E) ≡ some (get_or (F ∷ l) (choose b 0 (suc (first_within l E))) 0)
-    go true h e = refl
-    go false h e = e (omega arith)
+pub first_named : (l : List ℕ) (E p : ℕ) → position (λ F. within F E) l ≡ Some p → first_in l E ≡ Some (get_or l p 0)
+unfolding first_in
+first_named l E p e = placed_find (λ F. within F E) l p e
 
-pub first_none : (l : List ℕ) (E : ℕ) → length l ≤ first_within l E → first_in l E ≡ none
-unfolding first_in first_within
-first_none [] E h = refl
-first_none (F ∷ l) E h = go (within F E) h (first_none l E)
-  where
-    go : (b : Bool) → suc (length l) ≤ choose b 0 (suc (first_within l E)) → (length l ≤ first_within l E → first_in l E ≡ none) → choose b (some F) (first_in l E) ≡ none
-    go true h e = absurd (omega arith)
-    go false h e = e (omega arith)
+pub first_none : (l : List ℕ) (E : ℕ) → position (λ F. within F E) l ≡ None → first_in l E ≡ None
+unfolding first_in
+first_none l E e = placed_none (λ F. within F E) l e
 
-named_at : (l : List ℕ) (E p : ℕ) → p ≡ first_within l E → p < length l → first_in l E ≡ some (get_or l p 0)
-named_at l E p e h = first_named l E (omega arith) ∙ ap (λ (k : ℕ). some (get_or l k 0)) (sym e)
+-- the marks of what follows from all assumptions together are one for each number
+pub marks_all : (h : Held) (m : List ℕ) → m ≡ all_marks h → length m ≡ limits.numbers + 1
+marks_all h m e = ap length e ∙ marks_long (follows_from_all h.assumptions (said_by h))
 
-named_none : (l : List ℕ) (E p : ℕ) → p ≡ first_within l E → length l ≤ p → first_in l E ≡ none
-named_none l E p e h = first_none l E (omega arith)
-
--- ---- what the lists say
-module _ (l : Lists) (E : ℕ) (struck : ℕ) (found : struck ≡ first_within (nogoods_held l) E) (room : l.count ≤ length l.nogoods) where
-  nogoods_many : length (nogoods_held l) ≡ l.count
-  nogoods_many = length-take-le l.count l.nogoods room
-
-  pub stands_struck : (n : ℕ) → struck < l.count → Inconsistent (get_or l.nogoods struck 0) ≡ standing l n E
-  unfolding standing
-  stands_struck n h =
-      sym
-      (ap (λ (x : Option ℕ). reasoned x (first_in (label_held l n) E))
-      (named_at (nogoods_held l) E struck found (omega (arith, nogoods_many)) ∙ ap some (get_or-take l.count l.nogoods struck 0 h)))
-
-  module _ (free : l.count ≤ struck) where
-    no_nogood : first_in (nogoods_held l) E ≡ none
-    no_nogood = named_none (nogoods_held l) E struck found (omega (arith, nogoods_many))
-
-    pub stands_falsity : Unsupported ≡ standing l 0 E
-    unfolding standing first_in
-    stands_falsity = sym (ap (λ (x : Option ℕ). reasoned x none) no_nogood)
-
-    module _ (i : ℕ) (fits : limits.label * i + get_or l.sizes i 0 ≤ length l.members) (place : ℕ) (at : place ≡ first_within (label_held l (suc i)) E) where
-      label_many : length (label_held l (suc i)) ≡ get_or l.sizes i 0
-      label_many = part_length l.members (limits.label * i) (get_or l.sizes i 0) fits
-
-      pub stands_yes : place < get_or l.sizes i 0 → Supported (get_or l.members (limits.label * i + place) 0) ≡ standing l (suc i) E
-      unfolding standing
-      stands_yes h =
-          sym
-          (ap₂ reasoned no_nogood
-          (named_at (label_held l (suc i)) E place at (omega (arith, label_many))
-          ∙ ap some (get_or-take (get_or l.sizes i 0) (drop (limits.label * i) l.members) place 0 h ∙ get_or-drop (limits.label * i) l.members place 0)))
-
-      pub stands_no : get_or l.sizes i 0 ≤ place → Unsupported ≡ standing l (suc i) E
-      unfolding standing
-      stands_no h = sym (ap₂ reasoned no_nogood (named_none (label_held l (suc i)) E place at (omega (arith, label_many))))
-
--- the code's n - 1
-pub number_of_lem : (n : ℕ) → (n ≡ 0 → ⊥) → suc (n - 1) ≡ n
-number_of_lem n h = omega arith
-
--- ---- members
-module _ (l : Lists) (place : ℕ) where
-  nogoods_length : l.count ≤ length l.nogoods → length (nogoods_held l) ≡ l.count
-  nogoods_length h = length-take-le l.count l.nogoods h
-
-  pub member_nogood_none : l.count ≤ length l.nogoods → l.count ≤ place → Not Place ≡ member_at l 0 place
-  unfolding member_at
-  member_nogood_none k h = rw (le-leb (length (nogoods_held l)) place (omega (arith, nogoods_length k)))
-
-  pub member_nogood : l.count ≤ length l.nogoods → place < l.count → Is (get_or l.nogoods place 0) ≡ member_at l 0 place
-  unfolding member_at
-  member_nogood k h =
-      rw (lt-leb (length (nogoods_held l)) place (omega (arith, nogoods_length k))) (ap Is (sym (get_or-take l.count l.nogoods place 0 h)))
-
-  module _ (i : ℕ) (fits : limits.label * i + get_or l.sizes i 0 ≤ length l.members) where
-    label_length : length (label_held l (suc i)) ≡ get_or l.sizes i 0
-    label_length = part_length l.members (limits.label * i) (get_or l.sizes i 0) fits
-
-    pub member_none : get_or l.sizes i 0 ≤ place → Not Place ≡ member_at l (suc i) place
-    unfolding member_at
-    member_none h = rw (le-leb (length (label_held l (suc i))) place (omega (arith, label_length)))
-
-    pub member_is : place < get_or l.sizes i 0 → Is (get_or l.members (limits.label * i + place) 0) ≡ member_at l (suc i) place
-    unfolding member_at
-    member_is h =
-        rw (lt-leb (length (label_held l (suc i))) place (omega (arith, label_length)))
-        (ap Is (sym (get_or-take (get_or l.sizes i 0) (drop (limits.label * i) l.members) place 0 h ∙ get_or-drop (limits.label * i) l.members place 0)))
-
--- ---- the bytes of a context
-pub fill_none : (f : ℕ → ℕ) (out : List ℕ) → out ≡ table 0 f ++ drop 0 out
-unfolding table
-fill_none f out = refl
-
-pub table_push : (n : ℕ) (f : ℕ → ℕ) → table (n + 1) f ≡ table n f ++ (f n ∷ [])
-unfolding table
-table_push n f = ap (λ (k : ℕ). table k f) (add-one n) ∙ go n f
-  where
-    go : (n : ℕ) (f : ℕ → ℕ) → table (suc n) f ≡ table n f ++ (f n ∷ [])
-    go zero f = refl
-    go (suc n) f = ap (λ (l : List ℕ). f zero ∷ l) (go n (λ i. f (suc i)))
-
-pub fill_more : (f : ℕ → ℕ) (out : List ℕ) (i v : ℕ) → i < length out → v ≡ f i → set (table i f ++ drop i out) i v ≡ table (i + 1) f ++ drop (i + 1) out
-fill_more f out i v h e =
-    ap (λ (l : List ℕ). set (table i f ++ l) i v) (drop-cons out i 0 h)
-    ∙ set_at (table i f) (get_or out i 0) (drop (suc i) out) v i (length_table i f)
-    ∙ ap₂ (λ (x k : ℕ). table i f ++ (x ∷ drop k out)) e (sym (add-one i))
-    ∙ sym (append_assoc (table i f) (f i ∷ []) (drop (i + 1) out))
-    ∙ ap (λ (l : List ℕ). l ++ drop (i + 1) out) (sym (table_push i f))
-
--- the byte of n, by the marks of what follows from all assumptions together
-abbrev pub byte_at : Lists → List ℕ → ℕ → ℕ → ℕ
-byte_at l marks E n = byte_of (unlabelled l n && eqb (get_or marks n 0) 0) (standing l n E)
-
-pub bytes_told : (s : Store) (marks : List ℕ) (E end : ℕ) → marks ≡ all_marks s.held → end ≤ limits.numbers + 1
-    → table end (byte_at s.lists marks E) ≡ table end (λ n. byte_of (contradicted_in s n) (standing s.lists n E))
-bytes_told s marks E end e h =
-    is_table (table end (byte_at s.lists marks E)) end (λ n. byte_of (contradicted_in s n) (standing s.lists n E)) 0 (length_table end (byte_at s.lists marks E))
-    (λ n p. get_d_table end (byte_at s.lists marks E) n 0 p
-    ∙ ap (λ (c : Bool). byte_of (unlabelled s.lists n && c) (standing s.lists n E)) (all_told s.held n (get_or marks n 0) (omega arith) (ap (λ (m : List ℕ). get_or m n 0) e)))
-
--- ---- the calls
 module _ (s : Store) where
-  pub shape_room : right_shape s ≡ true → length s.lists.nogoods ≡ limits.nogoods → Room s.lists
-  shape_room t e =
-      let r = shape_elim s t in
-      let l = lists_elim s.lists s.held.assumptions (top s.held) r.1 in
-      record { nogoods = omega (arith, l.nogoods.few); labels = label_few s.lists s.held.assumptions (top s.held) l }
+  -- the byte by the mark of a number is the byte of the store
+  pub byte_told : (marks : List ℕ) (E n : ℕ) → marks ≡ all_marks s.held → n ≤ limits.numbers
+      → byte_of (unlabelled s.lists n && eqb (get_or marks n 0) 0) (standing s.lists n E) ≡ byte_of (contradicted_in s n) (standing s.lists n E)
+  byte_told marks E n e h =
+      ap (λ (c : Bool). byte_of (unlabelled s.lists n && c) (standing s.lists n E)) (all_told s.held n (get_or marks n 0) h (ap (λ (m : List ℕ). get_or m n 0) e))
 
-  abbrev asked : Answer → Asked
-  asked a = record { answer = a; store = s }
+  -- a call that is not refused finds the lists in their places, and counts and numbers within their limits
+  module _ (n E : ℕ) (u : ⊤) (k : Ok u ≡ checked (refusal_of s n E)) where
+    known : Readable s n E
+    known = readable s n E u k
 
-  abbrev shown : Found → Shown
-  shown a = record { answer = a; store = s }
+    pub room_found : Room s.lists
+    room_found =
+        let l = lists_elim s.lists s.held.assumptions (top s.held) (shape_elim s known.right).1 in
+        record { nogoods = l.nogoods.few; labels = label_few s.lists s.held.assumptions (top s.held) l }
 
-  pub question_refused : (n E : ℕ) (r : Reply) → r ≡ refusal_of s n E → (number_of r ≡ 0 → ⊥) → asked (Refused r) ≡ asked (question_of s n E)
+    pub low_found : n ≤ limits.numbers
+    low_found = omega (arith, known.number, known.fit.few, known.fit.claims)
+
+    pub top_found : s.held.assumptions + s.held.claims ≤ limits.numbers
+    top_found = omega (arith, known.fit.few, known.fit.claims)
+
+    pub followable_found : Followable s.held
+    followable_found = record { right = known.fit.right; low = omega (arith, known.fit.few, known.fit.claims) }
+
+  pub question_refused : (n E : ℕ) (r : Reply) → Err r ≡ checked (refusal_of s n E) → Err r ≡ question_of s n E
   unfolding question_of
-  question_refused n E r e d = ap asked (refused s n E r e d Refused (standing s.lists n E))
+  question_refused n E r e = refused s n E r e Err (Ok (standing s.lists n E))
 
-  pub question_stands : (n E : ℕ) → Readable s n E → (a : Answer) → a ≡ standing s.lists n E → asked a ≡ asked (question_of s n E)
+  pub question_stands : (n E : ℕ) (u : ⊤) → Ok u ≡ checked (refusal_of s n E) → (a : Answer) → a ≡ standing s.lists n E → Ok a ≡ question_of s n E
   unfolding question_of
-  question_stands n E k a q = rw (k.right, le-ltb (top s.held) n k.number, k.set) (ap asked q)
+  question_stands n E u k a q = let known : Readable s n E = readable s n E u k in rw (known.right, le-ltb (top s.held) n known.number, known.set) (ap Ok q)
 
-  pub member_refused : (n place : ℕ) (r : Reply) → r ≡ refusal_of s n 0 → (number_of r ≡ 0 → ⊥) → shown (Not r) ≡ shown (member_of s n place)
+  pub member_refused : (n place : ℕ) (r : Reply) → Err r ≡ checked (refusal_of s n 0) → Err r ≡ member_of s n place
   unfolding member_of
-  member_refused n place r e d = ap shown (refused_number s n r e d Not (member_at s.lists n place))
+  member_refused n place r e = refused_number s n r e Err (member_at s.lists n place)
 
-  pub member_at_lem : (n place : ℕ) → Readable s n 0 → (a : Found) → a ≡ member_at s.lists n place → shown a ≡ shown (member_of s n place)
+  pub member_found : (n place : ℕ) (u : ⊤) → Ok u ≡ checked (refusal_of s n 0) → (a : Result ℕ Reply) → a ≡ member_at s.lists n place → a ≡ member_of s n place
   unfolding member_of
-  member_at_lem n place k a q = rw (k.right, le-ltb (top s.held) n k.number) (ap shown q)
+  member_found n place u k a q = let known : Readable s n 0 = readable s n 0 u k in rw (known.right, le-ltb (top s.held) n known.number) q
 
-  -- a context, whose bytes are x where it is done
-  module _ (E : ℕ) (out x : List ℕ) where
-    abbrev goal : Left
-    goal = let t : Reply = context_reply s E (length out) in left (answer t s) (choose (is_done t) x out)
+  -- a context into the lent bytes, which are x where it is done
+  module _ (E : ℕ) (out : List ℕ) where
+    abbrev t : Reply
+    t = context_reply s E (length out)
 
-    pub context_refused : (r : Reply) → r ≡ refusal_of s 0 E → (number_of r ≡ 0 → ⊥) → left (answer r s) out ≡ goal
+    refused_is : (r : Reply) → Err r ≡ checked (refusal_of s 0 E) → (r ≡ t) × (number_of r ≢ 0)
     unfolding context_reply
-    context_refused r e d =
-        ap (λ (b : Bool). left (answer r s) (choose b x out)) (sym (ne_eqb (number_of r) 0 d))
-        ∙ ap (λ (t : Reply). left (answer t s) (choose (is_done t) x out)) (refused_set s E r e d (λ t. t) (choose (ltb (length out) (top s.held + 1)) Short Done))
+    refused_is r e = (refused_set s E r e (λ t. t) (choose (ltb (length out) (top s.held + 1)) Short Done), (checked_refusal (refusal_of s 0 E) r (sym e)).1)
 
-    module _ (k : Readable s 0 E) where
-      pub context_short : length out < top s.held + 1 → left (answer Short s) out ≡ goal
-      unfolding context_reply
-      context_short h = rw (k.right, k.set, lt-ltb (length out) (top s.held + 1) h)
+    pub refused_reply : (r : Reply) → Err r ≡ checked (refusal_of s 0 E) → Err r ≡ checked t
+    refused_reply r e = let p = refused_is r e in refusal_checked t r (sym p.0) p.1
 
-      pub context_done : top s.held + 1 ≤ length out → (after : List ℕ) → after ≡ x → left (answer Done s) after ≡ goal
+    pub refused_bytes : (x : List ℕ) (r : Reply) → Err r ≡ checked (refusal_of s 0 E) → choose (is_done t) x out ≡ out
+    refused_bytes x r e = let p = refused_is r e in ap (λ (q : Reply). choose (is_done q) x out) (sym p.0) ∙ ap (λ (b : Bool). choose b x out) (ne_eqb (number_of r) 0 p.1)
+
+    module _ (u : ⊤) (k : Ok u ≡ checked (refusal_of s 0 E)) where
+      set_known : Readable s 0 E
+      set_known = readable s 0 E u k
+
+      pub short_reply : length out < top s.held + 1 → Err Short ≡ checked t
+      unfolding checked context_reply
+      short_reply h = rw (set_known.right, set_known.set, lt-ltb (length out) (top s.held + 1) h)
+
+      pub short_bytes : (x : List ℕ) → length out < top s.held + 1 → choose (is_done t) x out ≡ out
       unfolding context_reply
-      context_done h after q = rw (k.right, k.set, le-ltb (length out) (top s.held + 1) h) (ap (left (answer Done s)) q)
+      short_bytes x h = rw (set_known.right, set_known.set, lt-ltb (length out) (top s.held + 1) h)
+
+      pub done_reply : top s.held + 1 ≤ length out → Ok tt ≡ checked t
+      unfolding checked context_reply
+      done_reply h = rw (set_known.right, set_known.set, le-ltb (length out) (top s.held + 1) h)
+
+      pub done_bytes : (x : List ℕ) → top s.held + 1 ≤ length out → choose (is_done t) x out ≡ x
+      unfolding context_reply
+      done_bytes x h = rw (set_known.right, set_known.set, le-ltb (length out) (top s.held + 1) h)
+
+-- the reply of a call that answered nothing, or a refusal
+pub reply_done : (r : Reply) (u : ⊤) → Ok u ≡ checked r → r ≡ Done
+reply_done r u e = checked_done r u (sym e)
+
+pub reply_refused : (r e : Reply) → Err e ≡ checked r → r ≡ e
+reply_refused r e h = (checked_refusal r e (sym h)).0
+
+-- what the calls cite
+pub ruleset of_question = (question_refused, question_stands, room_found, low_found)
+
+pub ruleset of_member = (member_refused, member_found, room_found, low_found)
+
+pub ruleset of_context = (refused_reply, refused_bytes, short_reply, short_bytes, done_reply, top_found, followable_found)
+
+pub ruleset of_reply = (reply_done, reply_refused)

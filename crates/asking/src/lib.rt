@@ -1,14 +1,13 @@
 // Questions to a store, answered from its lists as they stand.
 #![tactic(auto)]
 
-ghost use Rattle.std.specs.Prelude.{◌&&◌, ◌++◌, ◌≡◌, ◌+◌, ◌≤◌, ◌<◌, length, take, drop};
-ghost use Rattle.members.specs.Promised.{first_within};
+ghost use Rattle.std.specs.Prelude.{◌&&◌, ◌++◌, ◌≡◌, ◌+◌, ◌≤◌, length, drop, Option};
 ghost use Rattle.following.specs.Marks.{all_marks};
-ghost use Rattle.store.specs.Reading.{contradicted_in, unlabelled};
+ghost use Rattle.replies.specs.Replies.{checked};
+ghost use Rattle.store.specs.Reading.{contradicted_in, label_held, list_held, nogoods_held, unlabelled};
 ghost use Rattle.theory.specs.Limits.{limits};
-ghost use Rattle.theory.specs.Lists.{choose};
 ghost use Rattle.theory.specs.Places.{table};
-ghost use Rattle.asking.specs.Asking.{Room, standing, byte_of, member_at, Questioned, Contexted, Membered};
+ghost use Rattle.asking.specs.Asking.{Room, first_in, standing, byte_of, member_at, question_of, member_of, context_bytes, context_reply, Questioned, Contexted, Membered};
 
 use replies::Reply;
 use sets::Set;
@@ -22,174 +21,194 @@ pub enum Answer {
     Inconsistent(Set),
     Supported(Set),
     Unsupported,
-    Refused(Reply),
 }
 
+// What a question answers, and the store that came in: a refusal hands it back too (theorem `Refusals`). A struct of its own, as a member and a line
+// have: one over the type of the answer would put a Result within it into every signature.
 #[derive(Clone, Copy)]
 pub struct Asked {
-    pub answer: Answer,
+    pub answer: Result<Answer, Reply>,
     pub store: Store,
 }
 
-// A member, or why there is none.
-#[derive(Clone, Copy)]
-pub enum Found {
-    Is(Set),
-    Not(Reply),
-}
-
+// A member, or why there is none, and the store that came in, as above.
 #[derive(Clone, Copy)]
 pub struct Shown {
-    pub answer: Found,
+    pub answer: Result<Set, Reply>,
     pub store: Store,
 }
 
-// The place of the first of count sets from a place on that lies within e, or the count.
-fn reach(l: &[Set], from: usize, count: usize, e: Set) -> usize
-    requires { from + count ≤ length l.now }
-    ensures { result ≡ first_within (take count (drop from l.now)) e }
-{
-    let to = from + count;
-    members::first_within(&l[from..to], e)
+// What a call reads: lists that stand in their places, and a number.
+#[derive(Clone, Copy)]
+struct Reading<'a> {
+    lists: &'a Lists,
+    n: usize,
+    ghost room: { Room lists.now },
+    ghost low: { n ≤ limits.numbers },
 }
 
-// What the store's lists say of n and e, and why.
-fn stands(lists: Lists, n: usize, e: Set) -> Answer
-    requires { Room lists × (n ≤ limits.numbers) }
-    ensures { result ≡ standing lists n e }
+// The first set of a list that lies within e.
+#[tactic(auto, unfolding(crate::specs::Asking::first_in))]
+fn first(list: &[Set], e: Set) -> Option<Set>
+    ensures { result ≡ first_in list.now e }
 {
-    let count = lists.count;
-    let nogood = reach(&lists.nogoods, 0, count, e);
-    if nogood < count {
-        return Answer::Inconsistent(lists.nogoods[nogood]);
+    list.iter().copied().find(|f| sets::within(*f, e))
+}
+
+impl Reading<'_> {
+    // The nogoods.
+    fn nogoods(&self) -> &[Set]
+        ensures { result.now ≡ nogoods_held self.now.lists.now }
+    {
+        let nogoods = &self.lists.nogoods[..];
+        &nogoods[..self.lists.count]
     }
-    if n == 0 {
-        return Answer::Unsupported;
+
+    // The label of the number; falsity has none.
+    fn label(&self) -> &[Set]
+        ensures { result.now ≡ label_held self.now.lists.now self.now.n }
+    {
+        if self.n == 0 {
+            return &[];
+        }
+        let i = self.n - 1;
+        let from = LABEL * i;
+        let to = from + self.lists.sizes[i] as usize;
+        let members = &self.lists.members[..];
+        &members[from..to]
     }
-    let i = n - 1;
-    let size = lists.sizes[i] as usize;
-    let member = reach(&lists.members, LABEL * i, size, e);
-    if member < size {
-        return Answer::Supported(lists.members[LABEL * i + member]);
+
+    // What the lists say of e, and why.
+    #[tactic(auto, unfolding(crate::specs::Asking::standing))]
+    fn stands(&self, e: Set) -> Answer
+        ensures { result ≡ standing self.now.lists.now self.now.n e }
+    {
+        if let Some(nogood) = first(self.nogoods(), e) {
+            return Answer::Inconsistent(nogood);
+        }
+        match first(self.label(), e) {
+            Some(member) => Answer::Supported(member),
+            None => Answer::Unsupported,
+        }
     }
-    Answer::Unsupported
+
+    // The byte for e; follows tells whether the number follows from all assumptions together. No From: the answer alone does not tell the byte.
+    fn byte(&self, e: Set, follows: bool) -> u8
+        ensures { result ≡ byte_of (unlabelled self.now.lists.now self.now.n && follows) (standing self.now.lists.now self.now.n e) }
+    {
+        match self.stands(e) {
+            Answer::Inconsistent(_) => 2,
+            Answer::Supported(_) => 1,
+            Answer::Unsupported => {
+                if follows && self.n != 0 && self.label().is_empty() {
+                    3
+                } else {
+                    0
+                }
+            }
+        }
+    }
+
+    // The nogoods for falsity, else the label.
+    fn list(&self) -> &[Set]
+        ensures { result.now ≡ list_held self.now.lists.now self.now.n }
+    {
+        if self.n == 0 {
+            return self.nogoods();
+        }
+        self.label()
+    }
+
+    // The set of the list at a place.
+    #[tactic(auto, unfolding(crate::specs::Asking::member_at))]
+    fn at(&self, place: usize) -> Result<Set, Reply>
+        ensures { result ≡ member_at self.now.lists.now self.now.n place }
+    {
+        self.list().get(place).copied().ok_or(Reply::Place)
+    }
+}
+
+// What e is to n, and why.
+#[tactic(auto, using(crate::proofs::Laws::of_question))]
+fn told(store: &Store, n: u32, e: Set) -> Result<Answer, Reply>
+    ensures { result ≡ question_of store.now n e }
+{
+    store.refusal(n, e)?;
+    let reading = Reading {
+        lists: &store.lists,
+        n: n as usize,
+    };
+    Ok(reading.stands(e))
 }
 
 // Whether e is inconsistent, supports n, or neither, and the first set within e that makes it so.
 pub fn question(store: Store, n: u32, e: Set) -> Asked
     ensures { Questioned store n e result }
 {
-    let reply = store.refusal(n, e);
-    if replies::number(reply) != 0 {
-        return Asked {
-            answer: Answer::Refused(reply),
-            store,
-        };
-    }
-    let lists = store.lists;
-    let answer = stands(lists, n as usize, e);
+    let answer = told(&store, n, e);
     Asked { answer, store }
 }
 
-// The byte of n where a consistent set does not support it; follows tells whether n follows from all assumptions together.
-fn neither(lists: Lists, n: usize, follows: bool) -> u8
-    requires { n ≤ limits.numbers }
-    ensures { result ≡ choose (unlabelled lists n && follows) 3 0 }
+// The bytes of the first numbers, as many as are lent, by the marks of what follows from all assumptions together.
+fn fill(store: &Store, marks: &[u8], e: Set, out: &mut [u8])
+    requires { Room store.now.lists × (marks.now ≡ all_marks store.now.held) × (length out.old ≤ limits.numbers + 1) }
+    ensures { out.new ≡ table (length out.old) (λ n. byte_of (contradicted_in store.now n) (standing store.now.lists n e)) }
 {
-    if n == 0 {
-        return 0;
-    }
-    if 0 < lists.sizes[n - 1] {
-        return 0;
-    }
-    if follows {
-        return 3;
-    }
-    0
-}
-
-// The byte of n.
-fn byte(lists: Lists, n: usize, e: Set, follows: bool) -> u8
-    requires { Room lists × (n ≤ limits.numbers) }
-    ensures { result ≡ byte_of (unlabelled lists n && follows) (standing lists n e) }
-{
-    let told = stands(lists, n, e);
-    match told {
-        Answer::Inconsistent(_) => 2,
-        Answer::Supported(_) => 1,
-        Answer::Unsupported => neither(lists, n, follows),
-        Answer::Refused(_) => 0,
+    for (n, byte) in out.iter_mut().enumerate() {
+        let reading = Reading {
+            lists: &store.lists,
+            n,
+        };
+        *byte = reading.byte(e, marks[n] == 0);
     }
 }
 
-// The bytes of the numbers below the end, by the marks of what follows from all assumptions together.
-fn fill(store: Store, marks: &[u8], e: Set, end: usize, out: &mut [u8])
-    requires { Room store.lists × (marks.now ≡ all_marks store.held) × (end ≤ limits.numbers + 1) × (end ≤ length out.old) }
-    ensures { out.new ≡ table end (λ n. byte_of (contradicted_in store n) (standing store.lists n e)) ++ drop end out.old }
+// The bytes of all numbers, where there is room for them.
+#[tactic(auto, using(crate::proofs::Laws::of_context), unfolding(crate::specs::Asking::context_bytes, crate::specs::Asking::context_of))]
+fn write(store: &Store, e: Set, out: &mut [u8]) -> Result<(), Reply>
+    ensures reply { result ≡ checked (context_reply store.now e (length out.old)) }
+    ensures bytes { out.new ≡ context_bytes store.now e out.old }
 {
-    let lists = store.lists;
-    let mut i = 0;
-    while i < end {
-        out[i] = byte(lists, i, e, marks[i] == 0);
-        i += 1;
-    }
-}
-
-// What e is to every number, a byte each.
-pub fn context(store: Store, e: Set, out: &mut [u8]) -> Outcome
-    ensures { Contexted store e out.old result out.new }
-{
-    let reply = store.refusal(0, e);
-    if replies::number(reply) != 0 {
-        return Outcome { reply, store };
-    }
+    store.refusal(0, e)?;
     let held = store.held;
     let end = (held.assumptions + held.claims) as usize + 1;
     if out.len() < end {
-        return Outcome {
-            reply: Reply::Short,
-            store,
-        };
+        return Err(Reply::Short);
     }
     let marks = following::from_all(held);
-    fill(store, &marks, e, end, out);
-    Outcome {
-        reply: Reply::Done,
-        store,
-    }
+    fill(store, &marks, e, &mut out[..end]);
+    Ok(())
 }
 
-// The member of a list at a place.
-fn at(lists: Lists, n: usize, place: usize) -> Found
-    requires { Room lists × (n ≤ limits.numbers) }
-    ensures { result ≡ member_at lists n place }
+// What e is to every number, a byte each.
+#[tactic(auto, using(crate::proofs::Laws::of_reply))]
+pub fn context(store: Store, e: Set, out: &mut [u8]) -> Outcome
+    ensures { Contexted store e out.old result out.new }
 {
-    if n == 0 {
-        if lists.count <= place {
-            return Found::Not(Reply::Place);
-        }
-        return Found::Is(lists.nogoods[place]);
-    }
-    let i = n - 1;
-    let size = lists.sizes[i] as usize;
-    if size <= place {
-        return Found::Not(Reply::Place);
-    }
-    Found::Is(lists.members[LABEL * i + place])
+    let reply = match write(&store, e, out) {
+        Ok(()) => Reply::Done,
+        Err(reply) => reply,
+    };
+    Outcome { reply, store }
+}
+
+// The set at a place of n's label, or of the nogoods.
+#[tactic(auto, using(crate::proofs::Laws::of_member))]
+fn found(store: &Store, n: u32, place: usize) -> Result<Set, Reply>
+    ensures { result ≡ member_of store.now n place }
+{
+    store.refusal(n, 0)?;
+    let reading = Reading {
+        lists: &store.lists,
+        n: n as usize,
+    };
+    reading.at(place)
 }
 
 // The member of n's label, or of the nogoods, at a place.
 pub fn member(store: Store, n: u32, place: usize) -> Shown
     ensures { Membered store n place result }
 {
-    let reply = store.refusal(n, 0);
-    if replies::number(reply) != 0 {
-        return Shown {
-            answer: Found::Not(reply),
-            store,
-        };
-    }
-    let lists = store.lists;
-    let answer = at(lists, n as usize, place);
+    let answer = found(&store, n, place);
     Shown { answer, store }
 }

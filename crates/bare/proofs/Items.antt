@@ -59,6 +59,13 @@ module _ (N : ℕ) where
       let c = done_cases (fault_of_item N x) (faults_of N (take i l)) p in
       ap (λ (r : Reply). choose (is_done r) (faults_of N l) r) c.0 ∙ faults_at l i (le_of_suc-le-suc h) c.1 q
 
+  -- an item of a list without fault has none
+  pub faults_each : (l : List Handed) (i : ℕ) → i < length l → faults_of N l ≡ Done → fault_of_item N (item_at l i) ≡ Done
+  unfolding faults_of
+  faults_each [] i h d = absurd (not-suc-le-zero h)
+  faults_each (x ∷ l) zero h d = (done_cases (fault_of_item N x) (faults_of N l) d).0
+  faults_each (x ∷ l) (suc i) h d = faults_each l i (le_of_suc-le-suc h) (done_cases (fault_of_item N x) (faults_of N l) d).1
+
   -- a list without fault is in range
   pub faultless_all : (l : List Handed) → faults_of N l ≡ Done → (j : Justification) → Mem j (barely N l) → Ranged N j
   unfolding faults_of

@@ -1,4 +1,3 @@
+pub mod Answers
 pub mod Items
 pub mod Steps
-pub mod Chased
-pub mod Answers

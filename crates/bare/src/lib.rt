@@ -1,24 +1,20 @@
 // The plain path from a bare list of justifications: the items judged in order, then followed stage by stage.
 #![tactic(auto)]
 
-ghost use Rattle.std.specs.Prelude.{◌||◌, ◌≡◌, ◌+◌, ◌<◌, ◌≤◌, ltb, take};
+ghost use Rattle.std.specs.Prelude.{◌≡◌, ◌+◌, ◌<◌, ◌≤◌, take};
 ghost use Rattle.theory.specs.Limits.{limits, over_counts};
-ghost use Rattle.theory.specs.Lists.{choose};
-ghost use Rattle.theory.specs.Sets.{in_range};
-ghost use Rattle.following.specs.Marks.{mark_by};
+ghost use Rattle.theory.specs.Places.{table};
+ghost use Rattle.following.specs.First.{since_of};
+ghost use Rattle.following.specs.Marks.{mark_by, pass_over};
+ghost use Rattle.replies.specs.Replies.{checked};
 ghost use Rattle.replies.specs.declared.Reply.TheVariants.{Done};
-ghost use Rattle.bare.specs.Bare.{Answers, answered, fault_of_item, just_of, refused_as};
-ghost use Rattle.bare.specs.Chasing.{Going, again_of, begun_of, finish_of, follow_of, halt_of, onward_of, step_of, told_in};
+ghost use Rattle.bare.specs.Bare.{Answers, answered, barely, fault_of_item, faults_of, just_of, told_in};
 
 use handed::Handed;
-use lent::Written;
 use plain::Plain;
 use replies::Reply;
 use sets::Set;
-use theory::{ASSUMPTIONS, CLAIMS, HELD, MARKS, NUMBERS, SUPPORTS};
-
-// The last number, as stages are counted.
-const LAST: u8 = NUMBERS as u8;
+use theory::{ASSUMPTIONS, CLAIMS, HELD, MARKS, SUPPORTS};
 
 // What is asked of a list: of a number, of every number, or every stage.
 #[derive(Clone, Copy)]
@@ -37,265 +33,123 @@ pub struct Query {
     pub set: Set,
 }
 
-// The answer, as the call of a store gives it: a word, the reply of the context, or the length of the lines.
+// The answer: a word, bytes that were filled in, or the length of the lines.
 #[derive(Clone, Copy)]
 pub enum Told {
     Word(Plain),
-    Filled(Reply),
-    Lines(Written),
-}
-
-// A list that is being followed: the reply so far, the item at which it stands, the stage, whether that marked something new, and the marks.
-#[derive(Clone, Copy)]
-struct Chase {
-    reply: Reply,
-    assumptions: u8,
-    top: u8,
-    count: usize,
-    at: usize,
-    stage: u8,
-    new: bool,
-    marks: [u8; MARKS],
-}
-
-// The set that is followed: e where it has no assumption above a, else none.
-fn start(e: Set, a: u8) -> Set
-    requires { a ≤ limits.assumptions }
-    ensures { result ≡ choose (in_range a e) e 0 }
-{
-    if sets::low(e, a) {
-        return e;
-    }
-    0
-}
-
-// Before the first of so many items: 3, or the marks of stage 0.
-fn begin(items: usize, ask: Query) -> Chase
-    ensures { result ≡ begun_of items ask }
-{
-    if over(ask) {
-        let marks = [255u8; MARKS];
-        return Chase {
-            reply: Reply::Counts,
-            assumptions: 0,
-            top: 0,
-            count: items,
-            at: items,
-            stage: 0,
-            new: false,
-            marks,
-        };
-    }
-    let a = ask.assumptions as u8;
-    let top = a + ask.claims as u8;
-    let set = start(ask.set, a);
-    let marks = plain::sown(set);
-    Chase {
-        reply: Reply::Done,
-        assumptions: a,
-        top,
-        count: items,
-        at: 0,
-        stage: 0,
-        new: false,
-        marks,
-    }
+    Filled,
+    Lines(usize),
 }
 
 // Whether one of the counts is over its limit.
-fn over(ask: Query) -> bool
-    ensures { result ≡ over_counts ask.assumptions ask.claims }
+fn over(query: Query) -> bool
+    ensures { result ≡ over_counts query.assumptions query.claims }
 {
-    if ASSUMPTIONS < ask.assumptions {
-        return true;
-    }
-    CLAIMS < ask.claims
+    ASSUMPTIONS < query.assumptions || CLAIMS < query.claims
 }
 
 // The first fault of an item.
-fn fault(top: u8, item: Handed) -> Reply
-    ensures { result ≡ fault_of_item top item }
+fn fault(top: u8, item: Handed) -> Result<(), Reply>
+    ensures { result ≡ checked (fault_of_item top item) }
 {
     if SUPPORTS < item.count {
-        return Reply::Supports;
+        return Err(Reply::Supports);
     }
     let supports = item.supports;
     let n = item.count;
     rules::fault(top, item.consequent, &supports[..n])
 }
 
+// The first fault of the list: that of the first item which has one.
+fn judge(top: u8, list: &[Handed]) -> Result<(), Reply>
+    ensures { result ≡ checked (faults_of top list.now) }
+{
+    for item in list {
+        fault(top, *item)?;
+    }
+    Ok(())
+}
+
 // The mark of the item's consequent after it, at stage k.
-fn mark(top: u8, item: Handed, marks: [u8; MARKS], k: u8) -> u8
+fn mark(top: u8, item: Handed, marks: &[u8; MARKS], k: u8) -> u8
     requires { (top ≤ limits.numbers) × (k < limits.numbers + 1) × (fault_of_item top item ≡ Done) }
-    ensures { result ≡ mark_by k (k + 1) marks (just_of top item) }
+    ensures { result ≡ mark_by k (k + 1) marks.now (just_of top item) }
 {
     let supports = item.supports;
     let n = item.count;
     let entry = rules::canonical(top, item.consequent, &supports[..n]);
-    following::mark(entry, &marks, k, k + 1)
+    following::mark(&entry, marks, k, k + 1)
 }
 
-// Whether the stage is done and another is to come.
-fn again(chase: Chase, at: usize, new: bool) -> bool
-    ensures { result ≡ again_of chase at new }
+// The marks after stage k: each item once, one after the other.
+fn pass(top: u8, list: &[Handed], start: [u8; MARKS], k: u8) -> [u8; MARKS]
+    requires { (top ≤ limits.numbers) × (k < limits.numbers + 1) × (faults_of top list.now ≡ Done) }
+    ensures { result ≡ pass_over k (k + 1) start (barely top list.now) }
 {
-    if at < chase.count {
-        return false;
+    let mut marks = start;
+    for item in list {
+        let n = item.consequent as usize;
+        marks[n] = mark(top, *item, &marks, k);
     }
-    if new {
-        return chase.stage < LAST;
-    }
-    false
+    marks
 }
 
-// With these marks, on to the next item, or to the next stage.
-fn onward(chase: Chase, marks: [u8; MARKS], new: bool) -> Chase
-    requires { Going chase }
-    ensures { result ≡ onward_of chase marks new }
+// For each number the first stage at which it follows from e: stage by stage until one marks nothing new.
+fn follow(top: u8, list: &[Handed], e: Set) -> [u8; MARKS]
+    requires { (top ≤ limits.numbers) × (faults_of top list.now ≡ Done) }
+    ensures { result ≡ table (limits.numbers + 1) (since_of (barely top list.now) e) }
 {
-    let reply = chase.reply;
-    let at = chase.at + 1;
-    if again(chase, at, new) {
-        return Chase {
-            reply,
-            assumptions: chase.assumptions,
-            top: chase.top,
-            count: chase.count,
-            at: 0,
-            stage: chase.stage + 1,
-            new: false,
-            marks,
-        };
+    let mut marks = plain::sown(e);
+    for k in 0..MARKS as u8 {
+        let next = pass(top, list, marks, k);
+        if next == marks {
+            return marks;
+        }
+        marks = next;
     }
-    Chase {
-        reply,
-        assumptions: chase.assumptions,
-        top: chase.top,
-        count: chase.count,
-        at,
-        stage: chase.stage,
-        new,
-        marks,
-    }
+    marks
 }
 
-// Whether something new was marked, now with this item.
-fn fresh(before: bool, now: u8, old: u8) -> bool
-    ensures { result ≡ (before || ltb now old) }
-{
-    if before {
-        return true;
-    }
-    now < old
-}
-
-// One item without fault at its stage.
-fn follow(chase: Chase, item: Handed) -> Chase
-    requires { Going chase × (fault_of_item chase.top item ≡ Done) }
-    ensures { result ≡ follow_of chase item }
-{
-    let n = item.consequent as usize;
-    let mut marks = chase.marks;
-    let old = marks[n];
-    let now = mark(chase.top, item, marks, chase.stage);
-    marks[n] = now;
-    let new = fresh(chase.new, now, old);
-    onward(chase, marks, new)
-}
-
-// A fault ends it.
-fn halt(chase: Chase, reply: Reply) -> Chase
-    ensures { result ≡ halt_of chase reply }
-{
-    let marks = chase.marks;
-    Chase {
-        reply,
-        assumptions: chase.assumptions,
-        top: chase.top,
-        count: chase.count,
-        at: chase.count,
-        stage: chase.stage,
-        new: chase.new,
-        marks,
-    }
-}
-
-// The next item.
-fn step(chase: Chase, item: Handed) -> Chase
-    requires { Going chase }
-    ensures { result ≡ step_of chase item }
-{
-    let reply = fault(chase.top, item);
-    if replies::number(reply) != 0 {
-        return halt(chase, reply);
-    }
-    follow(chase, item)
-}
-
-// A refusal of what is asked.
-fn refused(what: What, reply: Reply) -> Told
-    ensures { result ≡ refused_as what reply }
-{
-    match what {
-        What::Number(_) => Told::Word(Plain::Refused(reply)),
-        What::Context => Told::Filled(reply),
-        What::Stages => Told::Lines(Written::Refused(reply)),
-    }
-}
-
-// What the marks say to what is asked.
-fn tell(marks: [u8; MARKS], top: u8, what: What, out: &mut [u8]) -> Told
+// What the marks say to what is asked: a match and no closure, since C hands over as a value what is asked.
+fn tell(marks: [u8; MARKS], top: u8, what: What, out: &mut [u8]) -> Result<Told, Reply>
     ensures { answered result out.new ≡ told_in marks top what out.old }
 {
     match what {
-        What::Number(n) => Told::Word(plain::word(marks, top, n)),
-        What::Context => Told::Filled(plain::fill(marks, top, out)),
-        What::Stages => Told::Lines(stagetext::put(marks, top, out)),
+        What::Number(n) => {
+            let word = plain::word(marks, top, n)?;
+            Ok(Told::Word(word))
+        }
+        What::Context => {
+            plain::fill(marks, top, out)?;
+            Ok(Told::Filled)
+        }
+        What::Stages => {
+            let length = stagetext::put(marks, top, out)?;
+            Ok(Told::Lines(length))
+        }
     }
-}
-
-// The answer when the list has been followed: a fault, 4 for the set, or what the marks say.
-fn finish(chase: Chase, ask: Query, out: &mut [u8]) -> Told
-    requires { (chase.assumptions ≤ limits.assumptions) × (chase.top ≤ limits.numbers) }
-    ensures { answered result out.new ≡ finish_of chase ask out.old }
-{
-    let reply = chase.reply;
-    let what = ask.what;
-    if replies::number(reply) != 0 {
-        return refused(what, reply);
-    }
-    if !sets::low(ask.set, chase.assumptions) {
-        return refused(what, Reply::Number);
-    }
-    let marks = chase.marks;
-    tell(marks, chase.top, what, out)
 }
 
 // What is asked of a bare list, any number of items: the items judged in order, then followed stage by stage.
-pub fn ask(query: Query, list: &[Handed], out: &mut [u8]) -> Told
+pub fn ask(query: Query, list: &[Handed], out: &mut [u8]) -> Result<Told, Reply>
     ensures { Answers query list.now out.old result out.new }
 {
-    let mut chase = begin(list.len(), query);
-    while chase.at < list.len() {
-        chase = step(chase, list[chase.at]);
+    if over(query) {
+        return Err(Reply::Counts);
     }
-    finish(chase, query, out)
+    let assumptions = query.assumptions as u8;
+    let top = assumptions + query.claims as u8;
+    judge(top, list)?;
+    if !sets::low(query.set, assumptions) {
+        return Err(Reply::Number);
+    }
+    let marks = follow(top, list, query.set);
+    tell(marks, top, query.what, out)
 }
 
-// Of the first n of a list by value.
-fn ask_first(query: Query, list: [Handed; HELD], n: usize, out: &mut [u8]) -> Told
-    requires { n ≤ limits.held }
+// What is asked of the first n of a list by value, and of all where n is more: a caller of this one takes no slice of items.
+pub fn ask_some(query: Query, list: [Handed; HELD], n: usize, out: &mut [u8]) -> Result<Told, Reply>
     ensures { Answers query (take n list) out.old result out.new }
 {
-    ask(query, &list[..n], out)
-}
-
-// .. and of all where n is more: a caller of this one takes no slice of items.
-pub fn ask_some(query: Query, list: [Handed; HELD], n: usize, out: &mut [u8]) -> Told
-    ensures { Answers query (take n list) out.old result out.new }
-{
-    if HELD < n {
-        return ask_first(query, list, HELD, out);
-    }
-    ask_first(query, list, n, out)
+    ask(query, &list[..usize::min(n, HELD)], out)
 }

@@ -4,15 +4,15 @@ use mathlib.Core.List.{List}
 use mathlib.Core.Path.{◌∙◌, ◌≡◌, ap, ap₂, refl, sym}
 use Prim.Native.Nat.{ℕ, ◌≤◌}
 use borrow.Author.Tests.{eqb-false, le-leb}
-use Rattle.casefile.proofs.Whole.{Checked, Sound, case_checked, parse_right}
+use Rattle.casefile.proofs.Whole.{Checked, Loadable, Sound, case_checked, parse_right}
 use Rattle.casefile.specs.Case.{Case, Reading, case_of, done_of, held_by, parse_of, parsed_of, refused, whole}
 use Rattle.casefile.specs.Load.{load_of, loaded_of, recorded}
+use Rattle.casefile.specs.declared.Fault.{Fault}
 use Rattle.casefile.specs.declared.Loaded.{Loaded}
+use Rattle.std.specs.Prelude.{Ok, Err}
 use Rattle.casefile.specs.declared.Parsed.{Parsed}
-use Rattle.replies.proofs.Laws.{zero_done}
 use Rattle.replies.specs.Replies.{number_of}
 use Rattle.replies.specs.declared.Reply.TheVariants.{Done}
-use Rattle.replies.specs.declared.Reply.{Reply}
 use Rattle.rules.specs.Held.{held_of, held_right, said_by}
 use Rattle.rules.specs.declared.Held.{Held}
 use Rattle.store.specs.Calls.{judged_of, no_store, open_of, store_of}
@@ -38,29 +38,28 @@ done_claims : (s : Case) → (done_of s).held.claims ≡ s.header.claims
 unfolding held_of
 done_claims s = refl
 
-refused_loaded : (o : Reading Case) (p : Parsed) → p ≡ parsed_of o → (number_of p.reply ≡ 0 → ⊥) → ◌≡◌ {A = Loaded} (record { reply = p.reply; «record» = p.«record»; store = no_store }) (loaded_of o)
-refused_loaded (whole s) p e z = absurd (z (ap (λ (x : Parsed). number_of x.reply) e))
-refused_loaded (refused f r) p e z = ap₂ (λ (g : Reply) (n : ℕ). record { reply = g; «record» = n; store = no_store }) (ap (λ (x : Parsed). x.reply) e) (ap (λ (x : Parsed). x.«record») e)
+refused_loaded : (o : Reading Case) (x : Fault) → Err x ≡ parsed_of o → ◌≡◌ {A = Loaded} (record { reply = x.reply; «record» = x.«record»; store = no_store }) (loaded_of o)
+refused_loaded (whole s) x e = absurd cc
+refused_loaded (refused f r) x e = let p : x ≡ record { reply = f; «record» = r } = cc in ap (λ (y : Fault). record { reply = y.reply; «record» = y.«record»; store = no_store }) p
 
-module _ (l : List ℕ) (p : Parsed) (e : p ≡ parse_of l) where
-  pub load_refused : (number_of p.reply ≡ 0 → ⊥) → (s : Store) → s ≡ no_store → ◌≡◌ {A = Loaded} (record { reply = p.reply; «record» = p.«record»; store = s }) (load_of l)
+module _ (l : List ℕ) where
+  pub load_refused : (x : Fault) → Err x ≡ parse_of l → (s : Store) → s ≡ no_store → ◌≡◌ {A = Loaded} (record { reply = x.reply; «record» = x.«record»; store = s }) (load_of l)
   unfolding load_of parse_of
-  load_refused z s q = ap (λ (x : Store). record { reply = p.reply; «record» = p.«record»; store = x }) q ∙ refused_loaded (case_of l) p e z
+  load_refused x e s q = ap (λ (y : Store). record { reply = x.reply; «record» = x.«record»; store = y }) q ∙ refused_loaded (case_of l) x e
 
-  pub load_judged : number_of p.reply ≡ 0 → (o : Outcome) → o ≡ judged_of p.held → recorded p.«record» o ≡ load_of l
+  pub load_judged : (p : Parsed) → Ok p ≡ parse_of l → (o : Outcome) → o ≡ judged_of p.held → recorded p.records o ≡ load_of l
   unfolding load_of
-  load_judged z o q =
-      let d = parse_right l (sym (ap (λ (x : Parsed). x.reply) e) ∙ zero_done p.reply z) in
+  load_judged p e o q =
+      let d : Loadable l p = parse_right l p e in
       let s : Case = d.spelled in
-      let n : p.«record» ≡ s.header.records = ap (λ (x : Parsed). x.«record») (e ∙ d.parsed) in
-      let h : p.held ≡ (parse_of l).held = ap (λ (x : Parsed). x.held) e in
-      let a : (parse_of l).held.assumptions ≡ s.header.assumptions = ap (λ (x : Parsed). x.held.assumptions) d.parsed ∙ done_assumptions s in
-      let m : (parse_of l).held.claims ≡ s.header.claims = ap (λ (x : Parsed). x.held.claims) d.parsed ∙ done_claims s in
-      let j : judged_of (parse_of l).held ≡ store_of no_store s.header.assumptions s.header.claims (held_by s) =
-      judged_stages (parse_of l).held d.assumptions d.claims d.right
-      ∙ (ap (λ (J : List Justification). store_of no_store (parse_of l).held.assumptions (parse_of l).held.claims J) d.said
+      let n : p.records ≡ s.header.records = ap (λ (x : Parsed). x.records) d.parsed in
+      let a : p.held.assumptions ≡ s.header.assumptions = ap (λ (x : Parsed). x.held.assumptions) d.parsed ∙ done_assumptions s in
+      let m : p.held.claims ≡ s.header.claims = ap (λ (x : Parsed). x.held.claims) d.parsed ∙ done_claims s in
+      let j : judged_of p.held ≡ store_of no_store s.header.assumptions s.header.claims (held_by s) =
+      judged_stages p.held d.assumptions d.claims d.right
+      ∙ (ap (λ (J : List Justification). store_of no_store p.held.assumptions p.held.claims J) d.said
       ∙ ap₂ (λ (A M : ℕ). store_of no_store A M (held_by s)) a m) in
-      ap₂ recorded n (q ∙ (ap judged_of h ∙ j)) ∙ sym (ap loaded_of d.spells)
+      ap₂ recorded n (q ∙ j) ∙ sym (ap loaded_of d.spells)
 
 pub open_nothing : (o : Outcome) → o ≡ open_of 0 0 → o.store ≡ no_store
 unfolding open_of

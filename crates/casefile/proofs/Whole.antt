@@ -8,7 +8,6 @@ use Prim.Native.Nat.{ℕ, ◌+◌, ◌≤◌, suc, zero}
 use native.Mathlib.Omega.{arith}
 use lib.Dec.{eqb}
 use lib.ListN.{length}
-use borrow.Author.Tests.{eqb-false}
 use Rattle.casefile.proofs.Gathering.{Sure, gathered_cases, gathered_has, gathered_sure, meant, sure_none}
 use Rattle.casefile.specs.Case.{Case, Reading, whole, refused, case_after, case_of, case_with, done_of, ending, held_by, parse_of, parsed_of, records_from, with_item, with_record}
 use Rattle.casefile.specs.declared.Parsed.{Parsed}
@@ -17,7 +16,7 @@ use Rattle.items.specs.Items.{Header, Item, header_from, record_from}
 use Rattle.numbers.proofs.Numbers.{Onward}
 use Rattle.numbers.specs.Numbers.{Taken, got, bad}
 use Rattle.replies.specs.Replies.{number_of}
-use Rattle.replies.specs.declared.Reply.TheVariants.{Done}
+use Rattle.std.specs.Prelude.{Ok}
 use Rattle.rules.specs.Held.{held_of, held_right, said_by}
 use Rattle.theory.specs.Limits.{limits}
 use Rattle.theory.specs.Stages.{Justification}
@@ -95,28 +94,28 @@ module _ (s : Case) (p : Sound s) where
   pub held_only : {x : Justification} → Mem x (held_by s) → (i : Item) × Mem i s.items × (x ≡ meant (A + M) i)
   held_only m = ⊎_elim (λ n. elim n [ ]) (λ r. r) (gathered_cases (A + M) [] s.items m)
 
--- a file answered done: the case that it spells, and what is held of it
-pub record Loadable (l : List ℕ) : Type 0 where
+-- a file that is not refused: the case that it spells, and what is held of it
+pub record Loadable (l : List ℕ) (p : Parsed) : Type 0 where
   pub spelled : Case
   pub spells : case_of l ≡ whole spelled
-  pub parsed : parse_of l ≡ done_of spelled
+  pub parsed : p ≡ done_of spelled
   pub sound : Sound spelled
-  pub assumptions : (parse_of l).held.assumptions ≤ limits.assumptions
-  pub claims : (parse_of l).held.claims ≤ limits.claims
-  pub right : held_right (parse_of l).held ≡ true
-  pub said : said_by (parse_of l).held ≡ held_by spelled
+  pub assumptions : p.held.assumptions ≤ limits.assumptions
+  pub claims : p.held.claims ≤ limits.claims
+  pub right : held_right p.held ≡ true
+  pub said : said_by p.held ≡ held_by spelled
 
-done_case : (o : Reading Case) → Checked o → (parsed_of o).reply ≡ Done → (s : Case) × (o ≡ whole s) × Sound s
+done_case : (o : Reading Case) → Checked o → (p : Parsed) → Ok p ≡ parsed_of o → (s : Case) × (o ≡ whole s) × Sound s × (p ≡ done_of s)
 unfolding Checked
-done_case (whole s) p e = (s, refl, p)
-done_case (refused f r) p e = absurd (eqb-false (number_of f) 0 p (ap number_of e))
+done_case (whole s) k p e = (s, refl, k, cc)
+done_case (refused f r) k p e = absurd cc
 
-pub parse_right : (l : List ℕ) → (parse_of l).reply ≡ Done → Loadable l
+pub parse_right : (l : List ℕ) (p : Parsed) → Ok p ≡ parse_of l → Loadable l p
 unfolding parse_of held_of
-parse_right l e =
-    let c = done_case (case_of l) (case_checked l) e in
+parse_right l p e =
+    let c = done_case (case_of l) (case_checked l) p e in
     let s : Case = c.0 in
-    let same : parse_of l ≡ done_of s = ap parsed_of c.1 in
+    let same : p ≡ done_of s = c.3 in
     let sure : Sure s.header.assumptions s.header.claims (held_by s) = case_sure s c.2 in
     record {
       spelled = s;

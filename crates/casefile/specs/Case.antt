@@ -1,9 +1,10 @@
 -- A case file: its header and its records, and what is held of them. Assumes nothing.
-use Rattle.std.specs.Prelude.{List, [], ◌∷◌, ◌≡◌, ℕ, zero, suc, ◌+◌}
+use Rattle.std.specs.Prelude.{List, [], ◌∷◌, ◌≡◌, ℕ, zero, suc, ◌+◌, Result, Ok, Err}
+use Rattle.casefile.specs.declared.Fault.{Fault}
 use Rattle.casefile.specs.declared.Parsed.{Parsed}
 use Rattle.items.specs.Items.{Header, Item, header_from, record_from}
 use Rattle.numbers.specs.Numbers.{Taken, got, bad}
-use Rattle.replies.specs.declared.Reply.TheVariants.{Done, After}
+use Rattle.replies.specs.declared.Reply.TheVariants.{After}
 use Rattle.replies.specs.declared.Reply.{Reply}
 use Rattle.rules.specs.Held.{held_of, put}
 use Rattle.rules.specs.Items.{justification_of, same_justification}
@@ -73,22 +74,22 @@ held_by s = gathered (s.header.assumptions + s.header.claims) [] s.items
 
 -- ---- the answer
 
--- a fault with its record, and nothing held
-abbrev pub refused_of : Reply → ℕ → Parsed
-refused_of f r = record { reply = f; «record» = r; held = held_of 0 0 [] }
+-- a fault with its record
+abbrev pub refused_of : Reply → ℕ → Result Parsed Fault
+refused_of f r = Err (record { reply = f; «record» = r })
 
--- done, the announced count, and what is held
+-- the announced count, and what is held
 abbrev pub done_of : Case → Parsed
-done_of s = record { reply = Done; «record» = s.header.records; held = held_of s.header.assumptions s.header.claims (held_by s) }
+done_of s = record { records = s.header.records; held = held_of s.header.assumptions s.header.claims (held_by s) }
 
 -- one or the other
-abbrev pub parsed_of : Reading Case → Parsed
-parsed_of (whole s) = done_of s
+abbrev pub parsed_of : Reading Case → Result Parsed Fault
+parsed_of (whole s) = Ok (done_of s)
 parsed_of (refused f r) = refused_of f r
 
 -- what a case file says
-unfoldable pub parse_of : List ℕ → Parsed
+unfoldable pub parse_of : List ℕ → Result Parsed Fault
 parse_of l = parsed_of (case_of l)
 
-abbrev pub Parses : List ℕ → Parsed → Type 0
+abbrev pub Parses : List ℕ → Result Parsed Fault → Type 0
 Parses l r = r ≡ parse_of l

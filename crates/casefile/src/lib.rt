@@ -1,27 +1,35 @@
 // Case files: what a file spells, and what is held of it.
 #![tactic(auto)]
 
-ghost use Rattle.std.specs.Prelude.{true, ◌≡◌, ◌+◌, ◌<◌, ◌≤◌, length};
+ghost use Rattle.std.specs.Prelude.{true, ◌≡◌, ◌+◌, ◌<◌, ◌≤◌};
 ghost use Rattle.theory.specs.Limits.{limits};
 ghost use Rattle.rules.specs.Held.{fitting, held_of, held_right, meaning, said_by, top};
-ghost use Rattle.casefile.specs.Case.{Parses, joined, refused_of};
+ghost use Rattle.casefile.specs.Case.{Parses, joined};
 ghost use Rattle.casefile.specs.Load.{Loads};
 ghost use Rattle.casefile.specs.Steps.{records_of};
+ghost use Rattle.numbers.specs.Reader.{left};
 
 use items::Counts;
+use numbers::Reader;
 use replies::Reply;
 use rules::{Entry, Held};
 use store::Store;
 
-// What a file says: done, the announced count and all its justifications held; or the fault and its record.
+// What a file says: the announced count of its records, and all its justifications held.
 #[derive(Clone, Copy)]
-pub struct Parsed {
-    pub reply: Reply,
-    pub record: u32,
-    pub held: Held,
+struct Parsed {
+    records: u32,
+    held: Held,
 }
 
-// What loading answers: the reply, the record, and the store; a refusal's store means nothing.
+// What a file is refused with, and the record that has the fault.
+#[derive(Clone, Copy)]
+struct Fault {
+    reply: Reply,
+    record: u32,
+}
+
+// What loading answers: the reply, the record, and the store. No Result: `Refusals` speaks of the store that a refusal hands back.
 #[derive(Clone, Copy)]
 pub struct Loaded {
     pub reply: Reply,
@@ -40,82 +48,57 @@ fn with(held: Held, entry: Entry) -> Held
     holding::insert(held, entry)
 }
 
-// Nothing held, for this fault in this record.
-fn refused(reply: Reply, at: u32) -> Parsed
-    ensures { result ≡ refused_of reply at }
+// The records that a header announces, and nothing after them.
+fn records(mut reader: Reader, counts: Counts) -> Result<Held, Fault>
+    requires { (counts.assumptions + counts.claims ≤ limits.numbers) × (counts.records ≤ limits.held) }
+    ensures { result ≡ records_of counts.assumptions counts.claims counts.records (left reader.entry) }
 {
-    Parsed {
-        reply,
-        record: at,
-        held: Held::nothing(0, 0),
-    }
-}
-
-// So many records from a place on.
-fn records(bytes: &[u8], from: usize, assumptions: u8, claims: u8, count: u32) -> Parsed
-    requires { (from ≤ length bytes.now) × (assumptions + claims ≤ limits.numbers) × (count ≤ limits.held) }
-    ensures { result ≡ records_of bytes.now from assumptions claims count }
-{
-    let top = assumptions + claims;
-    let mut held = Held::nothing(assumptions, claims);
-    let mut at = from;
-    let mut r = 0;
-    while r < count {
-        let next = items::record(bytes, at, top);
-        let reply = next.reply;
-        if replies::number(reply) != 0 {
-            return refused(reply, r + 1);
-        }
-        let entry = next.entry;
+    let top = counts.assumptions + counts.claims;
+    let mut held = Held::nothing(counts.assumptions, counts.claims);
+    for done in 0..counts.records {
+        let record = done + 1;
+        let entry = items::record(&mut reader, top).map_err(|reply| Fault { reply, record })?;
         held = with(held, entry);
-        at = next.next;
-        r += 1;
     }
-    if at < bytes.len() {
-        return refused(Reply::After, count);
+    if reader.at < reader.bytes.len() {
+        return Err(Fault {
+            reply: Reply::After,
+            record: counts.records,
+        });
     }
-    Parsed {
-        reply: Reply::Done,
-        record: count,
-        held,
-    }
+    Ok(held)
 }
 
 // What a case file says.
-fn parse(bytes: &[u8]) -> Parsed
+fn parse(bytes: &[u8]) -> Result<Parsed, Fault>
     ensures { Parses bytes.now result }
 {
-    match items::header(bytes) {
-        Counts::Bad(reply) => refused(reply, 0),
-        Counts::Read(assumptions, claims, count, next) => {
-            records(bytes, next, assumptions, claims, count)
-        }
-    }
+    let mut reader = Reader { bytes, at: 0 };
+    let counts = items::header(&mut reader).map_err(|reply| Fault { reply, record: 0 })?;
+    let held = records(reader, counts)?;
+    Ok(Parsed {
+        records: counts.records,
+        held,
+    })
 }
 
 // Loads a case file: the store of its whole set, judged once; or the refusal and its record.
 pub fn load(bytes: &[u8]) -> Loaded
     ensures { Loads bytes.now result }
 {
-    let parsed = parse(bytes);
-    let reply = parsed.reply;
-    let at = parsed.record;
-    if replies::number(reply) != 0 {
-        let opened = Store::open(0, 0);
-        let nothing = opened.store;
-        return Loaded {
-            reply,
-            record: at,
-            store: nothing,
-        };
-    }
-    let held = parsed.held;
-    let told = store::judged(held);
-    let answer = told.reply;
-    let judged = told.store;
-    Loaded {
-        reply: answer,
-        record: at,
-        store: judged,
+    match parse(bytes) {
+        Ok(parsed) => {
+            let told = store::judged(parsed.held);
+            Loaded {
+                reply: told.reply,
+                record: parsed.records,
+                store: told.store,
+            }
+        }
+        Err(fault) => Loaded {
+            reply: fault.reply,
+            record: fault.record,
+            store: Store::open(0, 0).store,
+        },
     }
 }

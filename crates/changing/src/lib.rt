@@ -1,70 +1,47 @@
-// What is held with one justification more, or one less; or the refusal and what was held.
+// What is held with one justification more, or one less; or the refusal.
 #![tactic(auto)]
 
 ghost use Rattle.std.specs.Prelude.{true, ◌≡◌, ◌+◌, ◌≤◌};
 ghost use Rattle.theory.specs.Limits.{limits};
 ghost use Rattle.rules.specs.Held.{held_right};
-ghost use Rattle.changing.specs.Changing.{less_of, more_of};
+ghost use Rattle.changing.specs.Changing.{less_of, more_of, placed_of};
 
 use replies::Reply;
-use rules::Held;
+use rules::{Entry, Held};
 use theory::HELD;
 
-// A reply, and what is held after it.
-#[derive(Clone, Copy)]
-pub struct Changed {
-    pub reply: Reply,
-    pub held: Held,
+// The item in its place; refused where it has a fault.
+fn placed(top: u8, consequent: u32, supports: &[u32]) -> Result<Entry, Reply>
+    requires { top ≤ limits.numbers }
+    ensures { result ≡ placed_of top consequent supports.now }
+{
+    rules::fault(top, consequent, supports)?;
+    Ok(rules::canonical(top, consequent, supports))
 }
 
 // One more: refused where the item has a fault, where it is held already, where no place is left.
-pub fn more(held: Held, consequent: u32, supports: &[u32]) -> Changed
+pub fn more(held: Held, consequent: u32, supports: &[u32]) -> Result<Held, Reply>
     requires { (held_right held ≡ true) × (held.assumptions + held.claims ≤ limits.numbers) }
     ensures { result ≡ more_of held consequent supports.now }
 {
-    let top = held.assumptions + held.claims;
-    let reply = rules::fault(top, consequent, supports);
-    if replies::number(reply) != 0 {
-        return Changed { reply, held };
-    }
-    let entry = rules::canonical(top, consequent, supports);
+    let entry = placed(held.assumptions + held.claims, consequent, supports)?;
     if holding::holds(held, entry) {
-        return Changed {
-            reply: Reply::Already,
-            held,
-        };
+        return Err(Reply::Already);
     }
     if HELD <= held.count {
-        return Changed {
-            reply: Reply::Full,
-            held,
-        };
+        return Err(Reply::Full);
     }
-    Changed {
-        reply: Reply::Done,
-        held: holding::insert(held, entry),
-    }
+    Ok(holding::insert(held, entry))
 }
 
 // One less: refused where the item has a fault, where it is not held.
-pub fn less(held: Held, consequent: u32, supports: &[u32]) -> Changed
+pub fn less(held: Held, consequent: u32, supports: &[u32]) -> Result<Held, Reply>
     requires { (held_right held ≡ true) × (held.assumptions + held.claims ≤ limits.numbers) }
     ensures { result ≡ less_of held consequent supports.now }
 {
-    let top = held.assumptions + held.claims;
-    let reply = rules::fault(top, consequent, supports);
-    if replies::number(reply) != 0 {
-        return Changed { reply, held };
-    }
-    let entry = rules::canonical(top, consequent, supports);
+    let entry = placed(held.assumptions + held.claims, consequent, supports)?;
     if !holding::holds(held, entry) {
-        return Changed {
-            reply: Reply::Unheld,
-            held,
-        };
+        return Err(Reply::Unheld);
     }
-    Changed {
-        reply: Reply::Done,
-        held: holding::remove(held, entry),
-    }
+    Ok(holding::remove(held, entry))
 }

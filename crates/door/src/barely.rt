@@ -3,31 +3,16 @@ ghost use Rattle.std.specs.Prelude.{◌≡◌};
 ghost use Rattle.bare.specs.Bare.{ask_of};
 ghost use Rattle.across.specs.Across.{barely_by, query_by};
 
-use across::Asked;
-use bare::Told;
+use across::{Asked, Told};
+use bare::Query;
 use handed::Handed;
-
-// The answer in numbers, as the call of a store gives it.
-fn say(told: Told) -> across::Told
-    ensures { result ≡ barely_by told }
-{
-    match told {
-        Told::Word(word) => across::plainly(word),
-        Told::Filled(reply) => across::Told {
-            reply: replies::number(reply) as u32,
-            value: 0,
-        },
-        Told::Lines(lines) => across::written(lines),
-    }
-}
 
 // What is asked of a bare list, any number of items.
 #[unsafe(no_mangle)]
-pub extern "C" fn door_bare(asked: Asked, list: &[Handed], out: &mut [u8]) -> across::Told
+pub extern "C" fn door_bare(asked: Asked, list: &[Handed], out: &mut [u8]) -> Told
     ensures { (result ≡ barely_by (ask_of (query_by asked) list.now out.old).answer)
         × (out.new ≡ (ask_of (query_by asked) list.now out.old).bytes) }
 {
-    let query = across::query(asked);
-    let told = bare::ask(query, list, out);
-    say(told)
+    let answer = bare::ask(Query::from(asked), list, out);
+    Told::from(answer)
 }

@@ -7,24 +7,14 @@ ghost use Rattle.across.specs.Across.{loaded_by, made_by};
 
 use across::Kept;
 use handed::Handed;
-use store::{Outcome, Store};
-
-// What a call that reads no file answers.
-fn made(out: Outcome) -> Kept
-    ensures { result ≡ made_by out }
-{
-    let reply = out.reply;
-    let store = out.store;
-    across::keep(reply, 0, store)
-}
+use store::Store;
 
 // A store that holds nothing.
 #[unsafe(no_mangle)]
 pub extern "C" fn door_open(assumptions: u32, claims: u32) -> Kept
     ensures { result ≡ made_by (open_of assumptions claims) }
 {
-    let out = Store::open(assumptions, claims);
-    made(out)
+    Kept::from(Store::open(assumptions, claims))
 }
 
 // The store of a case file.
@@ -32,11 +22,7 @@ pub extern "C" fn door_open(assumptions: u32, claims: u32) -> Kept
 pub extern "C" fn door_load(bytes: &[u8]) -> Kept
     ensures { result ≡ loaded_by (load_of bytes.now) }
 {
-    let out = casefile::load(bytes);
-    let reply = out.reply;
-    let at = out.record;
-    let made = out.store;
-    across::keep(reply, at, made)
+    Kept::from(casefile::load(bytes))
 }
 
 // The store with one justification more.
@@ -44,8 +30,7 @@ pub extern "C" fn door_load(bytes: &[u8]) -> Kept
 pub extern "C" fn door_add(store: Store, consequent: u32, supports: &[u32]) -> Kept
     ensures { result ≡ made_by (add_of store consequent supports.now) }
 {
-    let out = store.add(consequent, supports);
-    made(out)
+    Kept::from(store.add(consequent, supports))
 }
 
 // The store without one justification that it holds.
@@ -53,8 +38,7 @@ pub extern "C" fn door_add(store: Store, consequent: u32, supports: &[u32]) -> K
 pub extern "C" fn door_withdraw(store: Store, consequent: u32, supports: &[u32]) -> Kept
     ensures { result ≡ made_by (withdraw_of store consequent supports.now) }
 {
-    let out = store.withdraw(consequent, supports);
-    made(out)
+    Kept::from(store.withdraw(consequent, supports))
 }
 
 // The store with the justifications of a list, each refused one passed over, and a reply byte for each.
@@ -63,6 +47,5 @@ pub extern "C" fn door_add_all(store: Store, list: &[Handed], out: &mut [u8]) ->
     ensures { (result ≡ made_by (add_all_of store list.now out.old))
         × (out.new ≡ bytes_after store list.now out.old) }
 {
-    let all = season::add_all(store, list, out);
-    made(all)
+    Kept::from(season::add_all(store, list, out))
 }

@@ -7,7 +7,6 @@ ghost use Rattle.store.specs.Shape.{right_shape};
 ghost use Rattle.across.specs.Across.{found_by, plainly_by, reasoned_by};
 
 use across::{Reasoned, Told};
-use asking::Found;
 use store::Store;
 
 // Whether the store has the right shape.
@@ -23,8 +22,7 @@ pub extern "C" fn door_shape(store: Store) -> bool
 pub extern "C" fn door_question(store: Store, n: u32, e: u32) -> Reasoned
     ensures { result ≡ reasoned_by (question_of store n e) }
 {
-    let out = asking::question(store, n, e);
-    across::reason(out)
+    Reasoned::from(asking::question(store, n, e).answer)
 }
 
 // What the set e is to every number, a byte each.
@@ -33,9 +31,7 @@ pub extern "C" fn door_context(store: Store, e: u32, out: &mut [u8]) -> u32
     ensures { (result ≡ number_of (context_reply store e (length out.old)))
         × (out.new ≡ context_bytes store e out.old) }
 {
-    let told = asking::context(store, e, out);
-    let reply = told.reply;
-    replies::number(reply) as u32
+    across::number(asking::context(store, e, out).reply)
 }
 
 // The set at a place of n's label, or of the nogoods.
@@ -43,18 +39,7 @@ pub extern "C" fn door_context(store: Store, e: u32, out: &mut [u8]) -> u32
 pub extern "C" fn door_member(store: Store, n: u32, place: usize) -> Told
     ensures { result ≡ found_by (member_of store n place) }
 {
-    let out = asking::member(store, n, place);
-    let answer = out.answer;
-    match answer {
-        Found::Is(e) => Told {
-            reply: 0,
-            value: e as usize,
-        },
-        Found::Not(reply) => Told {
-            reply: replies::number(reply) as u32,
-            value: 0,
-        },
-    }
+    Told::from(asking::member(store, n, place).answer)
 }
 
 // What the set e is to n, without labels; no set is named.
@@ -62,9 +47,7 @@ pub extern "C" fn door_member(store: Store, n: u32, place: usize) -> Told
 pub extern "C" fn door_plain_question(store: Store, n: u32, e: u32) -> Told
     ensures { result ≡ plainly_by (plain_of store n e) }
 {
-    let out = plain::question(store, n, e);
-    let answer = out.answer;
-    across::plainly(answer)
+    Told::from(plain::question(store, n, e).answer)
 }
 
 // What the set e is to every number, a byte each, without labels.
@@ -73,7 +56,5 @@ pub extern "C" fn door_plain_context(store: Store, e: u32, out: &mut [u8]) -> u3
     ensures { (result ≡ number_of (context_reply store e (length out.old)))
         × (out.new ≡ plain_after store e out.old) }
 {
-    let told = plain::context(store, e, out);
-    let reply = told.reply;
-    replies::number(reply) as u32
+    across::number(plain::context(store, e, out).reply)
 }

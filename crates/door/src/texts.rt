@@ -10,6 +10,7 @@ ghost use Rattle.across.specs.Across.{wrote_by};
 
 use across::Told;
 use store::Store;
+use text::Writer;
 
 // The line of n in the listing, its newline included.
 #[unsafe(no_mangle)]
@@ -17,9 +18,7 @@ pub extern "C" fn door_line(store: Store, n: u32, out: &mut [u8]) -> Told
     ensures { (result ≡ wrote_by (line_of store n out.old).answer)
         × (out.new ≡ (line_of store n out.old).bytes) }
 {
-    let told = lines::line(store, n, out);
-    let answer = told.answer;
-    across::written(answer)
+    Told::from(lines::line(store, n, out).answer)
 }
 
 // The first line of the listing.
@@ -28,9 +27,7 @@ pub extern "C" fn door_case_line(store: Store, out: &mut [u8]) -> Told
     ensures { (result ≡ wrote_by (heading_of store out.old).answer)
         × (out.new ≡ (heading_of store out.old).bytes) }
 {
-    let told = lines::case_line(store, out);
-    let answer = told.answer;
-    across::written(answer)
+    Told::from(lines::case_line(store, out).answer)
 }
 
 // The whole listing.
@@ -39,9 +36,7 @@ pub extern "C" fn door_listing(store: Store, out: &mut [u8]) -> Told
     ensures { (result ≡ wrote_by (listed_of store out.old).answer)
         × (out.new ≡ (listed_of store out.old).bytes) }
 {
-    let told = listing::listing(store, out);
-    let answer = told.answer;
-    across::written(answer)
+    Told::from(listing::listing(store, out).answer)
 }
 
 // What the listing program prints of the bytes of a file.
@@ -50,8 +45,7 @@ pub extern "C" fn door_printed(bytes: &[u8], out: &mut [u8]) -> Told
     ensures { (result ≡ wrote_by (fitted (listing_of bytes.now) out.old).answer)
         × (out.new ≡ (fitted (listing_of bytes.now) out.old).bytes) }
 {
-    let answer = listing::printed(bytes, out);
-    across::written(answer)
+    Told::from(listing::printed(bytes, out))
 }
 
 // The case file of what is held.
@@ -60,9 +54,7 @@ pub extern "C" fn door_write(store: Store, out: &mut [u8]) -> Told
     ensures { (result ≡ wrote_by (write_of store out.old).answer)
         × (out.new ≡ (write_of store out.old).bytes) }
 {
-    let told = writing::write(store, out);
-    let answer = told.answer;
-    across::written(answer)
+    Told::from(writing::write(store, out).answer)
 }
 
 // One line a stage: every number that followed from the set e by then.
@@ -71,9 +63,7 @@ pub extern "C" fn door_stages(store: Store, e: u32, out: &mut [u8]) -> Told
     ensures { (result ≡ wrote_by (stages_of store e out.old).answer)
         × (out.new ≡ (stages_of store e out.old).bytes) }
 {
-    let told = stagetext::lines(store, e, out);
-    let answer = told.answer;
-    across::written(answer)
+    Told::from(stagetext::lines(store, e, out).answer)
 }
 
 // The line of a refusal, by its number, and of the record being read.
@@ -83,7 +73,8 @@ pub extern "C" fn door_refusal(number: u32, record: u32, out: &mut [u8]) -> Told
         × (out.new ≡ (fitted (refusal number «record») out.old).bytes) }
 {
     let mut text = [0u8; 30];
-    let end = text::refused(number, record, &mut text);
-    let answer = lent::fit(&text[..end], out);
-    across::written(answer)
+    let mut writer = Writer::new(&mut text);
+    writer.refused(number, record);
+    let answer = lent::fit(writer.text(), out);
+    Told::from(answer)
 }

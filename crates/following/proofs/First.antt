@@ -232,24 +232,22 @@ module _ (J : List Justification) (w : Placed J) (E : ℕ) where
   pub stages_since : stages_from J (limits.numbers + 1) 0 (sown E) ≡ table (limits.numbers + 1) (since_of J E)
   stages_since = ap (stages_from J (limits.numbers + 1) 0) (sown_at J E) ∙ stages_at (limits.numbers + 1) 0 refl
 
--- the loop of `stages`, k stages done
-pub stages_same : (J : List Justification) (k : ℕ) (m r : List ℕ) (t : Bool) → k < limits.numbers + 1 → r ≡ pass_over k (k + 1) m J → t ≡ same_sets r m → t ≡ true → stages_from J ((limits.numbers + 1) - k) k m ≡ m
-unfolding stages_from
-stages_same J k m r t h e p y =
-    ap (λ (f : ℕ). stages_from J f k m) left_one ∙ ap (λ (b : Bool). choose b m (stages_from J (limits.numbers - k) (k + 1) (pass_over k (k + 1) m J))) (sym (p ∙ ap (λ (x : List ℕ). same_sets x m) e) ∙ y)
-  where
-    left_one : (limits.numbers + 1) - k ≡ suc (limits.numbers - k)
-    left_one = omega (arith, h)
+-- the loop of `staged`, k stages done; t tells whether the pass marked nothing new
+module _ (J : List Justification) (k : ℕ) (m r : List ℕ) (low : k < limits.numbers + 1) (is : r ≡ pass_over k (k + 1) m J) (t : Bool) (told : t ≡ same_sets r m) where
+  step : stages_from J ((limits.numbers + 1) - k) k m ≡ choose t m (stages_from J ((limits.numbers + 1) - (k + 1)) (k + 1) r)
+  unfolding stages_from
+  step =
+      ap (λ (f : ℕ). stages_from J f k m) left_one
+      ∙ ap₂ (λ (b : Bool) (x : List ℕ). choose b m (stages_from J ((limits.numbers + 1) - (k + 1)) (k + 1) x)) (ap (λ (x : List ℕ). same_sets x m) (sym is) ∙ sym told) (sym is)
+    where
+      left_one : (limits.numbers + 1) - k ≡ suc ((limits.numbers + 1) - (k + 1))
+      left_one = omega (arith, low)
 
-pub stages_next : (J : List Justification) (k : ℕ) (m r : List ℕ) (t : Bool) → k < limits.numbers + 1 → r ≡ pass_over k (k + 1) m J → t ≡ same_sets r m → t ≡ false → stages_from J ((limits.numbers + 1) - k) k m ≡ stages_from J ((limits.numbers + 1) - (k + 1)) (k + 1) r
-unfolding stages_from
-stages_next J k m r t h e p y =
-    ap (λ (f : ℕ). stages_from J f k m) left_one
-    ∙ ap (λ (b : Bool). choose b m (stages_from J ((limits.numbers + 1) - (k + 1)) (k + 1) (pass_over k (k + 1) m J))) (sym (p ∙ ap (λ (x : List ℕ). same_sets x m) e) ∙ y)
-    ∙ ap (stages_from J ((limits.numbers + 1) - (k + 1)) (k + 1)) (sym e)
-  where
-    left_one : (limits.numbers + 1) - k ≡ suc ((limits.numbers + 1) - (k + 1))
-    left_one = omega (arith, h)
+  pub stages_same : t ≡ true → stages_from J ((limits.numbers + 1) - k) k m ≡ m
+  stages_same y = step ∙ ap (λ (b : Bool). choose b m (stages_from J ((limits.numbers + 1) - (k + 1)) (k + 1) r)) y
+
+  pub stages_next : t ≡ false → stages_from J ((limits.numbers + 1) - k) k m ≡ stages_from J ((limits.numbers + 1) - (k + 1)) (k + 1) r
+  stages_next y = step ∙ ap (λ (b : Bool). choose b m (stages_from J ((limits.numbers + 1) - (k + 1)) (k + 1) r)) y
 
 pub stages_end : (J : List Justification) (k : ℕ) (m : List ℕ) → limits.numbers + 1 ≤ k → stages_from J ((limits.numbers + 1) - k) k m ≡ m
 unfolding stages_from

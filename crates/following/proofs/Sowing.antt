@@ -1,61 +1,51 @@
--- The marks of stage 0 of all assumptions together, one assumption after the other. Assumes nothing.
+-- The marks of stage 0 of all assumptions together: as many zeros after falsity's mark. Assumes nothing.
+use mathlib.Core.List.{List, ◌++◌, ◌∷◌}
 use mathlib.Core.Bool.{Bool, false, true}
-use mathlib.Core.Logic.{◌⊎◌, ⊎_elim}
-use mathlib.Core.Path.{◌∙◌, ◌≡◌, ap, refl, sym}
-use Prim.Native.Nat.{◌+◌, ◌<◌, suc, zero, zero-le, ℕ}
-use native.Mathlib.Numerals.{add-one}
+use mathlib.Core.Path.{◌∙◌, ◌≡◌, ap, ap₂, refl, sym}
+use Prim.Native.Nat.{◌+◌, ◌-◌, ◌<◌, ◌≤◌, suc, zero, ℕ}
+use native.Mathlib.Decide.{dec_lt}
 use native.Mathlib.Omega.{arith}
-use lib.Dec.{eqb, ltb}
-use lib.ListN.{get_or, get_or-replicate, length, length-replicate, length-set, replicate, set}
-use lib.Seq.{get_or-set_other, get_or-set_same}
-use borrow.Author.Tests.{eqb-false, eqb-true, le-ltb, lt-ltb, ltb-false, ltb-true}
+use lib.Dec.{ltb}
+use lib.ListN.{get_or, get_or-append, get_or-replicate, length, length-append, length-replicate, replicate}
+use borrow.Author.Tests.{le-ltb, lt-ltb}
+use borrow.Rule.Slice.PartMut.{put_mid}
+use Rattle.std.proofs.lemmas.List.{drop-replicate, get_or-append_right}
 use Rattle.following.specs.Marks.{marks_of, sown}
 use Rattle.theory.proofs.Demands.{among_together}
-use Rattle.theory.proofs.Lists.{either}
-use Rattle.theory.proofs.Places.{get_d_table, is_table, length_table}
+use Rattle.theory.proofs.Places.{is_table, length_table}
 use Rattle.theory.specs.Limits.{limits}
 use Rattle.theory.specs.Lists.{choose}
 use Rattle.theory.specs.Sets.{among, together}
-
-abbrev mark : ℕ → ℕ → ℕ
-mark k n = choose (among (together k) n) 0 255
 
 pub marks_long : (p : ℕ → Bool) → length (marks_of p) ≡ limits.numbers + 1
 unfolding marks_of
 marks_long p = length_table (limits.numbers + 1) (λ n. choose (p n) 0 255)
 
-none_among : (n : ℕ) → among (together 0) n ≡ false
-unfolding among
-none_among zero = refl
-none_among (suc i) = among_together 0 i ∙ le-ltb i 0 zero-le
+module _ (a : ℕ) (low : a ≤ limits.numbers) where
+  abbrev parts : List ℕ
+  parts = replicate a 0 ++ replicate (limits.numbers - a) 255
 
-pub sown_none : replicate (limits.numbers + 1) 255 ≡ sown (together 0)
-unfolding marks_of
-sown_none =
-    is_table (replicate (limits.numbers + 1) 255) (limits.numbers + 1) (mark 0) 255 (length-replicate {A = ℕ} (limits.numbers + 1) 255) (λ n low. get_or-replicate {A = ℕ} (limits.numbers + 1) n 255 255 low ∙ ap (λ (b : Bool). choose b 0 255) (sym (none_among n)))
+  long : length (255 ∷ parts) ≡ limits.numbers + 1
+  long = omega (arith, length-append {A = ℕ} (replicate a 0) (replicate (limits.numbers - a) 255), length-replicate {A = ℕ} a 0, length-replicate {A = ℕ} (limits.numbers - a) 255)
 
-module _ (k : ℕ) (low : k < limits.numbers) where
-  own : mark (k + 1) (k + 1) ≡ 0
-  own = ap (mark (k + 1)) (add-one k) ∙ ap (λ (b : Bool). choose b 0 255) (among_together (k + 1) k ∙ lt-ltb k (k + 1) (omega arith))
-
-  other : (n : ℕ) → (n ≡ k + 1 → ⊥) → among (together k) n ≡ among (together (k + 1)) n
+  at : (n : ℕ) → n < limits.numbers + 1 → get_or (255 ∷ parts) n 255 ≡ choose (among (together a) n) 0 255
   unfolding among
-  other zero h = refl
-  other (suc i) h = among_together k i ∙ go (either (ltb i k)) ∙ sym (among_together (k + 1) i)
+  at zero p = refl
+  at (suc i) p =
+      elim (dec_lt i a) [
+        | yes q ↦ get_or-append {A = ℕ} (replicate a 0) (replicate (limits.numbers - a) 255) 255 i (omega (arith, length-replicate {A = ℕ} a 0)) ∙ get_or-replicate {A = ℕ} a i 0 255 q ∙ tested true (lt-ltb i a q)
+        | no q ↦ get_or-append_right {X = ℕ} (replicate a 0) (replicate (limits.numbers - a) 255) a i 255 (length-replicate {A = ℕ} a 0) (omega arith) ∙ get_or-replicate {A = ℕ} (limits.numbers - a) (i - a) 255 255 (omega arith) ∙ tested false (le-ltb i a (omega arith))
+      ]
     where
-      go : (ltb i k ≡ true) ⊎ (ltb i k ≡ false) → ltb i k ≡ ltb i (k + 1)
-      go = ⊎_elim (λ e. e ∙ sym (lt-ltb i (k + 1) (omega (arith, ltb-true i k e)))) (λ e. e ∙ sym (le-ltb i (k + 1) (omega (arith, ltb-false i k e, add-one k))))
+      tested : (b : Bool) → ltb i a ≡ b → ◌≡◌ {A = ℕ} (choose b 0 255) (choose (among (together a) (suc i)) 0 255)
+      tested b e = ap (λ (t : Bool). choose t 0 255) (sym (among_together a i ∙ e))
 
-  pub sown_next : set (sown (together k)) (k + 1) 0 ≡ sown (together (k + 1))
+  -- the marks with that part of them filled
+  pub sown_filled : (zeros : List ℕ) → zeros ≡ replicate a 0 → put_mid 1 (a + 1 - 1) (replicate (limits.numbers + 1) 255) zeros ≡ sown (together a)
   unfolding marks_of
-  sown_next =
-      is_table (set (sown (together k)) (k + 1) 0) (limits.numbers + 1) (mark (k + 1)) 255 (length-set (sown (together k)) (k + 1) 0 ∙ marks_long (among (together k))) at
+  sown_filled zeros e =
+      ap₂ (λ (l m : List ℕ). 255 ∷ (l ++ m)) e (drop-replicate (a + 1 - 1) limits.numbers 255 ∙ ap (λ (k : ℕ). replicate (limits.numbers - k) 255) same)
+      ∙ is_table (255 ∷ parts) (limits.numbers + 1) (λ n. choose (among (together a) n) 0 255) 255 long at
     where
-      at : (n : ℕ) → n < limits.numbers + 1 → get_or (set (sown (together k)) (k + 1) 0) n 255 ≡ mark (k + 1) n
-      at n p = ⊎_elim
-          (λ (e : eqb n (k + 1) ≡ true).
-          let q : n ≡ k + 1 = eqb-true n (k + 1) e in
-          ap (λ (x : ℕ). get_or (set (sown (together k)) (k + 1) 0) x 255) q ∙ get_or-set_same (sown (together k)) (k + 1) 0 255 (omega (arith, marks_long (among (together k)))) ∙ sym (ap (mark (k + 1)) q ∙ own))
-          (λ (e : eqb n (k + 1) ≡ false).
-          get_or-set_other (sown (together k)) (k + 1) n 0 255 (eqb-false n (k + 1) e) ∙ get_d_table (limits.numbers + 1) (mark k) n 255 p ∙ ap (λ (b : Bool). choose b 0 255) (other n (eqb-false n (k + 1) e)))
-          (either (eqb n (k + 1)))
+      same : a + 1 - 1 ≡ a
+      same = omega arith

@@ -1,4 +1,4 @@
-// A justification as a list hands it over. No set width and no store is in it.
+// A justification as a list hands it over. No set width and no store is in it. Fixed places with a count, and no Vec or slice: C hands it over so.
 #![tactic(auto)]
 
 use theory::SUPPORTS;

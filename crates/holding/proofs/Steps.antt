@@ -1,51 +1,63 @@
--- The steps of the loops and the branches of the code, over plain variables. Assumes nothing.
+-- Two places compared, and one looked for among those in use. Assumes nothing.
 use mathlib.Core.Bool.{Bool, ◌&&◌, false, true, ◌||◌}
-use mathlib.Core.List.{List, map}
-use mathlib.Core.Path.{◌∙◌, ◌≡◌, ap, ap₂, sym}
-use Prim.Native.Nat.{◌+◌, ◌<◌, ◌≤◌, suc, ℕ}
-use native.Mathlib.Numerals.{add-one}
+use mathlib.Core.List.Memᴰ.{head as here}
+use mathlib.Core.List.Memᴰ.{tail as there}
+use mathlib.Core.List.{List, Memᴰ as Mem, [], ◌∷◌, map}
+use mathlib.Core.Path.{◌∙◌, ◌≡◌, ap, ap₂, refl, sym}
+use Prim.Native.Nat.{◌<◌, ◌≤◌, suc, zero, ℕ}
+use native.Mathlib.Nat.{le_of_suc-le-suc, not-suc-le-zero}
 use native.Mathlib.Omega.{arith}
 use lib.Dec.{eqb, ltb}
-use lib.ListN.{drop, drop_of_length-le, get_or, length, take}
-use lib.Seq.{drop-cons, length-take-le}
-use borrow.Author.Tests.{eq-eqb, le-ltb, lt-ltb, ne_eqb}
+use Rattle.std.specs.Prelude.{cond, Option, Some}
+use Rattle.std.specs.declared.cmp.Ordering.{Ordering}
+use Rattle.std.specs.declared.cmp.Ordering.TheVariants.{Equal, Greater, Less}
+use Rattle.std.specs.Ordering.{is_lt, is_some_and, nat_cmp, partial_ordering_then}
+use Rattle.std.specs.Cmp.Lexicographic.{slice_partial_cmp}
+use lib.ListN.{get_or, length}
+use borrow.Author.Tests.{eq-eqb, ne_eqb}
+use Rattle.std.specs.List.{AllWithin}
+use Rattle.std.specs.List.Sorted.{IsPartitionedBy}
 use Rattle.holding.specs.Placing.{place_of}
-use Rattle.rules.proofs.Order.{ahead_fewer, ahead_more, ahead_same}
-use Rattle.rules.proofs.Scan.{said_at, said_length}
+use Rattle.rules.proofs.Order.{ahead_trans, ordered_head, ordered_tail}
 use Rattle.rules.proofs.Steps.{beyond}
-use Rattle.rules.specs.Held.{meaning}
+use Rattle.rules.specs.Held.{meaning, ordered}
 use Rattle.rules.specs.Items.{same_justification}
 use Rattle.rules.specs.declared.Entry.{Entry}
-use Rattle.slices.proofs.Laws.{any_hit, any_miss, same_length}
-use Rattle.theory.proofs.Places.{any_end}
 use Rattle.theory.specs.Judge.{same_sets}
-use Rattle.theory.specs.Limits.{limits}
 use Rattle.theory.specs.Lists.{choose, some_of}
 use Rattle.theory.specs.Stages.{Justification, ahead, lesser}
 
--- ---- the order of two lists
-module _ (a b : List ℕ) (i : ℕ) where
-  less_step : i < length a → i < length b
-      → lesser (drop i a) (drop i b) ≡ ltb (get_or a i 0) (get_or b i 0) || (eqb (get_or a i 0) (get_or b i 0) && lesser (drop (i + 1) a) (drop (i + 1) b))
-  unfolding lesser
-  less_step h k =
-      ap₂ lesser (drop-cons a i 0 h) (drop-cons b i 0 k)
-      ∙ ap (λ (j : ℕ). ltb (get_or a i 0) (get_or b i 0) || (eqb (get_or a i 0) (get_or b i 0) && lesser (drop j a) (drop j b))) (sym (add-one i))
+-- ---- which of two stands before the other
 
-  pub less_yes : i < length a → i < length b → get_or a i 0 < get_or b i 0 → lesser (drop i a) (drop i b) ≡ true
-  less_yes h k m = less_step h k ∙ rw (lt-ltb (get_or a i 0) (get_or b i 0) m)
+-- a first comparison, and a later one where it says that they are equal
+then_less : (s t : Bool) (q : Option Ordering) → is_some_and is_lt (partial_ordering_then (Some (cond s Less (cond t Equal Greater))) q) ≡ s || (t && is_some_and is_lt q)
+then_less true t q = refl
+then_less false true q = refl
+then_less false false q = refl
 
-  pub less_no : i < length a → i < length b → get_or b i 0 < get_or a i 0 → lesser (drop i a) (drop i b) ≡ false
-  less_no h k m =
-      less_step h k ∙ rw (le-ltb (get_or a i 0) (get_or b i 0) (omega arith), ne_eqb (get_or a i 0) (get_or b i 0) (λ e. omega arith))
+abbrev numbers : ℕ → ℕ → Option Ordering
+numbers x y = Some (nat_cmp x y)
 
-  pub less_more : i < length a → i < length b → get_or b i 0 ≤ get_or a i 0 → get_or a i 0 ≤ get_or b i 0 → lesser (drop i a) (drop i b) ≡ lesser (drop (i + 1) a) (drop (i + 1) b)
-  less_more h k m n =
-      less_step h k ∙ rw (le-ltb (get_or a i 0) (get_or b i 0) m, eq-eqb (get_or a i 0) (get_or b i 0) (omega arith))
+less_is : (l m : List ℕ) → is_some_and is_lt (slice_partial_cmp numbers l m) ≡ lesser l m
+unfolding lesser
+less_is [] [] = refl
+less_is [] (y ∷ m) = refl
+less_is (x ∷ l) [] = refl
+less_is (x ∷ l) (y ∷ m) = then_less (ltb x y) (eqb x y) (slice_partial_cmp numbers l m) ∙ ap (λ (b : Bool). ltb x y || (eqb x y && b)) (less_is l m)
 
-  pub less_end : length b ≤ i → lesser (drop i a) (drop i b) ≡ false
-  unfolding lesser
-  less_end h = ap (lesser (drop i a)) (drop_of_length-le b {i = i} h)
+three : (s t : Bool) (p q : Option Ordering) → is_some_and is_lt (partial_ordering_then (partial_ordering_then (Some (cond s Less (cond t Equal Greater))) p) q) ≡ s || (t && is_some_and is_lt (partial_ordering_then p q))
+three true t p q = refl
+three false true p q = refl
+three false false p q = refl
+
+pub comes_is : (i j : Justification) (l m : List ℕ) → l ≡ i.supports → m ≡ j.supports
+    → is_some_and is_lt (partial_ordering_then (partial_ordering_then (numbers i.consequent j.consequent) (numbers (length l) (length m))) (slice_partial_cmp numbers l m)) ≡ ahead i j
+unfolding ahead
+comes_is i j l m e f =
+    three (ltb i.consequent j.consequent) (eqb i.consequent j.consequent) (numbers (length l) (length m)) (slice_partial_cmp numbers l m)
+    ∙ ap (λ (b : Bool). ltb i.consequent j.consequent || (eqb i.consequent j.consequent && b))
+    (then_less (ltb (length l) (length m)) (eqb (length l) (length m)) (slice_partial_cmp numbers l m) ∙ ap (λ (b : Bool). ltb (length l) (length m) || (eqb (length l) (length m) && b)) (less_is l m)
+    ∙ ap₂ (λ (x y : List ℕ). ltb (length x) (length y) || (eqb (length x) (length y) && lesser x y)) e f)
 
 -- ---- whether two are one justification
 module _ (r t : Justification) where
@@ -53,69 +65,38 @@ module _ (r t : Justification) where
   unfolding same_justification
   same_head h = rw (ne_eqb r.consequent t.consequent h)
 
-  pub same_many : r.consequent ≡ t.consequent → (length r.supports ≡ length t.supports → ⊥) → false ≡ same_justification r t
-  unfolding same_justification
-  same_many e h = rw (eq-eqb r.consequent t.consequent e, same_length r.supports t.supports h)
-
   pub same_rest : r.consequent ≡ t.consequent → (b : Bool) → b ≡ same_sets r.supports t.supports → b ≡ same_justification r t
   unfolding same_justification
   same_rest e b p = rw (eq-eqb r.consequent t.consequent e) p
 
--- ---- two places
-module _ (s t : Entry) (e : length s.supports ≡ limits.supports) (f : length t.supports ≡ limits.supports) (p : s.count ≤ limits.supports) (q : t.count ≤ limits.supports) where
-  mine : length (take s.count s.supports) ≡ s.count
-  mine = length-take-le s.count s.supports (omega arith)
+-- ---- one among the places in use
 
-  theirs : length (take t.count t.supports) ≡ t.count
-  theirs = length-take-le t.count t.supports (omega arith)
+pub some_said : (p : Justification → Bool) (l : List Entry) → some_of (λ (t : Entry). p (meaning t)) l ≡ some_of p (map meaning l)
+unfolding some_of
+some_said p [] = refl
+some_said p (x ∷ l) = ap (λ (b : Bool). p (meaning x) || b) (some_said p l)
 
-  pub as_long : length (take s.count s.supports) ≡ length (take s.count t.supports)
-  as_long = mine ∙ sym (length-take-le s.count t.supports (omega arith))
+said_among : (l : List Entry) (j : ℕ) (d : Entry) → j < length l → Mem (meaning (get_or l j d)) (map meaning l)
+said_among [] j d h = absurd (not-suc-le-zero h)
+said_among (x ∷ l) zero d h = here refl
+said_among (x ∷ l) (suc j) d h = there (said_among l j d (le_of_suc-le-suc h))
 
-  pub comes_fewer : s.consequent ≡ t.consequent → s.count < t.count → true ≡ ahead (meaning s) (meaning t)
-  comes_fewer c h = ahead_fewer (meaning s) (meaning t) c (omega (arith, mine, theirs))
+-- of places in order, those that stand before r are the first
+pub before_first : (r : Justification) (l : List Entry) → ordered (map meaning l) ≡ true → IsPartitionedBy (λ (t : Entry). ahead (meaning t) r) l
+before_first r [] o i j d h k t = absurd (not-suc-le-zero k)
+before_first r (x ∷ l) o zero zero d h k t = t
+before_first r (x ∷ l) o zero (suc j) d h k t =
+    ahead_trans (meaning x) (meaning (get_or l j d)) r (ordered_head (meaning x) (map meaning l) o (meaning (get_or l j d)) (said_among l j d (le_of_suc-le-suc k))) t
+before_first r (x ∷ l) o (suc i) zero d h k t = absurd (not-suc-le-zero h)
+before_first r (x ∷ l) o (suc i) (suc j) d h k t = before_first r l (ordered_tail (meaning x) (map meaning l) o) i j d (le_of_suc-le-suc h) (le_of_suc-le-suc k) t
 
-  pub comes_more : s.consequent ≡ t.consequent → t.count < s.count → false ≡ ahead (meaning s) (meaning t)
-  comes_more c h = ahead_more (meaning s) (meaning t) c (omega (arith, mine, theirs))
-
-  pub comes_same : s.consequent ≡ t.consequent → s.count ≡ t.count → (b : Bool) → b ≡ lesser (take s.count s.supports) (take s.count t.supports) → b ≡ ahead (meaning s) (meaning t)
-  comes_same c n b h =
-      ahead_same (meaning s) (meaning t) c (mine ∙ n ∙ sym theirs) b (h ∙ ap (λ (k : ℕ). lesser (take s.count s.supports) (take k t.supports)) n)
-
-  pub differ_many : s.consequent ≡ t.consequent → (s.count ≡ t.count → ⊥) → false ≡ same_justification (meaning s) (meaning t)
-  differ_many c h = same_many (meaning s) (meaning t) c (λ w. h (sym mine ∙ w ∙ theirs))
-
-  pub same_all : s.consequent ≡ t.consequent → s.count ≡ t.count → (b : Bool) → b ≡ same_sets (take s.count s.supports) (take s.count t.supports) → b ≡ same_justification (meaning s) (meaning t)
-  same_all c n b h = same_rest (meaning s) (meaning t) c b (h ∙ ap (λ (k : ℕ). same_sets (take s.count s.supports) (take k t.supports)) n)
-
--- ---- the justifications of the first n places, one by one
-module _ (entries : List Entry) (n : ℕ) (fits : n ≤ length entries) where
-  abbrev from : ℕ → List Justification
-  from i = drop i (map meaning (take n entries))
-
-  module _ (p : Justification → Bool) (j : ℕ) where
-    pub held_hit : j < n → p (meaning (get_or entries j beyond)) ≡ true → some_of p (from j) ≡ true
-    held_hit h t = any_hit p (map meaning (take n entries)) j (meaning beyond) (omega (arith, said_length entries n fits)) (ap p (said_at entries n fits j h) ∙ t)
-
-    pub held_miss : j < n → p (meaning (get_or entries j beyond)) ≡ false → some_of p (from j) ≡ some_of p (from (j + 1))
-    held_miss h t = any_miss p (map meaning (take n entries)) j (meaning beyond) (omega (arith, said_length entries n fits)) (ap p (said_at entries n fits j h) ∙ t)
-
-    pub held_end : n ≤ j → some_of p (from j) ≡ false
-    held_end h = any_end p (map meaning (take n entries)) j (omega (arith, said_length entries n fits))
-
-  module _ (r : Justification) (j : ℕ) where
-    place_step : j < n → place_of r (from j) ≡ choose (ahead (meaning (get_or entries j beyond)) r) (suc (place_of r (from (j + 1)))) 0
-    unfolding place_of
-    place_step h =
-        ap (place_of r) (drop-cons (map meaning (take n entries)) j (meaning beyond) (omega (arith, said_length entries n fits)))
-        ∙ ap₂ (λ (t : Justification) (i : ℕ). choose (ahead t r) (suc (place_of r (from i))) 0) (said_at entries n fits j h) (sym (add-one j))
-
-    pub place_more : j < n → ahead (meaning (get_or entries j beyond)) r ≡ true → j + place_of r (from j) ≡ j + 1 + place_of r (from (j + 1))
-    place_more h t = omega (arith, place_step h ∙ ap (λ (b : Bool). choose b (suc (place_of r (from (j + 1)))) 0) t)
-
-    pub place_here : j < n → ahead (meaning (get_or entries j beyond)) r ≡ false → j + place_of r (from j) ≡ j
-    place_here h t = omega (arith, place_step h ∙ ap (λ (b : Bool). choose b (suc (place_of r (from (j + 1)))) 0) t)
-
-    pub place_end : n ≤ j → j + place_of r (from j) ≡ j
-    unfolding place_of
-    place_end h = omega (arith, ap (place_of r) (drop_of_length-le (map meaning (take n entries)) {i = j} (omega (arith, said_length entries n fits))))
+-- .. and r has its place after them
+pub place_found : (r : Justification) (l : List Entry) (n : ℕ) → n ≤ length l → AllWithin (λ (t : Entry). ahead (meaning t) r ≡ true) l 0 n
+    → AllWithin (λ (t : Entry). ahead (meaning t) r ≡ false) l n (length l) → n ≡ place_of r (map meaning l)
+unfolding place_of
+place_found r [] zero h f g = refl
+place_found r [] (suc n) h f g = absurd (not-suc-le-zero h)
+place_found r (x ∷ l) zero h f g = sym (ap (λ (b : Bool). choose b (suc (place_of r (map meaning l))) 0) (g 0 beyond (omega arith) (omega arith)))
+place_found r (x ∷ l) (suc n) h f g =
+    ap suc (place_found r l n (le_of_suc-le-suc h) (λ k d p q. f (suc k) d (omega arith) (omega arith)) (λ k d p q. g (suc k) d (omega arith) (omega arith)))
+    ∙ sym (ap (λ (b : Bool). choose b (suc (place_of r (map meaning l))) 0) (f 0 beyond (omega arith) (omega arith)))

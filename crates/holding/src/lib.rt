@@ -12,23 +12,18 @@ ghost use Rattle.holding.specs.Placing.{insert_at, place_of, remove_at, with_ent
 ghost use Rattle.holding.specs.Promised.{Inserted, IsHeld, Removed};
 
 use rules::{Entry, Held};
-use theory::SUPPORTS;
+
+// That what is held has its right shape is a clause and no type: each caller knows it from a test of a whole store or file,
+// and a type round what is held would be made for one call and taken off again to judge it. So with the room for one more.
 
 // Whether the justification is held.
 pub fn holds(held: Held, entry: Entry) -> bool
-    requires { (held_right held ≡ true) × (entry.count ≤ limits.supports) }
+    requires { held_right held ≡ true }
     ensures { IsHeld held entry result }
 {
-    let count = held.count;
-    let mut j = 0;
-    while j < count {
-        let t = held.entries[j];
-        if order::same(entry, t) {
-            return true;
-        }
-        j += 1;
-    }
-    false
+    held.entries[..held.count]
+        .iter()
+        .any(|other| order::same(&entry, other))
 }
 
 // The justification put in its place among those held.
@@ -42,7 +37,7 @@ pub fn insert(held: Held, entry: Entry) -> Held
 
 // What is held without the justification, which is held.
 pub fn remove(held: Held, entry: Entry) -> Held
-    requires { (held_right held ≡ true) × (entry.count ≤ limits.supports) × (some_of (same_justification (meaning entry)) (said_by held) ≡ true) }
+    requires { (held_right held ≡ true) × (some_of (same_justification (meaning entry)) (said_by held) ≡ true) }
     ensures { Removed held entry result }
 {
     let at = place(held, entry);
@@ -51,33 +46,20 @@ pub fn remove(held: Held, entry: Entry) -> Held
 
 // How many held justifications stand before it.
 fn place(held: Held, entry: Entry) -> usize
-    requires { (held_right held ≡ true) × (entry.count ≤ limits.supports) }
+    requires { held_right held ≡ true }
     ensures { result ≡ place_of (meaning entry) (said_by held) }
 {
-    let count = held.count;
-    let mut j = 0;
-    while j < count {
-        let t = held.entries[j];
-        if order::comes(t, entry) {
-            j += 1;
-        } else {
-            return j;
-        }
-    }
-    j
+    held.entries[..held.count].partition_point(|other| order::comes(other, &entry))
 }
 
-// The justification put in at a place; those from there on move up by one.
+// The justification put in at a place; those from there on move up by one. No rotate: it needs C's memmove, and the library needs memcpy and memset alone.
 fn moved(mut held: Held, at: usize, entry: Entry) -> Held
     requires { (at ≤ held.count) × (held.count < limits.held) }
     ensures { result ≡ with_entries held (held.count + 1) (insert_at held.entries at held.count entry) }
 {
     let count = held.count;
-    let mut i = count;
-    while at < i {
-        let last = held.entries[i - 1];
-        held.entries[i] = last;
-        i -= 1;
+    for i in (at..count).rev() {
+        held.entries[i + 1] = held.entries[i];
     }
     held.entries[at] = entry;
     held.count = count + 1;
@@ -90,18 +72,10 @@ fn closed(mut held: Held, at: usize) -> Held
     ensures { result ≡ with_entries held (held.count - 1) (remove_at held.entries at) }
 {
     let last = held.count - 1;
-    let mut i = at;
-    while i < last {
-        let next = held.entries[i + 1];
-        held.entries[i] = next;
-        i += 1;
+    for i in at..last {
+        held.entries[i] = held.entries[i + 1];
     }
-    let vacant = Entry {
-        consequent: 0,
-        count: 0,
-        supports: [0u8; SUPPORTS],
-    };
-    held.entries[last] = vacant;
+    held.entries[last] = Entry::VACANT;
     held.count = last;
     held
 }

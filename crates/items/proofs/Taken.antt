@@ -3,30 +3,29 @@ use mathlib.Core.Bool.{Bool, ◌||◌, true, false}
 use mathlib.Core.List.{List, [], ◌∷◌}
 use mathlib.Core.Logic.{⊎_elim}
 use mathlib.Core.Path.{◌∙◌, ◌≡◌, ap, ap₂, refl, subst, sym}
-use Prim.Native.Nat.{ℕ, ◌-◌, ◌<◌, ◌≤◌, suc, zero}
+use Prim.Native.Nat.{ℕ, ◌≤◌, suc, zero}
 use native.Mathlib.Omega.{arith}
 use lib.Dec.{eqb, ltb}
-use lib.ListN.{drop, length, take}
-use borrow.Author.Tests.{eqb-true, eqb-false, le-ltb, lt-ltb, ltb-false, ne_eqb}
+use lib.ListN.{drop, length}
+use borrow.Author.Tests.{eqb-true, ltb-false}
 use Rattle.items.specs.Items.{Header, Item, header_from, numbers_from, record_from, unless}
-use Rattle.items.specs.Steps.{header_of, header_placed, item_of, item_placed, record_of, supports_of, supports_placed, unread_of}
-use Rattle.items.specs.declared.Counts.TheVariants.{Read, Bad}
-use Rattle.items.specs.declared.Entered.{Entered}
-use Rattle.items.specs.declared.Given.{Given}
-use Rattle.numbers.proofs.Numbers.{Onward, bad_from, chosen, onward, onward_bad, onward_got, onward_then, place_of, value_from_lem}
-use Rattle.numbers.specs.Numbers.{Taken, got, bad, and_then, number_at, number_from}
-use Rattle.numbers.specs.declared.Number.TheVariants.{Value, Bad as bad-number}
+use Rattle.items.specs.Steps.{counts_from, counts_of, entry_from}
+use Rattle.items.specs.declared.Counts.{Counts}
+use Rattle.rules.specs.declared.Entry.{Entry}
+use Rattle.std.specs.Prelude.{Ok, Err}
+use Rattle.numbers.proofs.Numbers.{Onward, Past, Took, chosen, faulted, onward, onward_bad, onward_got, onward_then, took}
+use Rattle.numbers.specs.Numbers.{Taken, got, bad, and_then, number_from}
+use Rattle.numbers.specs.Reader.{Takes, left}
+use Rattle.numbers.specs.declared.Reader.{Reader}
 use Rattle.replies.proofs.Laws.{zero_done}
 use Rattle.replies.specs.Replies.{number_of}
 use Rattle.replies.specs.declared.Reply.TheVariants.{Counts as Over, Done, Full, Supports}
 use Rattle.replies.specs.declared.Reply.{Reply}
-use Rattle.rules.proofs.Entries.{length_padded, unpadded}
 use Rattle.rules.specs.Held.{entry_of}
 use Rattle.rules.specs.Items.{fault_of, justification_of}
 use Rattle.theory.proofs.Lists.{clash, either}
 use Rattle.theory.specs.Limits.{limits, over_counts}
 use Rattle.theory.specs.Lists.{choose}
-use Rattle.theory.specs.Places.{padded}
 
 -- ---- what is taken is so
 
@@ -45,6 +44,10 @@ each_held P Q (got x rest) f p g = g x rest p
 each_held P Q (bad r) f p g = tt
 
 -- ---- the header
+
+-- what a header's counts are the counts of
+abbrev pub header_of : Counts → Header
+header_of c = record { assumptions = c.assumptions; claims = c.claims; records = c.records }
 
 -- counts within the limits
 pub record Limited (h : Header) : Type 0 where
@@ -77,31 +80,46 @@ module _ (l : List ℕ) where
       onward_then l (number_from l) _ (onward l 0) (λ A p h. onward_then l (number_from (drop p l)) _ (onward l p) (λ M q k. onward_then l (number_from (drop q l)) _ (onward l q) (λ J r m.
       chosen (Onward l) (over_counts A M) (onward_bad Header l Over refl) (chosen (Onward l) (ltb limits.held J) (onward_bad Header l Full refl) (onward_got l (record { assumptions = A; claims = M; records = J }) r m)))))
 
-  header_got : (t : Taken Header) → Onward l t → Each Limited t → (A M J next : ℕ) → header_placed l t ≡ Read A M J next
-      → (t ≡ got (record { assumptions = A; claims = M; records = J }) (drop next l)) × (next ≤ length l) × Limited (record { assumptions = A; claims = M; records = J })
-  unfolding Onward Each
-  header_got (got h rest) (k, p, e) d A M J next q =
-      let z : length l - length rest ≡ next = cc in
-      let w : k ≡ next = sym (place_of l k p) ∙ (ap (λ (r : List ℕ). length l - length r) (sym e) ∙ z) in
-      let a : h.assumptions ≡ A = cc in
-      let m : h.claims ≡ M = cc in
-      let j : h.records ≡ J = cc in
-      let s : ◌≡◌ {A = Header} h (record { assumptions = A; claims = M; records = J }) = rw (← a, ← m, ← j) in
-      (ap₂ got s (e ∙ ap (λ (i : ℕ). drop i l) w), (rw w at p), subst Limited s d)
-  header_got (bad f) o d A M J next q = let z : ◌≡◌ {A = ℕ} 0 1 = cc in absurd (omega arith)
+  counts_onward : Onward l (counts_from l)
+  counts_onward = onward_then l (header_from l) _ header_onward (λ h k m. onward_got l (counts_of h) k m)
 
-  header_bad : (t : Taken Header) (f : Reply) → header_placed l t ≡ Bad f → t ≡ bad f
-  header_bad (got h rest) f q = let z : ◌≡◌ {A = ℕ} 0 1 = cc in absurd (omega arith)
-  header_bad (bad g) f q = let e : g ≡ f = cc in ap bad e
+counts_limited : (l : List ℕ) → Each (λ (c : Counts). Limited (header_of c)) (counts_from l)
+unfolding Each
+counts_limited l = each_held Limited (λ (c : Counts). Limited (header_of c)) (header_from l) _ (header_limited l) (λ h rest p. p)
 
-  pub header_read : (A M J next : ℕ) → header_of l ≡ Read A M J next
-      → (header_from l ≡ got (record { assumptions = A; claims = M; records = J }) (drop next l)) × (next ≤ length l) × Limited (record { assumptions = A; claims = M; records = J })
-  unfolding header_of
-  header_read A M J next q = header_got (header_from l) header_onward header_limited A M J next q
+counts_got : (t : Taken Header) (c : Counts) (rest : List ℕ) → and_then t (λ h rest. got (counts_of h) rest) ≡ got c rest → t ≡ got (header_of c) rest
+counts_got (got h l) c rest e =
+    let p : counts_of h ≡ c = cc in
+    let q : l ≡ rest = cc in
+    ap₂ got (ap header_of p) q
+counts_got (bad f) c rest e = absurd cc
 
-  pub header_fault : (f : Reply) → header_of l ≡ Bad f → header_from l ≡ bad f
-  unfolding header_of
-  header_fault f q = header_bad (header_from l) f q
+faulty_then : {X Y : Type 0} (t : Taken X) (g : X → Y) (f : Reply) → and_then t (λ x rest. got (g x) rest) ≡ bad f → t ≡ bad f
+faulty_then (got x rest) g f e = absurd cc
+faulty_then (bad r) g f e = let p : r ≡ f = cc in ap bad p
+
+-- the counts of a header, within the limits, and where the reader stands after it
+pub record Headed (r s : Reader) (c : Counts) : Type 0 where
+  pub taken : header_from (left r) ≡ got (header_of c) (left s)
+  pub past : Past r s
+  pub limited : Limited (header_of c)
+
+each_got : {X : Type 0} (P : X → Type 0) (t : Taken X) (x : X) (rest : List ℕ) → Each P t → t ≡ got x rest → P x
+unfolding Each
+each_got P (got y l) x rest p e = let q : y ≡ x = cc in subst P q p
+each_got P (bad f) x rest p e = absurd cc
+
+pub header_read : (r s : Reader) (c : Counts) → Takes counts_from r s (Ok c) → Headed r s c
+header_read r s c p =
+    let t : Took counts_from r s c = took counts_from r (counts_onward (left r)) s c p in
+    record {
+      taken = counts_got (header_from (left r)) c (left s) t.taken;
+      past = t.past;
+      limited = each_got (λ (x : Counts). Limited (header_of x)) (counts_from (left r)) c (left s) (counts_limited (left r)) t.taken;
+    }
+
+pub header_fault : (r s : Reader) (f : Reply) → Takes counts_from r s (Err f) → header_from (left r) ≡ bad f
+header_fault r s f p = faulty_then (header_from (left r)) counts_of f (faulted counts_from r s f p)
 
 -- ---- the supports
 
@@ -117,35 +135,8 @@ numbers_many zero l = refl
 numbers_many (suc k) l =
     each_then (λ s. length s ≡ suc k) (number_from l) _ (λ x m. each_held (λ s. length s ≡ k) (λ s. length s ≡ suc k) (numbers_from k m) _ (numbers_many k m) (λ xs rest e. ap suc e))
 
-module _ (l : List ℕ) (k : ℕ) (small : k ≤ limits.supports) (g : Given) where
-  supports_got : (t : Taken (List ℕ)) → Onward l t → Each (λ s. length s ≡ k) t → g ≡ supports_placed l t → number_of g.reply ≡ 0 → (t ≡ got (take k g.numbers) (drop g.next l)) × (g.next ≤ length l)
-  unfolding Onward Each
-  supports_got (got s rest) (j, p, e) m q z =
-      let w : g.next ≡ j = ap (λ (r : Given). r.next) q ∙ (ap (λ (r : List ℕ). length l - length r) e ∙ place_of l j p) in
-      let n : take k g.numbers ≡ s = ap (λ (r : Given). take k r.numbers) q ∙ (ap (λ (i : ℕ). take i (padded 0 limits.supports s)) (sym m) ∙ unpadded 0 limits.supports s (omega arith)) in
-      (ap₂ got (sym n) (e ∙ ap (λ (i : ℕ). drop i l) (sym w)), omega arith)
-  supports_got (bad f) o m q z = absurd (eqb-false (number_of f) 0 o (sym (ap (λ (r : Given). number_of r.reply) q) ∙ z))
-
-  supports_bad : (t : Taken (List ℕ)) → g ≡ supports_placed l t → (number_of g.reply ≡ 0 → ⊥) → t ≡ bad g.reply
-  supports_bad (got s rest) q z = absurd (z (ap (λ (r : Given). number_of r.reply) q))
-  supports_bad (bad f) q z = ap bad (sym (ap (λ (r : Given). r.reply) q))
-
-  supports_four : (t : Taken (List ℕ)) → g ≡ supports_placed l t → length g.numbers ≡ limits.supports
-  supports_four (got s rest) q = ap (λ (r : Given). length r.numbers) q ∙ length_padded 0 limits.supports s
-  supports_four (bad f) q = ap (λ (r : Given). length r.numbers) q
-
-  module _ (from : ℕ) (q : g ≡ supports_of l from k) where
-    pub supports_long : length g.numbers ≡ limits.supports
-    unfolding supports_of
-    supports_long = supports_four (numbers_from k (drop from l)) q
-
-    pub supports_read : from ≤ length l → number_of g.reply ≡ 0 → (numbers_from k (drop from l) ≡ got (take k g.numbers) (drop g.next l)) × (g.next ≤ length l)
-    unfolding supports_of
-    supports_read h z = supports_got (numbers_from k (drop from l)) (numbers_onward l k from h) (numbers_many k (drop from l)) q z
-
-    pub supports_fault : (number_of g.reply ≡ 0 → ⊥) → numbers_from k (drop from l) ≡ bad g.reply
-    unfolding supports_of
-    supports_fault z = supports_bad (numbers_from k (drop from l)) q z
+pub numbers_took : (k : ℕ) (r s : Reader) (x : List ℕ) → Takes (numbers_from k) r s (Ok x) → Took (numbers_from k) r s x
+numbers_took k r s x p = took (numbers_from k) r (numbers_onward (left r) k 0 (omega arith)) s x p
 
 -- ---- a record
 
@@ -157,11 +148,11 @@ module _ (N : ℕ) (i : Item) where
   abbrev F : Reply
   F = fault_of N i.consequent i.supports
 
-  unless_yes : (rest : List ℕ) → F ≡ Done → unless F i rest ≡ got i rest
+  pub unless_yes : (rest : List ℕ) → F ≡ Done → unless F i rest ≡ got i rest
   unfolding unless
   unless_yes rest e = rw e
 
-  unless_no : (rest : List ℕ) → eqb (number_of F) 0 ≡ false → unless F i rest ≡ bad F
+  pub unless_no : (rest : List ℕ) → eqb (number_of F) 0 ≡ false → unless F i rest ≡ bad F
   unfolding unless
   unless_no rest e = rw e
 
@@ -192,69 +183,33 @@ module _ (N : ℕ) where
       onward_then l (number_from (drop at l)) _ (onward l at) (λ c p h. onward_then l (number_from (drop p l)) _ (onward l p) (λ k q m.
       chosen (Onward l) (ltb limits.supports k) (onward_bad Item l Supports refl) (onward_then l (numbers_from k (drop q l)) _ (numbers_onward l k q m) (λ s r n. unless_onward N (record { consequent = c; supports = s }) l r n))))
 
--- an item taken from the file, and where the code stands after it
-pub record Told (l : List ℕ) (N : ℕ) (t : Taken Item) (r : Entered) : Type 0 where
+-- an item taken from the file, as it is held, and where the reader stands after it
+pub record Told (N : ℕ) (r s : Reader) (e : Entry) : Type 0 where
   pub item : Item
-  pub taken : t ≡ got item (drop r.next l)
-  pub inside : r.next ≤ length l
+  pub taken : record_from N (left r) ≡ got item (left s)
+  pub past : Past r s
   pub faultless : fault_of N item.consequent item.supports ≡ Done
-  pub entered : r.entry ≡ entry_of (justification_of N item.consequent item.supports)
+  pub entered : e ≡ entry_of (justification_of N item.consequent item.supports)
 
-module _ (l : List ℕ) (N : ℕ) (r : Entered) where
-  item_got : (t : Taken Item) → Onward l t → Each (Faultless N) t → r ≡ item_placed l N t → number_of r.reply ≡ 0 → Told l N t r
-  unfolding Onward Each
-  item_got (got i rest) (j, p, e) d q z =
-      let w : r.next ≡ j = ap (λ (x : Entered). x.next) q ∙ (ap (λ (x : List ℕ). length l - length x) e ∙ place_of l j p) in
-      record { item = i; taken = ap (got i) (e ∙ ap (λ (x : ℕ). drop x l) (sym w)); inside = omega arith; faultless = d; entered = ap (λ (x : Entered). x.entry) q }
-  item_got (bad f) o d q z = absurd (eqb-false (number_of f) 0 o (sym (ap (λ (x : Entered). number_of x.reply) q) ∙ z))
+module _ (N : ℕ) where
+  abbrev held_as : Item → Entry
+  held_as i = entry_of (justification_of N i.consequent i.supports)
 
-  item_bad : (t : Taken Item) → r ≡ item_placed l N t → (number_of r.reply ≡ 0 → ⊥) → t ≡ bad r.reply
-  item_bad (got i rest) q z = absurd (z (ap (λ (x : Entered). number_of x.reply) q))
-  item_bad (bad f) q z = ap bad (sym (ap (λ (x : Entered). x.reply) q))
+  item_got : (r s : Reader) (e : Entry) (t : Taken Item) → record_from N (left r) ≡ t → Each (Faultless N) t → Past r s → and_then t (λ i rest. got (held_as i) rest) ≡ got e (left s) → Told N r s e
+  unfolding Each
+  item_got r s e (got i l) q d p h =
+      let v : held_as i ≡ e = cc in
+      let w : l ≡ left s = cc in
+      record { item = i; taken = q ∙ ap (got i) w; past = p; faultless = d; entered = sym v }
+  item_got r s e (bad f) q d p h = absurd cc
 
-  module _ (at : ℕ) (q : r ≡ record_of l at N) where
-    pub record_read : number_of r.reply ≡ 0 → Told l N (record_from N (drop at l)) r
-    unfolding record_of
-    record_read z = item_got (record_from N (drop at l)) (record_onward N l at) (record_each N (drop at l)) q z
+  entry_onward : (l : List ℕ) → Onward l (entry_from N l)
+  entry_onward l = onward_then l (record_from N l) _ (record_onward N l 0) (λ i k m. onward_got l (held_as i) k m)
 
-    pub record_fault : (number_of r.reply ≡ 0 → ⊥) → record_from N (drop at l) ≡ bad r.reply
-    unfolding record_of
-    record_fault z = item_bad (record_from N (drop at l)) q z
+  pub record_read : (r s : Reader) (e : Entry) → Takes (entry_from N) r s (Ok e) → Told N r s e
+  record_read r s e p =
+      let t : Took (entry_from N) r s e = took (entry_from N) r (entry_onward (left r)) s e p in
+      item_got r s e (record_from N (left r)) refl (record_each N (left r)) t.past t.taken
 
--- ---- as the code reads a record
-
-module _ (l : List ℕ) (from N c k : ℕ) where
-  pub item_unread : (f : Reply) → numbers_from k (drop from l) ≡ bad f → unread_of f ≡ item_of l from N c k
-  unfolding item_of
-  item_unread f e = rw e
-
-  module _ (s : List ℕ) (next : ℕ) (e : numbers_from k (drop from l) ≡ got s (drop next l)) where
-    abbrev given : Item
-    given = record { consequent = c; supports = s }
-
-    pub item_faulty : (f : Reply) → f ≡ fault_of N c s → (number_of f ≡ 0 → ⊥) → unread_of f ≡ item_of l from N c k
-    unfolding item_of
-    item_faulty f q z = rw (e, unless_no N given (drop next l) (ne_eqb (number_of (fault_of N c s)) 0 (λ w. z (ap number_of q ∙ w))), ← q)
-
-    pub item_whole : next ≤ length l → fault_of N c s ≡ Done → ◌≡◌ {A = Entered} (record { reply = Done; next = next; entry = entry_of (justification_of N c s) }) (item_of l from N c k)
-    unfolding item_of
-    item_whole h d = rw (e, unless_yes N given (drop next l) d, place_of l next h)
-
-module _ (l : List ℕ) (at N : ℕ) where
-  pub record_first : (f : Reply) → number_at l at ≡ bad-number f → unread_of f ≡ record_of l at N
-  unfolding record_of record_from
-  record_first f a = rw (bad_from l at f a)
-
-  module _ (c p : ℕ) (a : number_at l at ≡ Value c p) where
-    pub record_second : (f : Reply) → number_at l p ≡ bad-number f → unread_of f ≡ record_of l at N
-    unfolding record_of record_from
-    record_second f b = rw ((value_from_lem l at c p a).0, bad_from l p f b)
-
-    module _ (k q : ℕ) (b : number_at l p ≡ Value k q) where
-      pub record_many : limits.supports < k → unread_of Supports ≡ record_of l at N
-      unfolding record_of record_from
-      record_many h = rw ((value_from_lem l at c p a).0, (value_from_lem l p k q b).0, lt-ltb limits.supports k h)
-
-      pub record_rest : k ≤ limits.supports → item_of l q N c k ≡ record_of l at N
-      unfolding record_of record_from item_of
-      record_rest h = rw ((value_from_lem l at c p a).0, (value_from_lem l p k q b).0, le-ltb limits.supports k h)
+  pub record_fault : (r s : Reader) (f : Reply) → Takes (entry_from N) r s (Err f) → record_from N (left r) ≡ bad f
+  record_fault r s f p = faulty_then (record_from N (left r)) held_as f (faulted (entry_from N) r s f p)

@@ -1,44 +1,39 @@
 -- Of two lists the first set that lies within another. Assumes nothing.
-use mathlib.Core.Bool.{Bool, ◌&&◌, false, not, true}
-use mathlib.Core.List.{List}
-use mathlib.Core.Path.{◌∙◌, ◌≡◌, ap, refl, subst, sym}
-use Prim.Native.Nat.{◌<◌, ◌≤◌, ℕ}
-use native.Mathlib.Omega.{arith}
-use lib.ListN.{get_or, length}
-use borrow.Author.Tests.{le-ltb}
-use Rattle.members.proofs.First.{at_mem, contains_first, first_at}
+use Rattle.std.specs.Prelude.{Bool, ◌&&◌, false, not, true, ◌≡◌, List, ℕ, Option, None, Some, is_some, refl}
+use Rattle.std.proofs.Common.{ap, sym, ◌∙◌}
+use Rattle.members.proofs.First.{contains_first, found_is}
 use Rattle.members.specs.Promised.{first_within}
 use Rattle.theory.proofs.Label.{contains_intro}
 use Rattle.theory.proofs.Lists.{and_intro}
 use Rattle.theory.proofs.Sets.{within_refl}
-use Rattle.theory.specs.Sets.{contains, within}
+use Rattle.theory.specs.Sets.{contains}
 use Rattle.theory.specs.Step.{free}
+use Rattle.joining.specs.Pool.{Barred}
 
--- ---- the first set of two lists that lies within E
-module _ (l : List ℕ) (E i : ℕ) (p : i ≡ first_within l E) where
-  found_within : i < length l → within (get_or l i 0) E ≡ true
-  found_within h = subst (λ (v : ℕ). within (get_or l v 0) E ≡ true) (sym p) (first_at l E (omega arith))
+-- what is found is contained in itself
+found_self : (l : List ℕ) (E t : ℕ) → first_within l E ≡ Some t → contains l t ≡ true
+found_self l E t e = contains_intro t (found_is l E t e).0 (within_refl t)
 
-  found_self : i < length l → contains l (get_or l i 0) ≡ true
-  found_self h = contains_intro (get_or l i 0) (at_mem l i h) (within_refl (get_or l i 0))
-
-  found_none : length l ≤ i → contains l E ≡ false
-  found_none h = contains_first l E ∙ le-ltb (first_within l E) (length l) (omega arith)
-
-module _ (struck list : List ℕ) (E i : ℕ) (p : i ≡ first_within struck E) where
-  pub bar_struck : i < length struck → (free struck list (get_or struck i 0) ≡ false) × (within (get_or struck i 0) E ≡ true)
+module _ (struck list : List ℕ) (E : ℕ) where
+  bar_at : (t : ℕ) → first_within struck E ≡ Some t → Barred struck list E (Some t)
   unfolding free
-  bar_struck h = (ap (λ (b : Bool). not b && not (contains list (get_or struck i 0))) (found_self struck E i p h), found_within struck E i p h)
+  bar_at t e = (ap (λ (b : Bool). not b && not (contains list t)) (found_self struck E t e), (found_is struck E t e).1)
 
-  module _ (k : ℕ) (q : k ≡ first_within list E) where
-    pub bar_list : k < length list → (free struck list (get_or list k 0) ≡ false) × (within (get_or list k 0) E ≡ true)
-    unfolding free
-    bar_list h = (and_none (not (contains struck (get_or list k 0))) (ap not (found_self list E k q h)), found_within list E k q h)
-      where
-        and_none : (a : Bool) {b : Bool} → b ≡ false → a && b ≡ false
-        and_none true e = e
-        and_none false e = refl
+  -- one struck
+  pub bar_struck : (r : Option ℕ) → r ≡ first_within struck E → (r ≡ None → ⊥) → Barred struck list E r
+  unfolding free
+  bar_struck None e n = absurd (n refl)
+  bar_struck (Some t) e n = bar_at t (sym e)
 
-    pub bar_none : length struck ≤ i → length list ≤ k → free struck list E ≡ true
-    unfolding free
-    bar_none h l = and_intro (ap not (found_none struck E i p h)) (ap not (found_none list E k q l))
+  -- none struck: one of the list, or none
+  pub bar_list : first_within struck E ≡ None → (r : Option ℕ) → r ≡ first_within list E → Barred struck list E r
+  unfolding free
+  bar_list n None e = and_intro (ap not (none_found struck n)) (ap not (none_found list (sym e)))
+    where
+      none_found : (l : List ℕ) → first_within l E ≡ None → contains l E ≡ false
+      none_found l q = contains_first l E ∙ ap (λ (o : Option ℕ). is_some o) q
+  bar_list n (Some t) e = (and_none (not (contains struck t)) (ap not (found_self list E t (sym e))), (found_is list E t (sym e)).1)
+    where
+      and_none : (a : Bool) {b : Bool} → b ≡ false → a && b ≡ false
+      and_none true e = e
+      and_none false e = refl

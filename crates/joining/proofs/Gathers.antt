@@ -4,58 +4,50 @@ use mathlib.Core.List.Memᴰ
 use mathlib.Core.List.{List, Memᴰ as Mem, [], ◌++◌, ◌∷◌, append_assoc, append-nil}
 use mathlib.Core.Logic.{⊎_elim}
 use mathlib.Core.Path.{◌∙◌, ◌≡◌, ap, ap₂, refl, subst, sym}
+use Rattle.std.specs.Prelude.{None, Some}
 use Prim.Native.Nat.{◌+◌, ◌<◌, ◌≤◌, ℕ}
 use native.Mathlib.Numerals.{add-one}
-use native.Mathlib.Omega.{arith}
 use lib.ListN.{drop, drop_of_length-le, get_or, length, take}
 use lib.Seq.{drop-cons, take_all, take-suc}
 use Rattle.joining.proofs.Reasons.{reason_append, reason_below, reason_skip, reason_stays, reason_wider, spent_more}
 use Rattle.joining.proofs.Refusals.{by_free, offered_append, refused_self, well_stays}
-use Rattle.joining.specs.Pool.{Barred, Entered, Filled, Gathered, Reason, Well, bound_of, entered, enters, filled, late_by, offered, offered_all}
-use Rattle.joining.specs.declared.Bar.{Bar}
-use Rattle.joining.specs.declared.Bar.TheVariants.{By, Free}
-use Rattle.joining.specs.declared.pool.Fill.{Fill}
+use Rattle.joining.specs.Pool.{Barred, Filled, Gathered, Reason, Well, entered, enters, late_by, offered, offered_all}
 use Rattle.sets.specs.Promised.{meet}
 use Rattle.theory.proofs.Label.{contains_elim}
 use Rattle.theory.proofs.Lists.{and_intro}
 use Rattle.theory.proofs.Sets.{within_left, within_refl, within_right}
+use Rattle.theory.specs.Limits.{limits}
 use Rattle.theory.specs.Lists.{choose, each}
 use Rattle.theory.specs.Sets.{contains, union, within}
 use Rattle.theory.specs.Step.{joins}
 
--- the sets of a list were offered, and why they are refused
-abbrev pub Over : ℕ → List ℕ → List ℕ → Filled → Filled → ℕ → Type 0
-Over room struck l f f' why = (f' ≡ offered_all room struck f l) × Reason struck f' l why
-
 -- no support left: what is joined alone
-pub joins_alone : (L : ℕ → List ℕ) (supports : List ℕ) (joined : ℕ) → length supports < 1 → joins L joined supports ≡ joined ∷ []
+pub joins_alone : (L : ℕ → List ℕ) (supports : List ℕ) (joined : ℕ) → supports ≡ [] → joins L joined supports ≡ joined ∷ []
 unfolding joins
-joins_alone L supports joined h = ap (joins L joined) (drop_of_length-le supports {i = 0} (omega arith))
+joins_alone L supports joined e = ap (joins L joined) e
 
 -- ---- a call whose joins are all refused, or that has none to join
-module _ (struck : List ℕ) (L : ℕ → List ℕ) (supports : List ℕ) (joined : ℕ) (pool : List ℕ) (f : Fill) (fits : f.count ≤ length pool) (bar : Bar) (is : Barred struck (take f.count pool) joined bar) where
-  abbrev now : Filled
-  now = filled pool f
+module _ (struck : List ℕ) (L : ℕ → List ℕ) (supports : List ℕ) (joined : ℕ) (f : Filled) where
+  pub gather_barred : (t : ℕ) → Barred struck f.sets joined (Some t) → Gathered struck (joins L joined supports) f f t
+  gather_barred t b =
+      let w : Reason struck f (joins L joined supports) t = reason_below struck f L supports joined t (by_free struck f t b.0) b.1 t (within_refl t) in
+      (sym (reason_skip struck f (limits.nogoods + 1) (joins L joined supports) t w), w)
 
-  pub gather_barred : (t : ℕ) → bar ≡ By t → (r : Fill) → r ≡ record { count = f.count; out = f.out; bound = f.bound; why = t } → Gathered struck (joins L joined supports) pool f pool r
-  gather_barred t e r q =
-      let b : Barred struck (take f.count pool) joined (By t) = subst (Barred struck (take f.count pool) joined) e is in
-      let w : Reason struck now (joins L joined supports) t = reason_below struck now L supports joined t (by_free struck now t b.0) b.1 t (within_refl t) in
-      subst (λ (x : Fill). Gathered struck (joins L joined supports) pool f pool x) (sym q) ((sym (reason_skip struck now (length pool) (joins L joined supports) t w), fits), w)
-
-  pub gather_end : bar ≡ Free → Well (filled pool f) → late_by (bound_of f) joined ≡ false → length supports < 1 → (pool' : List ℕ) (r : Fill) → Entered pool f joined pool' r → Gathered struck (joins L joined supports) pool f pool' r
+  pub gather_end : Barred struck f.sets joined None → Well f → late_by f.bound joined ≡ false → supports ≡ [] → (f' : Filled) → f' ≡ entered (limits.nogoods + 1) f joined → Gathered struck (joins L joined supports) f f' joined
   unfolding enters offered_all
-  gather_end e ok early h pool' r a =
-      let room : ℕ = length pool in
-      let goes : enters struck now joined ≡ true = and_intro (ap not early) (subst (Barred struck (take f.count pool) joined) e is) in
-      let same : offered room struck now joined ≡ filled pool' r = ap (λ (b : Bool). choose b (entered room now joined) now) goes ∙ sym a.0.0 in
-      let self : enters struck (filled pool' r) joined ≡ false = subst (λ (x : Filled). enters struck x joined ≡ false) same (refused_self room struck now ok joined) in (
-        (sym (ap (offered_all room struck now) (joins_alone L supports joined h) ∙ same), a.0.1),
-        reason_below struck (filled pool' r) L supports joined joined self (within_refl joined) r.why (subst (λ (v : ℕ). within joined v ≡ true) (sym a.1) (within_refl joined)),
+  gather_end bar ok early h f' a =
+      let goes : enters struck f joined ≡ true = and_intro (ap not early) bar in
+      let same : offered (limits.nogoods + 1) struck f joined ≡ f' = ap (λ (b : Bool). choose b (entered (limits.nogoods + 1) f joined) f) goes ∙ sym a in
+      let self : enters struck f' joined ≡ false = subst (λ (x : Filled). enters struck x joined ≡ false) same (refused_self (limits.nogoods + 1) struck f ok joined) in (
+        sym (ap (offered_all (limits.nogoods + 1) struck f) (joins_alone L supports joined h) ∙ same),
+        reason_below struck f' L supports joined joined self (within_refl joined) joined (within_refl joined),
       )
 
 -- ---- the loop over the label of the first support
-module _ (room : ℕ) (struck : List ℕ) (L : ℕ → List ℕ) (label rest : List ℕ) (joined : ℕ) (start : Filled) where
+module _ (struck : List ℕ) (L : ℕ → List ℕ) (label rest : List ℕ) (joined : ℕ) (start : Filled) where
+  abbrev room : ℕ
+  room = limits.nogoods + 1
+
   abbrev pub under : ℕ → List ℕ
   under F = joins L (union joined F) rest
 
@@ -85,7 +77,7 @@ module _ (room : ℕ) (struck : List ℕ) (L : ℕ → List ℕ) (label rest : L
           each_last (y ∷ l) x = ap (λ (m : List ℕ). under y ++ m) (each_last l x) ∙ sym (append_assoc (under y) (each under l) (under x))
 
       -- a member visited
-      pub member_visited : (f' : Filled) (v : ℕ) → Over room struck (joins L g rest) f f' v → Going f' (k + 1) (S ++ meet g v ∷ []) (union why v)
+      pub member_visited : (f' : Filled) (v : ℕ) → Gathered struck (joins L g rest) f f' v → Going f' (k + 1) (S ++ meet g v ∷ []) (union why v)
       member_visited f' v r =
           let later : (l : List ℕ) → Reason struck f l why → Reason struck f' l (union why v) =
           λ l q. subst (λ (x : Filled). Reason struck x l (union why v)) (sym r.0) (reason_wider struck (offered_all room struck f (joins L g rest)) l why (union why v) (reason_stays struck f room l (joins L g rest) why inv.well q) (within_left why v)) in

@@ -5,7 +5,7 @@ use mathlib.Core.List.Memᴰ.{head as here}
 use mathlib.Core.List.Memᴰ.{tail as there}
 use mathlib.Core.List.{List, Memᴰ as Mem, [], ◌++◌, ◌∷◌}
 use mathlib.Core.Logic.{◌⊎◌, inl, inr, ⊎_elim}
-use mathlib.Core.Option.{Option, none, some}
+use Rattle.std.specs.Prelude.{Option, None, Some}
 use mathlib.Core.Path.{◌∙◌, ◌≡◌, ap, refl, subst, sym}
 use Prim.Native.Nat.{ℕ}
 use lib.Dec.{ltb}
@@ -85,8 +85,8 @@ contains_more : (l : List ℕ) (t H : ℕ) → within t H ≡ true → contains 
 contains_more l t H w c = let i = contains_elim l t c in contains_intro H i.1 (within_trans i.0 t H i.2 w)
 
 pub late_up : (b : Option ℕ) (t H : ℕ) → within t H ≡ true → late_by b t ≡ true → late_by b H ≡ true
-late_up none t H w e = e
-late_up (some y) t H w e = ap not (late_more t H y w (not-true (before t y) e))
+late_up None t H w e = e
+late_up (Some y) t H w e = ap not (late_more t H y w (not-true (before t y) e))
 
 pub refused_more : (struck : List ℕ) (f : Filled) (t H : ℕ) → within t H ≡ true → Refused struck f t → Refused struck f H
 refused_more struck f t H w e =
@@ -96,8 +96,8 @@ refused_more struck f t H w e =
 
 -- ---- what is refused stays refused, and what was offered is refused
 late_past : (b : Option ℕ) (t d : ℕ) → late_by b t ≡ true → late_by b d ≡ false → before t d ≡ false
-late_past none t d p q = clash p refl
-late_past (some y) t d p q = not_so (before t d) (λ a. go (either (before d y)) a)
+late_past None t d p q = clash p refl
+late_past (Some y) t d p q = not_so (before t d) (λ a. go (either (before d y)) a)
   where
     go : ((before d y ≡ true) ⊎ (before d y ≡ false)) → before t d ≡ true → ⊥
     go (inl c) a = clash (before_trans t d y a c) (not-true (before t y) p)
@@ -122,24 +122,24 @@ module _ (room : ℕ) (struck : List ℕ) (f : Filled) (w : Well f) (E : ℕ) wh
   in_stays {x} m t p =
       ⊎_elim (λ i. by_pool struck (entered room f E) t (contains_intro t i p))
       (λ i. by_late struck (entered room f E) t
-      (ap (λ (b : Bool). late_by (choose b (some (get_or whole room 0)) f.bound) t) (lt-ltb room (length whole) i.0) ∙ ap not (late_more x t (get_or whole room 0) p i.1)))
+      (ap (λ (b : Bool). late_by (choose b (Some (get_or whole room 0)) f.bound) t) (lt-ltb room (length whole) i.0) ∙ ap not (late_more x t (get_or whole room 0) p i.1)))
       (cut room whole whole_sorted m)
 
-  module _ (e : enters struck f E ≡ true) where
+  module _ (e : late_by f.bound E ≡ false) where
     whole_ahead : (x : ℕ) → Mem x whole → late_by f.bound x ≡ false
-    whole_ahead x m = ⊎_elim (λ (q : x ≡ E). subst (λ (v : ℕ). late_by f.bound v ≡ false) (sym q) (enters_parts struck f E e).0) (w.ahead x) (whole_cases m)
+    whole_ahead x m = ⊎_elim (λ (q : x ≡ E). subst (λ (v : ℕ). late_by f.bound v ≡ false) (sym q) e) (w.ahead x) (whole_cases m)
 
-    entered_well : Well (entered room f E)
+    pub entered_well : Well (entered room f E)
     entered_well = record { sorted = sorted_take room whole whole_sorted; ahead = λ x m. go x m (ltb room (length whole)) refl }
       where
-        go : (x : ℕ) → Mem x (take room whole) → (b : Bool) → ltb room (length whole) ≡ b → late_by (choose b (some (get_or whole room 0)) f.bound) x ≡ false
+        go : (x : ℕ) → Mem x (take room whole) → (b : Bool) → ltb room (length whole) ≡ b → late_by (choose b (Some (get_or whole room 0)) f.bound) x ≡ false
         go x m true q = ap not (first_before room whole whole_sorted (ltb-true room (length whole) q) m)
         go x m false q = whole_ahead x (mem_take room whole m)
 
     late_stays : (t : ℕ) → late_by f.bound t ≡ true → late_by (entered room f E).bound t ≡ true
     late_stays t h = go (ltb room (length whole)) refl
       where
-        go : (b : Bool) → ltb room (length whole) ≡ b → late_by (choose b (some (get_or whole room 0)) f.bound) t ≡ true
+        go : (b : Bool) → ltb room (length whole) ≡ b → late_by (choose b (Some (get_or whole room 0)) f.bound) t ≡ true
         go true q = ap not (late_past f.bound t (get_or whole room 0) h (whole_ahead (get_or whole room 0) (at_mem whole room (ltb-true room (length whole) q))))
         go false q = h
 
@@ -157,14 +157,14 @@ module _ (room : ℕ) (struck : List ℕ) (f : Filled) (w : Well f) (E : ℕ) wh
   well_offered = go (enters struck f E) refl
     where
       go : (b : Bool) → enters struck f E ≡ b → Well (choose b (entered room f E) f)
-      go true e = entered_well e
+      go true e = entered_well (enters_parts struck f E e).0
       go false e = w
 
   pub refused_offered : (t : ℕ) → Refused struck f t → Refused struck (offered room struck f E) t
   refused_offered t r = go (enters struck f E) refl
     where
       go : (b : Bool) → enters struck f E ≡ b → Refused struck (choose b (entered room f E) f) t
-      go true e = refused_entered e t r
+      go true e = refused_entered (enters_parts struck f E e).0 t r
       go false e = r
 
   pub refused_self : Refused struck (offered room struck f E) E

@@ -1,2 +1,3 @@
 pub mod Pool
+pub mod Places
 pub mod Layout

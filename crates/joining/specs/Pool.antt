@@ -1,10 +1,7 @@
 -- The pool: the smallest clean sets seen so far, in listing order, of those that stand before the set that went out last for want of room. Assumes nothing.
-use Rattle.std.specs.Prelude.{Bool, ◌&&◌, false, not, true, ◌≡◌, ◌≤◌, ℕ, ltb, get_or, length, take}
+use Rattle.std.specs.Prelude.{Bool, ◌&&◌, false, not, true, ◌≡◌, ◌+◌, ℕ, Option, Some, None, ltb, get_or, length, take}
 use mathlib.Core.List.{List, Memᴰ as Mem, [], ◌∷◌}
-use Rattle.std.proofs.Math.Option.{Option, none, some}
-use Rattle.joining.specs.declared.Bar.{Bar}
-use Rattle.joining.specs.declared.Bar.TheVariants.{By, Free}
-use Rattle.joining.specs.declared.pool.Fill.{Fill}
+use Rattle.theory.specs.Limits.{limits}
 use Rattle.theory.specs.Lists.{choose, sorted_by, those}
 use Rattle.theory.specs.Sets.{before, within}
 use Rattle.theory.specs.Step.{free}
@@ -25,8 +22,8 @@ pub record Filled : Type 0 where
 
 -- E does not stand before the bound
 abbrev pub late_by : Option ℕ → ℕ → Bool
-late_by none E = false
-late_by (some y) E = not (before E y)
+late_by None E = false
+late_by (Some y) E = not (before E y)
 
 -- E can go in: it stands before the bound, and contains no set struck and none of the pool
 unfoldable pub enters : List ℕ → Filled → ℕ → Bool
@@ -39,7 +36,7 @@ Refused struck f E = enters struck f E ≡ false
 abbrev pub entered : ℕ → Filled → ℕ → Filled
 entered room f E = record {
   sets = take room (placed E (purged E f.sets));
-  bound = choose (ltb room (length (placed E (purged E f.sets)))) (some (get_or (placed E (purged E f.sets)) room 0)) f.bound;
+  bound = choose (ltb room (length (placed E (purged E f.sets)))) (Some (get_or (placed E (purged E f.sets)) room 0)) f.bound;
 }
 
 abbrev pub offered : ℕ → List ℕ → Filled → ℕ → Filled
@@ -60,38 +57,14 @@ abbrev pub Reason : List ℕ → Filled → List ℕ → ℕ → Type 0
 Reason struck f l why = (H : ℕ) → Mem H l → (t : ℕ) × (enters struck f t ≡ false) × (within t H ≡ true) × (within t why ≡ true)
 
 -- a set struck or of the list lies within E; or none does
-abbrev pub Barred : List ℕ → List ℕ → ℕ → Bar → Type 0
-Barred struck l E Free = free struck l E ≡ true
-Barred struck l E (By t) = (free struck l t ≡ false) × (within t E ≡ true)
-
--- ---- in its places
-
--- the bound beside a pool
-abbrev pub bound_of : Fill → Option ℕ
-bound_of f = choose f.out (some f.bound) none
-
--- what a pool holds
-abbrev pub filled : List ℕ → Fill → Filled
-filled pool f = record { sets = take f.count pool; bound = bound_of f }
-
--- at most 1,000 places, and no more sets than places, in listing order before the bound
-pub record Roomy (pool : List ℕ) (f : Fill) : Type 0 where
-  pub few : length pool ≤ 1000
-  pub fits : f.count ≤ length pool
-  pub well : Well (filled pool f)
-
--- the pool holds this
-abbrev pub Holds : ℕ → List ℕ → Fill → Filled → Type 0
-Holds room pool f is = (filled pool f ≡ is) × (f.count ≤ room)
-
--- E is in
-abbrev pub Entered : List ℕ → Fill → ℕ → List ℕ → Fill → Type 0
-Entered pool f E pool' r = Holds (length pool) pool' r (entered (length pool) (filled pool f) E) × (r.why ≡ E)
+abbrev pub Barred : List ℕ → List ℕ → ℕ → Option ℕ → Type 0
+Barred struck l E None = free struck l E ≡ true
+Barred struck l E (Some t) = (free struck l t ≡ false) × (within t E ≡ true)
 
 -- the sets of a list were offered
-abbrev pub Offered : List ℕ → List ℕ → List ℕ → Fill → List ℕ → Fill → Type 0
-Offered struck l pool f pool' r = Holds (length pool) pool' r (offered_all (length pool) struck (filled pool f) l)
+abbrev pub Offered : List ℕ → List ℕ → Filled → Filled → Type 0
+Offered struck l f f' = f' ≡ offered_all (limits.nogoods + 1) struck f l
 
 -- .. and why each of them is refused from now on
-abbrev pub Gathered : List ℕ → List ℕ → List ℕ → Fill → List ℕ → Fill → Type 0
-Gathered struck l pool f pool' r = Offered struck l pool f pool' r × Reason struck (filled pool' r) l r.why
+abbrev pub Gathered : List ℕ → List ℕ → Filled → Filled → ℕ → Type 0
+Gathered struck l f f' why = Offered struck l f f' × Reason struck f' l why

@@ -1,130 +1,108 @@
-// The pool: the smallest sets seen so far, in listing order, in its first so many places. Where there is no room the last goes out:
-// it is the bound, and what does not stand before it is refused from then on.
-ghost use Rattle.std.specs.Prelude.{true, [], ◌++◌, ◌∷◌, ◌≡◌, ◌+◌, ◌≤◌, length, take};
+// The pool: the smallest sets seen so far, in listing order. Where there is no room the last goes out: it is the bound, and what does not
+// stand before it is refused from then on.
+ghost use Rattle.std.specs.Prelude.{true, false, [], ◌++◌, ◌∷◌, ◌≡◌, ◌+◌, ◌≤◌, length, take, None, is_some};
+ghost use Rattle.theory.specs.Limits.{limits};
 ghost use Rattle.theory.specs.Lists.{choose, sorted_by};
 ghost use Rattle.theory.specs.Sets.{before, within};
-ghost use Rattle.joining.specs.Pool.{Entered, Roomy, bound_of, late_by, placed, purged};
+ghost use Rattle.joining.specs.Pool.{Well, entered, late_by, placed, purged};
 
 use sets::Set;
+use std::mem;
 use theory::NOGOODS;
 
 // Places for as many sets as a list may have, and one more.
 pub const POOL: usize = NOGOODS + 1;
 
-// How many sets a pool holds, whether one went out, and which did last; why what was just offered is refused from now on.
-#[derive(Clone, Copy)]
-pub struct Fill {
-    pub count: usize,
-    pub out: bool,
-    pub bound: Set,
-    pub why: Set,
+// The sets in their places, how many they are, and the one that went out last, if one did.
+#[derive(Drop)]
+pub struct Pool {
+    sets: [Set; POOL],
+    count: usize,
+    bound: Option<Set>,
+    ghost fits: { count ≤ limits.nogoods + 1 },
+    ghost well: { Well (record { sets = take count sets; bound = bound }) },
 }
 
-impl Fill {
-    // The same, with another reason.
-    pub(crate) fn because(self, why: Set) -> Fill
-        ensures { result ≡ record { count = self.count; out = self.out; bound = self.bound; why = why } }
-    {
-        Fill {
-            count: self.count,
-            out: self.out,
-            bound: self.bound,
-            why,
-        }
-    }
-}
-
-// One place more where x does not contain e.
-fn counted(kept: usize, e: Set, x: Set) -> usize
-    requires { kept ≤ 1000 }
-    ensures { result ≡ choose (within e x) kept (kept + 1) }
-{
-    if sets::within(e, x) { kept } else { kept + 1 }
-}
-
-// The sooner of the two.
-fn sooner(a: Set, b: Set) -> Set
-    ensures { result ≡ choose (before a b) a b }
-{
-    if sets::before(a, b) { a } else { b }
-}
-
-// The later of the two.
-fn later(a: Set, b: Set) -> Set
-    ensures { result ≡ choose (before a b) b a }
-{
-    if sets::before(a, b) { b } else { a }
-}
-
-// Those of the first so many sets that do not contain e, in their order; their count.
-fn purge(pool: &mut [Set], count: usize, e: Set) -> usize
-    requires { (count ≤ length pool.old) × (count ≤ 1000) }
-    ensures { (result ≤ count) × (take result pool.new ≡ purged e (take count pool.old)) }
+// Those of the first so many that do not contain e put first, in their order; how many they are.
+// The count stands beside the array, since a part of an array is not lent out of a struct behind a reference.
+fn purge(list: &mut [Set], count: usize, e: Set) -> usize
+    requires { count ≤ length list.old }
+    ensures { (result ≤ count) × (take result list.new ≡ purged e (take count list.old)) }
 {
     let mut kept = 0;
-    let mut i = 0;
-    while i < count {
-        let x = pool[i];
-        pool[kept] = x;
-        kept = counted(kept, e, x);
-        i += 1;
+    for i in 0..count {
+        let x = list[i];
+        list[kept] = x;
+        kept += usize::from(!sets::within(e, x));
     }
     kept
 }
 
-// e put among the first so many sets, in listing order; the last of all is left over.
-fn squeeze(pool: &mut [Set], count: usize, e: Set) -> Set
-    requires { (count ≤ length pool.old) × (sorted_by before (take count pool.old) ≡ true) }
-    ensures { take count pool.new ++ result ∷ [] ≡ placed e (take count pool.old) }
+// e put among the first so many in listing order; the last of all is left over. A count beside the array, as above.
+fn squeeze(list: &mut [Set], count: usize, e: Set) -> Set
+    requires { (count ≤ length list.old) × (sorted_by before (take count list.old) ≡ true) }
+    ensures { take count list.new ++ result ∷ [] ≡ placed e (take count list.old) }
 {
-    if 0 < count {
-        if sets::before(pool[count - 1], e) {
-            return e;
-        }
+    if 0 < count && sets::before(list[count - 1], e) {
+        return e;
     }
     let mut carried = e;
-    let mut i = 0;
-    while i < count {
-        let x = pool[i];
-        pool[i] = sooner(carried, x);
-        carried = later(carried, x);
-        i += 1;
+    for x in list[..count].iter_mut() {
+        if sets::before(carried, *x) {
+            mem::swap(x, &mut carried);
+        }
     }
     carried
 }
 
-// Whether one went out and e does not stand before it.
-pub fn late(fill: Fill, e: Set) -> bool
-    ensures { result ≡ late_by (bound_of fill) e }
-{
-    if fill.out {
-        !sets::before(e, fill.bound)
-    } else {
-        false
-    }
-}
+impl Pool {
+    ghost use Rattle.joining.specs.Places.{filled};
 
-// e taken in, and those that contain it put out; where there is no room the last goes out.
-pub(crate) fn enter(pool: &mut [Set; POOL], fill: Fill, e: Set) -> Fill
-    requires { Roomy pool.old fill }
-    ensures { Entered pool.old fill e pool.new result × (length pool.new ≡ length pool.old) }
-{
-    let room = pool.len();
-    let kept = purge(pool, fill.count, e);
-    let last = squeeze(pool, kept, e);
-    if room <= kept {
-        return Fill {
-            count: room,
-            out: true,
-            bound: last,
-            why: e,
-        };
+    // No set yet.
+    pub fn new() -> Pool
+        ensures { filled result ≡ record { sets = []; bound = None } }
+    {
+        Pool {
+            sets: [0; POOL],
+            count: 0,
+            bound: None,
+        }
     }
-    pool[kept] = last;
-    Fill {
-        count: kept + 1,
-        out: fill.out,
-        bound: fill.bound,
-        why: e,
+
+    // The sets in listing order.
+    pub fn sets(&self) -> &[Set]
+        ensures { result.now ≡ (filled self.now).sets }
+    {
+        &self.sets[..self.count]
+    }
+
+    // Whether one went out and e does not stand before it.
+    pub fn late(&self, e: Set) -> bool
+        ensures { result ≡ late_by (filled self.now).bound e }
+    {
+        self.bound.is_some_and(|bound| !sets::before(e, bound))
+    }
+
+    // The bound taken away, so that what was refused for it may come again; whether there was one.
+    pub fn again(&mut self) -> bool
+        ensures { (result ≡ is_some (filled self.old).bound) × (filled self.new ≡ record { sets = (filled self.old).sets; bound = None }) }
+    {
+        self.bound.take().is_some()
+    }
+
+    // e taken in, and those that contain it put out; where there is no room the last goes out.
+    pub(crate) fn enter(&mut self, e: Set)
+        requires { late_by (filled self.old).bound e ≡ false }
+        ensures { filled self.new ≡ entered (limits.nogoods + 1) (filled self.old) e }
+    {
+        let held = self.count;
+        let kept = purge(&mut self.sets, held, e);
+        let last = squeeze(&mut self.sets, kept, e);
+        if kept < POOL {
+            self.sets[kept] = last;
+            self.count = kept + 1;
+        } else {
+            self.bound = Some(last);
+        }
     }
 }

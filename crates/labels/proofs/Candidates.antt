@@ -4,10 +4,10 @@ use mathlib.Core.List.{List, [], ◌++◌, ◌∷◌, append-nil, map}
 use mathlib.Core.Path.{◌∙◌, ◌≡◌, ap, refl, sym}
 use Prim.Native.Nat.{◌+◌, ◌<◌, ◌≤◌, zero, ℕ}
 use lib.Dec.{eqb}
-use lib.ListN.{get_or, length}
+use native.Mathlib.Numerals.{add-one}
+use lib.ListN.{drop, drop_of_length-le, get_or, length}
+use lib.Seq.{drop-cons}
 use borrow.Author.Tests.{eq-eqb, eqb-false, eqb-true, ne_eqb}
-use Rattle.joining.proofs.Pools.{rest_cons, rest_none}
-use Rattle.labels.specs.Entries.{between}
 use Rattle.rules.specs.Held.{meaning}
 use Rattle.rules.specs.declared.Entry.{Entry}
 use Rattle.theory.specs.Lists.{each, keep, those}
@@ -39,10 +39,11 @@ module _ (L : ℕ → List ℕ) (n : ℕ) where
       go true e = let h : j.consequent ≡ n = eqb-true j.consequent n e in of_this j J h ∙ ap (λ (l : List ℕ). l ++ joins_for L n J) (sym (joins_so j h))
       go false e = let h : j.consequent ≡ n → ⊥ = eqb-false j.consequent n e in of_others j J h ∙ ap (λ (l : List ℕ). l ++ joins_for L n J) (sym (joins_not j h))
 
-  pub joins_on : (entries : List Entry) (j hi : ℕ) (z : Entry) → hi ≤ length entries → j < hi
-      → joins_for L n (map meaning (between entries j hi)) ≡ joins_for L n (meaning (get_or entries j z) ∷ []) ++ joins_for L n (map meaning (between entries (j + 1) hi))
-  joins_on entries j hi z room h = ap (λ (l : List Entry). joins_for L n (map meaning l)) (rest_cons entries z hi j room h) ∙ joins_more (meaning (get_or entries j z)) (map meaning (between entries (j + 1) hi))
+  pub joins_on : (entries : List Entry) (j : ℕ) (z : Entry) → j < length entries → joins_for L n (map meaning (drop j entries)) ≡ joins_for L n (meaning (get_or entries j z) ∷ []) ++ joins_for L n (map meaning (drop (j + 1) entries))
+  joins_on entries j z h =
+      ap (λ (l : List Entry). joins_for L n (map meaning l)) (drop-cons entries j z h ∙ ap (λ (i : ℕ). get_or entries j z ∷ drop i entries) (sym (add-one j)))
+      ∙ joins_more (meaning (get_or entries j z)) (map meaning (drop (j + 1) entries))
 
-  pub joins_over : (entries : List Entry) (j hi : ℕ) → hi ≤ j → joins_for L n (map meaning (between entries j hi)) ≡ []
+  pub joins_over : (entries : List Entry) (j : ℕ) → length entries ≤ j → joins_for L n (map meaning (drop j entries)) ≡ []
   unfolding joins_for those each
-  joins_over entries j hi h = ap (λ (l : List Entry). joins_for L n (map meaning l)) (rest_none entries hi j h)
+  joins_over entries j h = ap (λ (l : List Entry). joins_for L n (map meaning l)) (drop_of_length-le entries {i = j} h)

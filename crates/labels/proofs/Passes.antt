@@ -5,7 +5,7 @@ use mathlib.Core.List.Memᴰ.{head as here}
 use mathlib.Core.List.Memᴰ.{tail as there}
 use mathlib.Core.List.{List, Memᴰ as Mem, [], ◌++◌, ◌∷◌, append-nil}
 use mathlib.Core.Logic.{◌⊎◌, inl, inr, ⊎_elim}
-use mathlib.Core.Option.{Option, none, some}
+use Rattle.std.specs.Prelude.{Option, None, Some}
 use mathlib.Core.Path.{◌∙◌, ◌≡◌, ap, ap₂, refl, subst, sym}
 use Prim.Native.Nat.{◌+◌, ◌-◌, ◌<◌, ◌≤◌, ℕ}
 use native.Mathlib.Omega.{arith}
@@ -90,8 +90,8 @@ all_pass p [] h = refl
 all_pass p (x ∷ l) h = rw (h x (here refl), all_pass p l (λ y m. h y (there m)))
 
 late_on : (b : Option ℕ) (x y : ℕ) → before x y ≡ true → late_by b x ≡ true → late_by b y ≡ true
-late_on none x y p t = t
-late_on (some d) x y p t = ap not (not_so (before y d) (λ q. clash (before_trans x y d p q) (not-true (before x d) t)))
+late_on None x y p t = t
+late_on (Some d) x y p t = ap not (not_so (before y d) (λ q. clash (before_trans x y d p q) (not-true (before x d) t)))
 
 pub early_first : (b : Option ℕ) (l : List ℕ) → sorted_by before l ≡ true → those (λ E. not (late_by b E)) l ≡ take (length (those (λ E. not (late_by b E)) l)) l
 unfolding those
@@ -124,7 +124,7 @@ those_append p (x ∷ P) Q h = rw (h x (here refl), those_append p P Q (λ y m. 
 
 -- ---- a pass, from the sets kept on
 abbrev pub begin : List ℕ → Filled
-begin P = record { sets = P; bound = none }
+begin P = record { sets = P; bound = None }
 
 abbrev pub pass : ℕ → List ℕ → List ℕ → List ℕ → Filled
 pass room struck cands P = offered_all room struck (begin P) cands
@@ -149,7 +149,7 @@ module _ (struck cands X : List ℕ) (sel : Selection X cands (λ E. not (contai
       (λ E m. refused_all room struck cands (begin P) well_begin E m)
 
   -- no bound: the whole selection
-  pub pass_whole : (pass room struck cands P).bound ≡ none → (pass room struck cands P).sets ≡ X
+  pub pass_whole : (pass room struck cands P).bound ≡ None → (pass room struck cands P).sets ≡ X
   pass_whole h = pass_exact ∙ ap (λ (b : Option ℕ). those (λ E. not (late_by b E)) X) h ∙ every X
     where
       every : (l : List ℕ) → those (λ E. true) l ≡ l
@@ -165,7 +165,7 @@ module _ (struck cands X : List ℕ) (sel : Selection X cands (λ E. not (contai
     record Grown (f : Filled) : Type 0 where
       later : List ℕ
       split : f.sets ≡ P ++ later
-      some_later : (f.bound ≡ none) ⊎ (1 ≤ length later)
+      some_later : (f.bound ≡ None) ⊎ (1 ≤ length later)
 
     grown_entered : (f : Filled) → Grown f → (E : ℕ) → Mem E cands → enters struck f E ≡ true → Grown (entered room f E)
     unfolding purged
@@ -217,7 +217,7 @@ module _ (struck cands X : List ℕ) (sel : Selection X cands (λ E. not (contai
         go true e = grown_entered f g E (h E (here refl)) e
         go false e = g
 
-    pub pass_grows : (d : ℕ) → (pass room struck cands P).bound ≡ some d → length P < length (pass room struck cands P).sets
+    pub pass_grows : (d : ℕ) → (pass room struck cands P).bound ≡ Some d → length P < length (pass room struck cands P).sets
     pass_grows d h =
         let g : Grown end = grown_all cands (begin P) (λ E m. m) (record { later = []; split = sym (append-nil P); some_later = inl refl }) in
         ⊎_elim (λ q. let z : ◌≡◌ {A = ℕ} 0 1 = cc (q, h) in absurd (omega arith)) (λ k. omega (arith, ap length g.split ∙ length-append P g.later)) g.some_later

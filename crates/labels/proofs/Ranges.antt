@@ -4,14 +4,14 @@ use mathlib.Core.List.Memᴰ
 use mathlib.Core.List.Memᴰ.{head as here}
 use mathlib.Core.List.Memᴰ.{tail as there}
 use mathlib.Core.List.{List, Memᴰ as Mem, [], ◌∷◌, map}
-use mathlib.Core.Path.{◌∙◌, ◌≡◌, ap, refl, subst, sym}
+use mathlib.Core.Path.{◌∙◌, ◌≡◌, refl, subst, sym}
 use Prim.Native.Nat.{◌+◌, ◌-◌, ◌<◌, ◌≤◌, suc, zero, ℕ}
 use native.Mathlib.Omega.{arith}
 use lib.ListN.{drop, get_or, length, length-drop, length-take, take}
 use lib.Seq.{get_or-drop, get_or-take}
 use Rattle.joining.specs.Layout.{Ranged}
 use Rattle.joining.specs.Pool.{Filled}
-use Rattle.labels.specs.Entries.{Few, Joinable, between, entries_of, entry_at}
+use Rattle.labels.specs.Entries.{Few, Joinable, between}
 use Rattle.labels.specs.Moved.{Hushed}
 use Rattle.members.proofs.First.{at_mem}
 use Rattle.rules.proofs.Entries.{Fits, fits_elim}
@@ -21,7 +21,6 @@ use Rattle.rules.proofs.Steps.{all_first}
 use Rattle.rules.specs.Held.{fitting, held_right, meaning}
 use Rattle.rules.specs.declared.Entry.{Entry}
 use Rattle.rules.specs.declared.Held.{Held}
-use Rattle.theory.proofs.Places.{get_d_table, length_table}
 use Rattle.theory.specs.Limits.{limits}
 use Rattle.theory.specs.Stages.{Justification}
 
@@ -65,42 +64,13 @@ joinable_part l n lo hi h ok = joinable_at (between l lo hi) (λ j z p.
     let k : lo + j < length (take n l) = omega (arith, length-take (hi - lo) (drop lo l), length-drop lo l, length-take n l) in
     as_entry (get_or (between l lo hi) j z) (get_or (take n l) (lo + j) z) (get_or-take (hi - lo) (drop lo l) j z q ∙ get_or-drop lo l j z ∙ sym (get_or-take n l (lo + j) z r)) (ok.few (lo + j) z k) (ok.ranged (lo + j) z k))
 
+-- ---- each of them
 mem_meant : (l : List Entry) (i : ℕ) (z : Entry) → i < length l → Mem (meaning (get_or l i z)) (map meaning l)
 mem_meant [] i z h = absurd (omega arith)
 mem_meant (e ∷ l) zero z h = here refl
 mem_meant (e ∷ l) (suc i) z h = there (mem_meant l i z (omega arith))
 
--- each place of a part
-module _ (l : List Entry) (lo hi j : ℕ) (z : Entry) (ok : Joinable (between l lo hi)) (low : lo ≤ j) (high : j < hi) (room : hi ≤ length l) where
-  abbrev k : ℕ
-  k = j - lo
-
-  same : get_or l j z ≡ get_or (between l lo hi) k z
-  same = let e : lo + k ≡ j = omega arith in ap (λ (i : ℕ). get_or l i z) (sym e) ∙ sym (get_or-take (hi - lo) (drop lo l) k z (omega arith) ∙ get_or-drop lo l k z)
-
-  inside : k < length (between l lo hi)
-  inside = omega (arith, length-take (hi - lo) (drop lo l), length-drop lo l)
-
-  pub part_few : Few (get_or l j z)
-  part_few = (as_entry (get_or l j z) (get_or (between l lo hi) k z) same (ok.few k z inside) (ok.ranged k z inside)).0
-
-  pub part_ranged : Ranged (meaning (get_or l j z)).supports
-  part_ranged = (as_entry (get_or l j z) (get_or (between l lo hi) k z) same (ok.few k z inside) (ok.ranged k z inside)).1
-
-  part_mem : Mem (meaning (get_or l j z)) (map meaning (between l lo hi))
-  part_mem = subst (λ (e : Entry). Mem (meaning e) (map meaning (between l lo hi))) (sym same) (mem_meant (between l lo hi) k z inside)
-
-  pub part_hushed : (L : ℕ → List ℕ) (n : ℕ) (struck moved : List ℕ) (f : Filled) → Hushed L (map meaning (between l lo hi)) n struck moved f → Hushed L (meaning (get_or l j z) ∷ []) n struck moved f
-  part_hushed L n struck moved f h = record {
-    long = h.long;
-    refused = λ r m. h.refused r (subst (λ (i : Justification). Mem i (map meaning (between l lo hi))) (sym (Memᴰ.eq_of_singleton m)) part_mem);
-  }
-
--- ---- justifications that lie in six bytes each
-pub entries_long : (rules : List ℕ) → length (entries_of rules) ≡ limits.held
-unfolding entries_of
-entries_long rules = length_table limits.held (entry_at rules)
-
-pub entry_is : (rules : List ℕ) (j : ℕ) (z : Entry) → j < limits.held → get_or (entries_of rules) j z ≡ entry_at rules j
-unfolding entries_of
-entry_is rules j z h = get_d_table limits.held (entry_at rules) j z h
+pub one_hushed : (l : List Entry) (j : ℕ) (z : Entry) → j < length l → (L : ℕ → List ℕ) (n : ℕ) (struck moved : List ℕ) (f : Filled) → Hushed L (map meaning l) n struck moved f → Hushed L (meaning (get_or l j z) ∷ []) n struck moved f
+one_hushed l j z low L n struck moved f h = record {
+  refused = λ r m. h.refused r (subst (λ (i : Justification). Mem i (map meaning l)) (sym (Memᴰ.eq_of_singleton m)) (mem_meant l j z low));
+}

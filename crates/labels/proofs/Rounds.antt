@@ -2,28 +2,45 @@
 use mathlib.Core.Bool.{Bool, false, not, true}
 use mathlib.Core.List.{List, [], ◌++◌}
 use mathlib.Core.Logic.{⊎_elim}
-use mathlib.Core.Option.{none, some}
+use Rattle.std.specs.Prelude.{Option, None, Some, Result, Ok, Err, is_some}
 use mathlib.Core.Path.{◌∙◌, ◌≡◌, ap, refl, subst, sym}
 use Prim.Native.Nat.{◌+◌, ◌<◌, ◌≤◌, ℕ}
 use native.Mathlib.Omega.{arith}
-use lib.ListN.{length, replicate, take}
-use lib.Seq.{length-take-le, take-take}
-use Rattle.joining.proofs.Refusals.{by_struck, offered_append, refused_all, refused_more, well_stays}
-use Rattle.joining.specs.Pool.{Filled, Offered, Refused, Roomy, Well, filled, offered_all}
-use Rattle.joining.specs.declared.pool.Fill.{Fill}
+use native.Mathlib.Decide.{dec_lt}
+use lib.ListN.{length, length-take, take}
+use lib.Seq.{take_all, take-take}
+use borrow.Author.Tests.{lt-ltb}
+use Rattle.joining.proofs.Refusals.{by_struck, offered_append, refused_all, refused_more}
+use Rattle.joining.specs.Pool.{Filled, Offered, Refused, Well, offered_all}
 use Rattle.labels.proofs.Passes.{begin, pass, pass_grows, pass_prefix, pass_whole, well_begin}
 use Rattle.labels.proofs.Selects.{admitted_all, pass_selects, sound_none}
 use Rattle.labels.specs.Moved.{Hushed, Still}
-use Rattle.labels.specs.Promised.{built_of}
+use Rattle.labels.specs.Promised.{built_of, placed_first, placed_list}
 use Rattle.labels.specs.declared.Built.{Built}
+use Rattle.labels.specs.declared.Full.{Full}
 use Rattle.theory.proofs.Label.{contains_elim}
+use Rattle.theory.proofs.Lists.{clash}
 use Rattle.theory.proofs.Picks.{picks_selection}
 use Rattle.theory.proofs.Select.{Selection}
 use Rattle.theory.specs.Limits.{limits}
 use Rattle.theory.specs.Lists.{choose}
+use Rattle.theory.specs.Places.{padded}
 use Rattle.theory.specs.Sets.{contains}
 use Rattle.theory.specs.Stages.{Justification}
 use Rattle.theory.specs.Step.{picks}
+
+-- what stands after the first above the limit is not looked at
+pub built_first : (limit : ℕ) (l : List ℕ) → built_of limit (take (limit + 1) l) ≡ built_of limit l
+unfolding built_of placed_first
+built_first limit l = elim (dec_lt limit (length l)) [
+  | yes h ↦
+      ap (by_length (take (limit + 1) l)) (lt-ltb limit (length (take (limit + 1) l)) (omega (arith, length-take (limit + 1) l)))
+      ∙ ap (λ (m : List ℕ). Err (record { first = padded 0 limits.nogoods m })) (take-take limit (limit + 1) l (omega arith)) ∙ sym (ap (by_length l) (lt-ltb limit (length l) h))
+  | no h ↦ ap (built_of limit) (take_all (limit + 1) l (omega arith))
+]
+  where
+    by_length : List ℕ → Bool → Result Built Full
+    by_length m b = choose b (Err (placed_first limit m)) (Ok (placed_list m))
 
 module _ (limit : ℕ) (struck cands : List ℕ) where
   abbrev X : List ℕ
@@ -43,8 +60,8 @@ module _ (limit : ℕ) (struck cands : List ℕ) where
   prefix_well : (P : List ℕ) → Prefix P → Well (begin P)
   prefix_well P inv = well_begin struck cands X selected limit P inv.are
 
-  built : (l : List ℕ) → take (limit + 1) l ≡ take (limit + 1) X → (r : Built) → r ≡ built_of limit (take (limit + 1) l) → r ≡ built_of limit (picks (limit + 1) struck [] cands)
-  built l q r e = e ∙ ap (built_of limit) (q ∙ sym (picks_selection struck cands (limit + 1) X selected))
+  built : (l : List ℕ) → take (limit + 1) l ≡ take (limit + 1) X → built_of limit l ≡ built_of limit (picks (limit + 1) struck [] cands)
+  built l q = sym (built_first limit l) ∙ ap (built_of limit) (q ∙ sym (picks_selection struck cands (limit + 1) X selected))
 
   module _ (room : ℕ) (P : List ℕ) (inv : Prefix P) (f : Filled) (is : f ≡ pass room struck cands P) where
     abbrev end : Filled
@@ -54,16 +71,16 @@ module _ (limit : ℕ) (struck cands : List ℕ) where
     first_many = ap (λ (g : Filled). g.sets) is ∙ pass_prefix struck cands X selected room P inv.are ∙ ap (λ (g : Filled). take (length g.sets) X) (sym is)
 
     -- nothing went out
-    pass_done : f.bound ≡ none → (r : Built) → r ≡ built_of limit (take (limit + 1) f.sets) → r ≡ built_of limit (picks (limit + 1) struck [] cands)
-    pass_done h r e =
-        built f.sets (ap (take (limit + 1)) (ap (λ (g : Filled). g.sets) is ∙ pass_whole struck cands X selected room P inv.are (sym (ap (λ (g : Filled). g.bound) is) ∙ h))) r e
+    pass_done : f.bound ≡ None → built_of limit f.sets ≡ built_of limit (picks (limit + 1) struck [] cands)
+    pass_done h =
+        built f.sets (ap (take (limit + 1)) (ap (λ (g : Filled). g.sets) is ∙ pass_whole struck cands X selected room P inv.are (sym (ap (λ (g : Filled). g.bound) is) ∙ h)))
 
     -- more than the limit
-    pass_full : limit < length f.sets → (r : Built) → r ≡ built_of limit (take (limit + 1) f.sets) → r ≡ built_of limit (picks (limit + 1) struck [] cands)
-    pass_full h r e = built f.sets (ap (take (limit + 1)) first_many ∙ take-take (limit + 1) (length f.sets) X (omega arith)) r e
+    pass_full : limit < length f.sets → built_of limit f.sets ≡ built_of limit (picks (limit + 1) struck [] cands)
+    pass_full h = built f.sets (ap (take (limit + 1)) first_many ∙ take-take (limit + 1) (length f.sets) X (omega arith))
 
     -- else more of the list than before
-    pass_more : limit < room → (d : ℕ) → f.bound ≡ some d → length P < length f.sets
+    pass_more : limit < room → (d : ℕ) → f.bound ≡ Some d → length P < length f.sets
     pass_more fits d h =
         let k : length P < length end.sets = pass_grows struck cands X selected room P inv.are (omega (arith, inv.few)) d (sym (ap (λ (g : Filled). g.bound) is) ∙ h) in
         omega (arith, ap (λ (g : Filled). length g.sets) is)
@@ -75,76 +92,66 @@ module _ (limit : ℕ) (struck cands : List ℕ) where
 pass_parts : (room : ℕ) (struck old new P : List ℕ) (f g : Filled) → f ≡ offered_all room struck (begin P) old → g ≡ offered_all room struck f new → g ≡ pass room struck (old ++ new) P
 pass_parts room struck old new P f g p q = q ∙ ap (λ (x : Filled). offered_all room struck x new) p ∙ sym (offered_append room struck old new (begin P))
 
--- ---- in 33 places
-abbrev pub begun : ℕ → Fill
-begun count = record { count = count; out = false; bound = 0; why = 0 }
-
+-- ---- with room for one more than the nogoods' limit
 module _ (struck old new : List ℕ) (limit : ℕ) where
-  -- the first count of the list are found
-  pub record Rounding (pool : List ℕ) (count : ℕ) : Type 0 where
-    pub long : length pool ≡ limits.nogoods + 1
-    pub few : count ≤ limit
-    pub are : Prefix limit struck (old ++ new) (take count pool)
+  -- the sets of the pool are the first of the list
+  pub record Rounding (f : Filled) : Type 0 where
+    pub begun : f.bound ≡ None
+    pub are : Prefix limit struck (old ++ new) f.sets
 
-  pub rounding_none : Rounding (replicate (limits.nogoods + 1) 0) 0
-  rounding_none = record { long = refl; few = omega arith; are = prefix_none limit struck (old ++ new) }
+  pub rounding_none : (f : Filled) → f ≡ begin [] → Rounding f
+  rounding_none f e = record { begun = ap (λ (x : Filled). x.bound) e; are = subst (Prefix limit struck (old ++ new)) (sym (ap (λ (x : Filled). x.sets) e)) (prefix_none limit struck (old ++ new)) }
 
-  module _ (low : limit ≤ limits.nogoods) (pool : List ℕ) (count : ℕ) (inv : Rounding pool count) where
-    abbrev P : List ℕ
-    P = take count pool
-
-    begun_well : Well (begin P)
-    begun_well = prefix_well limit struck (old ++ new) P inv.are
-
-    pub rounding_roomy : Roomy pool (begun count)
-    rounding_roomy = record { few = omega (arith, inv.long); fits = omega (arith, inv.long, inv.few); well = begun_well }
+  module _ (low : limit ≤ limits.nogoods) (f : Filled) (inv : Rounding f) where
+    fresh : f ≡ begin f.sets
+    fresh = ap (λ (b : Option ℕ). with f.sets b) inv.begun
+      where
+        with : List ℕ → Option ℕ → Filled
+        with l b = record { sets = l; bound = b }
 
     -- the old list is offered
-    module _ (pool₁ : List ℕ) (seen : Fill) (same₁ : length pool₁ ≡ length pool) (a : Offered struck old pool (begun count) pool₁ seen) where
-      half : filled pool₁ seen ≡ offered_all (limits.nogoods + 1) struck (begin P) old
-      half = a.0 ∙ ap (λ (v : ℕ). offered_all v struck (begin P) old) inv.long
-
-      pub half_roomy : Roomy pool₁ seen
-      half_roomy = record { few = omega (arith, inv.long); fits = omega (arith, a.1); well = subst Well (sym half) (well_stays (limits.nogoods + 1) struck old (begin P) begun_well) }
+    module _ (seen : Filled) (a : Offered struck old f seen) where
+      half : seen ≡ offered_all (limits.nogoods + 1) struck (begin f.sets) old
+      half = a ∙ ap (λ (x : Filled). offered_all (limits.nogoods + 1) struck x old) fresh
 
       -- so what is not stirred is refused
-      pub half_hushed : (L : ℕ → List ℕ) (J : List Justification) (n : ℕ) (moved : List ℕ) → Still L J n old struck moved → Hushed L J n struck moved (filled pool₁ seen)
+      pub half_hushed : (L : ℕ → List ℕ) (J : List Justification) (n : ℕ) (moved : List ℕ) → Still L J n old struck moved → Hushed L J n struck moved seen
       half_hushed L J n moved s = record {
-        long = s.long;
         refused = λ r m e u H o. subst (λ (x : Filled). Refused struck x H) (sym half)
-            (⊎_elim (λ c. let i = contains_elim old H c in refused_more struck (offered_all (limits.nogoods + 1) struck (begin P) old) i.0 H i.2 (refused_all (limits.nogoods + 1) struck old (begin P) begun_well i.0 i.1))
-            (λ c. by_struck struck (offered_all (limits.nogoods + 1) struck (begin P) old) H c) (s.quiet r m e u H o));
+            (⊎_elim (λ c. let i = contains_elim old H c in refused_more struck (offered_all (limits.nogoods + 1) struck (begin f.sets) old) i.0 H i.2 (refused_all (limits.nogoods + 1) struck old (begin f.sets) (prefix_well limit struck (old ++ new) f.sets inv.are) i.0 i.1))
+            (λ c. by_struck struck (offered_all (limits.nogoods + 1) struck (begin f.sets) old) H c) (s.quiet r m e u H o));
       }
 
       -- .. and the joins
-      module _ (pool₂ : List ℕ) (all : Fill) (same₂ : length pool₂ ≡ length pool₁) (b : Offered struck new pool₁ seen pool₂ all) where
-        whole : filled pool₂ all ≡ pass (limits.nogoods + 1) struck (old ++ new) P
-        whole =
-            pass_parts (limits.nogoods + 1) struck old new P (filled pool₁ seen) (filled pool₂ all) half
-            (b.0 ∙ let e : length pool₁ ≡ limits.nogoods + 1 = same₁ ∙ inv.long in ap (λ (v : ℕ). offered_all v struck (filled pool₁ seen) new) e)
+      module _ (all : Filled) (b : Offered struck new seen all) where
+        whole : all ≡ pass (limits.nogoods + 1) struck (old ++ new) f.sets
+        whole = pass_parts (limits.nogoods + 1) struck old new f.sets seen all half b
 
-        size : length (take all.count pool₂) ≡ all.count
-        size = length-take-le all.count pool₂ (omega (arith, b.1))
+        -- more of the list than before, where one went out
+        pub rounding_more : is_some all.bound ≡ true → length f.sets < length all.sets
+        rounding_more h = go all.bound refl h
+          where
+            go : (b : Option ℕ) → all.bound ≡ b → is_some b ≡ true → length f.sets < length all.sets
+            go None e q = clash q refl
+            go (Some d) e q = pass_more limit struck (old ++ new) (limits.nogoods + 1) f.sets inv.are all whole (omega arith) d e
 
-        pub rounding_done : all.out ≡ false → (r : Built) → r ≡ built_of limit (take (limit + 1) (take all.count pool₂)) → r ≡ built_of limit (picks (limit + 1) struck [] (old ++ new))
-        rounding_done h r e =
-            pass_done limit struck (old ++ new) (limits.nogoods + 1) P inv.are (filled pool₂ all) whole (ap (λ (o : Bool). choose o (some all.bound) none) h) r e
+        -- the bound is taken away
+        module _ (next : Filled) (e : next ≡ begin all.sets) where
+          same : next.sets ≡ all.sets
+          same = ap (λ (x : Filled). x.sets) e
 
-        pub rounding_full : limit < all.count → (r : Built) → r ≡ built_of limit (take (limit + 1) (take all.count pool₂)) → r ≡ built_of limit (picks (limit + 1) struck [] (old ++ new))
-        rounding_full h r e = pass_full limit struck (old ++ new) (limits.nogoods + 1) P inv.are (filled pool₂ all) whole (omega (arith, size)) r e
+          pub rounding_done : is_some all.bound ≡ false → built_of limit next.sets ≡ built_of limit (picks (limit + 1) struck [] (old ++ new))
+          rounding_done h = ap (built_of limit) same ∙ pass_done limit struck (old ++ new) (limits.nogoods + 1) f.sets inv.are all whole (none all.bound h)
+            where
+              none : (b : Option ℕ) → is_some b ≡ false → b ≡ None
+              none None q = refl
+              none (Some d) q = clash refl q
 
-        pub rounding_more : all.out ≡ true → count < all.count
-        rounding_more h =
-            omega (
-              arith,
-              size,
-              length-take-le count pool (omega (arith, inv.long, inv.few)),
-              pass_more limit struck (old ++ new) (limits.nogoods + 1) P inv.are (filled pool₂ all) whole (omega arith) all.bound (ap (λ (o : Bool). choose o (some all.bound) none) h),
-            )
+          pub rounding_full : limit < length next.sets → built_of limit next.sets ≡ built_of limit (picks (limit + 1) struck [] (old ++ new))
+          rounding_full h = ap (built_of limit) same ∙ pass_full limit struck (old ++ new) (limits.nogoods + 1) f.sets inv.are all whole (omega (arith, ap length same))
 
-        pub rounding_on : all.count ≤ limit → Rounding pool₂ all.count
-        rounding_on h = record {
-          long = same₂ ∙ same₁ ∙ inv.long;
-          few = h;
-          are = pass_on limit struck (old ++ new) (limits.nogoods + 1) P inv.are (filled pool₂ all) whole (omega (arith, size));
-        }
+          pub rounding_on : length next.sets ≤ limit → Rounding next
+          rounding_on h = record {
+            begun = ap (λ (x : Filled). x.bound) e;
+            are = subst (Prefix limit struck (old ++ new)) (sym same) (pass_on limit struck (old ++ new) (limits.nogoods + 1) f.sets inv.are all whole (omega (arith, ap length same)));
+          }

@@ -6,28 +6,22 @@ ghost use Rattle.lent.specs.Lent.{Leaves, fitted};
 use replies::Reply;
 use store::Store;
 
-// The length of a text, or why there is none.
-#[derive(Clone, Copy)]
-pub enum Written {
-    Length(usize),
-    Refused(Reply),
-}
-
-// The answer, and the store that came in.
+// The length of a text or why there is none, and the store that came in: a refusal hands it back too (theorem `Refusals`).
 #[derive(Clone, Copy)]
 pub struct Listed {
-    pub answer: Written,
+    pub answer: Result<usize, Reply>,
     pub store: Store,
 }
 
 // The text into the lent bytes, where they are long enough.
-pub fn fit(text: &[u8], out: &mut [u8]) -> Written
+#[tactic(auto, using(crate::proofs::Fits::fitted_short))]
+pub fn fit(text: &[u8], out: &mut [u8]) -> Result<usize, Reply>
     ensures { Leaves (fitted text.now out.old) result out.new }
 {
     let length = text.len();
     if out.len() < length {
-        return Written::Refused(Reply::Short);
+        return Err(Reply::Short);
     }
-    text::copy(text, 0, out);
-    Written::Length(length)
+    out[..length].copy_from_slice(text);
+    Ok(length)
 }

@@ -1,39 +1,24 @@
 -- What a call leaves, test by test. Assumes nothing.
-use mathlib.Core.Bool.{false, true}
 use mathlib.Core.List.{List}
 use mathlib.Core.Path.{◌∙◌, ◌≡◌, ap}
 use Prim.Native.Nat.{ℕ}
 use borrow.Author.Tests.{le-ltb}
-use Rattle.lent.proofs.Fits.{hands}
 use Rattle.lent.specs.Lent.{Leaves, fitted, kept}
-use Rattle.lines.specs.Lines.{CaseLined, Lined, RefusalLined, case_text, heading_of, line_of, line_text, refusal_text}
-use Rattle.lent.specs.declared.Written.{Written}
-use Rattle.lent.specs.declared.Written.TheVariants.{Refused}
-use Rattle.replies.specs.Replies.{number_of}
+use Rattle.lines.specs.Lines.{line_of, line_text}
+use Rattle.std.proofs.Common.{Result, Err}
+use Rattle.replies.specs.Replies.{checked}
 use Rattle.replies.specs.declared.Reply.{Reply}
-use Rattle.replies.specs.declared.Reply.TheVariants.{Shape}
 use Rattle.store.proofs.Reading.{Readable, refused_number}
 use Rattle.store.specs.Reading.{refusal_of}
-use Rattle.store.specs.Shape.{right_shape, top}
+use Rattle.store.specs.Shape.{top}
 use Rattle.store.specs.declared.Store.{Store}
 
 module _ (s : Store) (out : List ℕ) where
   module _ (n : ℕ) where
-    pub line_refused : (r : Reply) → r ≡ refusal_of s n 0 → (number_of r ≡ 0 → ⊥) → Lined s n out (record { answer = Refused r; store = s }) out
+    pub line_refused : (r : Reply) → Err r ≡ checked (refusal_of s n 0) → Leaves (line_of s n out) (Err r) out
     unfolding line_of
-    line_refused r e d = hands s (refused_number s n r e d (λ x. kept x out) (fitted (line_text s n) out))
+    line_refused r e = refused_number s n r e (λ x. kept x out) (fitted (line_text s n) out)
 
-    pub line_rest : Readable s n 0 → {t : List ℕ} → t ≡ line_text s n → {r : Written} {after : List ℕ} → Leaves (fitted t out) r after → Lined s n out (record { answer = r; store = s }) after
+    pub line_rest : Readable s n 0 → {t : List ℕ} → t ≡ line_text s n → {r : Result ℕ Reply} {after : List ℕ} → Leaves (fitted t out) r after → Leaves (line_of s n out) r after
     unfolding line_of
-    line_rest k f l = hands s (l ∙ ap (λ (x : List ℕ). fitted x out) f ∙ rw (k.right, le-ltb (top s.held) n k.number))
-
-  pub case_shape : right_shape s ≡ false → CaseLined s out (record { answer = Refused Shape; store = s }) out
-  unfolding heading_of
-  case_shape e = hands s (rw e)
-
-  pub case_rest : right_shape s ≡ true → {t : List ℕ} → t ≡ case_text s → {r : Written} {after : List ℕ} → Leaves (fitted t out) r after → CaseLined s out (record { answer = r; store = s }) after
-  unfolding heading_of
-  case_rest e f l = hands s (l ∙ ap (λ (x : List ℕ). fitted x out) f ∙ rw e)
-
-pub refusal_rest : (reply : Reply) (k : ℕ) (out : List ℕ) {t : List ℕ} → t ≡ refusal_text reply k → {r : Written} {after : List ℕ} → Leaves (fitted t out) r after → RefusalLined reply k out r after
-refusal_rest reply k out f l = l ∙ ap (λ (x : List ℕ). fitted x out) f
+    line_rest k f l = l ∙ ap (λ (x : List ℕ). fitted x out) f ∙ rw (k.right, le-ltb (top s.held) n k.number)

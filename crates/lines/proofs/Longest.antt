@@ -8,7 +8,7 @@ use lib.Dec.{lit<}
 use lib.ListN.{drop, get_or, length, length-take}
 use borrow.Author.Tests.{le-ltb}
 use Rattle.lent.specs.Lent.{fitted}
-use Rattle.lent.specs.declared.Written.TheVariants.{Length}
+use Rattle.std.proofs.Common.{Ok}
 use Rattle.lines.specs.Lines.{case_text, heading_of, line_of, line_text, longest, refusal_text}
 use Rattle.replies.proofs.Laws.{two_digits}
 use Rattle.replies.specs.Replies.{number_of}
@@ -60,12 +60,12 @@ refused_length r k h = refusal_length (number_of r) k (two_digits r) h
 
 -- ---- where the lent bytes are as long as the longest line, nothing is refused with 15
 
-fits : (t out : List ℕ) → length t ≤ length out → (fitted t out).answer ≡ Length (length t)
+fits : (t out : List ℕ) → length t ≤ length out → (fitted t out).answer ≡ Ok (length t)
 unfolding fitted
 fits t out h = rw (le-ltb (length out) (length t) h)
 
 module _ (s : Store) (right : right_shape s ≡ true) (out : List ℕ) (room : longest ≤ length out) where
-  pub line_fits : length s.lists.nogoods ≤ limits.nogoods → (n : ℕ) → n ≤ top s.held → (line_of s n out).answer ≡ Length (length (line_text s n))
+  pub line_fits : length s.lists.nogoods ≤ limits.nogoods → (n : ℕ) → n ≤ top s.held → (line_of s n out).answer ≡ Ok (length (line_text s n))
   unfolding line_of line_text
   line_fits e n h =
       let b = bounded s right in
@@ -73,9 +73,9 @@ module _ (s : Store) (right : right_shape s ≡ true) (out : List ℕ) (room : l
       let k : length (line_text s n) ≤ longest = line_length s n (held_from_all s n) right e l in
       rw (right, le-ltb (top s.held) n h) (fits (line_text s n) out (omega arith))
 
-  pub case_fits : (heading_of s out).answer ≡ Length (length (case_text s))
+  pub case_fits : (heading_of s out).answer ≡ Ok (length (case_text s))
   unfolding heading_of
   case_fits = rw right (fits (case_text s) out (omega (arith, case_length s right)))
 
-pub refusal_fits : (r : Reply) (k : ℕ) (out : List ℕ) → k < 2 ^ 32 → longest ≤ length out → (fitted (refusal_text r k) out).answer ≡ Length (length (refusal_text r k))
+pub refusal_fits : (r : Reply) (k : ℕ) (out : List ℕ) → k < 2 ^ 32 → longest ≤ length out → (fitted (refusal_text r k) out).answer ≡ Ok (length (refusal_text r k))
 refusal_fits r k out h room = fits (refusal_text r k) out (omega (arith, refused_length r k h))

@@ -1,8 +1,7 @@
 -- The lines of the listing, as document 01 has them, and the calls that write them into lent bytes. Assumes nothing.
-use Rattle.std.specs.Prelude.{not, List, ◌*◌, ◌+◌, ℕ, ltb}
+use Rattle.std.specs.Prelude.{not, List, ◌*◌, ◌+◌, ℕ, ltb, Result}
 use Rattle.lent.specs.Lent.{Hands, Leaves, Wrote, fitted, kept}
 use Rattle.lent.specs.declared.Listed.{Listed}
-use Rattle.lent.specs.declared.Written.{Written}
 use Rattle.replies.specs.Replies.{number_of}
 use Rattle.replies.specs.declared.Reply.{Reply}
 use Rattle.replies.specs.declared.Reply.TheVariants.{Number, Shape}
@@ -56,5 +55,5 @@ abbrev pub CaseLined : Store → List ℕ → Listed → List ℕ → Type 0
 CaseLined s out r after = Hands s (heading_of s out) r after
 
 -- what the call of a refusal's line promises: 15 alone can be refused
-abbrev pub RefusalLined : Reply → ℕ → List ℕ → Written → List ℕ → Type 0
+abbrev pub RefusalLined : Reply → ℕ → List ℕ → Result ℕ Reply → List ℕ → Type 0
 RefusalLined reply k out r after = Leaves (fitted (refusal_text reply k) out) r after

@@ -10,10 +10,9 @@ fn main(rt: HostRuntime) {
     let mut bytes = [0u8; FILE + 1];
     let got = printing::read_full(&mut input, &mut bytes);
     if got < bytes.len() && !printing::at_end(&mut input) {
-        printing::complain(console, b"list: the input could not be read to its end\n");
-        return;
+        return console.complain(b"list: the input could not be read to its end\n");
     }
     let mut text = [0u8; listing::LONGEST];
     let answer = listing::printed(&bytes[..got], &mut text);
-    printing::written(console, answer, &text);
+    console.written(answer, &text);
 }

@@ -16,7 +16,7 @@ use Rattle.items.proofs.Taken.{Each, Limited, header_limited}
 use Rattle.items.specs.Items.{Header, Item, header_from, record_from}
 use Rattle.lines.proofs.Longest.{refused_length}
 use Rattle.lent.specs.Lent.{fitted}
-use Rattle.lent.specs.declared.Written.TheVariants.{Length}
+use Rattle.std.proofs.Common.{Ok}
 use Rattle.listing.proofs.Laws.{text_done, text_long, text_refused}
 use Rattle.listing.proofs.Longest.{listing_length}
 use Rattle.listing.proofs.Loaded.{loaded_right}
@@ -95,13 +95,13 @@ printed_length l = elim (dec_lt file_bytes (length l)) [
 
 -- ---- so nothing is refused with 15 there
 
-fits : (t out : List ℕ) → length t ≤ length out → (fitted t out).answer ≡ Length (length t)
+fits : (t out : List ℕ) → length t ≤ length out → (fitted t out).answer ≡ Ok (length t)
 unfolding fitted
 fits t out h = rw (le-ltb (length out) (length t) h)
 
-pub printed_fits : (l out : List ℕ) → longest_listing ≤ length out → (fitted (listing_of l) out).answer ≡ Length (length (listing_of l))
+pub printed_fits : (l out : List ℕ) → longest_listing ≤ length out → (fitted (listing_of l) out).answer ≡ Ok (length (listing_of l))
 printed_fits l out h = fits (listing_of l) out (omega (arith, printed_length l))
 
-pub listing_fits : (s : Store) (out : List ℕ) → right_shape s ≡ true → length s.lists.nogoods ≤ limits.nogoods → longest_listing ≤ length out → (listed_of s out).answer ≡ Length (length (listing_text s))
+pub listing_fits : (s : Store) (out : List ℕ) → right_shape s ≡ true → length s.lists.nogoods ≤ limits.nogoods → longest_listing ≤ length out → (listed_of s out).answer ≡ Ok (length (listing_text s))
 unfolding listed_of
 listing_fits s out right room h = rw right (fits (listing_text s) out (omega (arith, listing_length s right room)))

@@ -1,53 +1,22 @@
 -- What the calls of the listing leave, test by test. Assumes nothing.
-use mathlib.Core.Bool.{Bool, false, true}
+use mathlib.Core.Bool.{true}
 use mathlib.Core.List.{List}
 use mathlib.Core.Path.{◌∙◌, ◌≡◌, ap, sym}
 use Prim.Native.Nat.{◌<◌, ◌≤◌, ℕ}
-use native.Mathlib.Omega.{arith}
-use lib.Dec.{leb}
 use lib.ListN.{length}
-use borrow.Author.Tests.{eq-eqb, le-ltb, leb-false, leb-true, lt-ltb, ne_eqb}
+use borrow.Author.Tests.{eq-eqb, le-ltb, lt-ltb, ne_eqb}
 use Rattle.casefile.specs.Load.{load_of}
 use Rattle.casefile.specs.declared.Loaded.{Loaded}
-use Rattle.lent.proofs.Fits.{fitted_long, fitted_short}
-use Rattle.lent.specs.Lent.{Hands, Leaves, Wrote, fitted}
+use Rattle.lent.specs.Lent.{Leaves, fitted}
 use Rattle.lines.specs.Lines.{refusal_text}
-use Rattle.lent.specs.declared.Written.{Written}
-use Rattle.lent.specs.declared.Written.TheVariants.{Length, Refused}
+use Rattle.std.proofs.Common.{Result}
 use Rattle.listing.proofs.Loaded.{loaded_right}
-use Rattle.listing.specs.Listing.{ListsAll, Prints, listed_of, listing_of, listing_text, loaded_text}
+use Rattle.listing.specs.Listing.{Prints, listing_of, listing_text, loaded_text}
 use Rattle.replies.specs.Replies.{number_of}
-use Rattle.replies.specs.declared.Reply.TheVariants.{Long, Shape, Short}
+use Rattle.replies.specs.declared.Reply.TheVariants.{Long}
 use Rattle.store.specs.Shape.{right_shape}
-use Rattle.store.specs.declared.Store.{Store}
-use Rattle.text.proofs.Writing.{front_kept}
-use Rattle.text.specs.Writing.{Put, Room}
 use Rattle.theory.specs.Limits.{file_bytes}
-
--- ---- the listing of a store
-
-module _ (s : Store) (out : List ℕ) where
-  pub listed_short : (r : Bool) → r ≡ leb (length (listing_text s)) (length out) → r ≡ false → Leaves (fitted (listing_text s) out) (Refused Short) out
-  listed_short r e f = fitted_short (listing_text s) out (leb-false (length (listing_text s)) (length out) (sym e ∙ f))
-
-  pub listed_room : (r : Bool) → r ≡ leb (length (listing_text s)) (length out) → r ≡ true → Room (listing_text s) 0 out
-  listed_room r e f = omega (arith, leb-true (length (listing_text s)) (length out) (sym e ∙ f))
-
-  pub listed_long : {after : List ℕ} {n : ℕ} → Room (listing_text s) 0 out → Put (listing_text s) 0 out after n → Leaves (fitted (listing_text s) out) (Length n) after
-  listed_long {after} {n} h p =
-      let k : n ≡ length (listing_text s) = omega (arith, p.next) in
-      ap (λ (i : ℕ). record { answer = Length i; bytes = after }) k ∙ fitted_long (listing_text s) out (omega arith) (front_kept p)
-
-  hands : {w : Wrote} {r : Written} {after : List ℕ} → Leaves w r after → Hands s w (record { answer = r; store = s }) after
-  hands e = (ap (λ (v : Wrote). record { answer = v.answer; store = s }) e, ap (λ (v : Wrote). v.bytes) e)
-
-  pub listing_shape : right_shape s ≡ false → ListsAll s out (record { answer = Refused Shape; store = s }) out
-  unfolding listed_of
-  listing_shape e = hands (rw e)
-
-  pub listing_rest : right_shape s ≡ true → {r : Written} {after : List ℕ} → Leaves (fitted (listing_text s) out) r after → ListsAll s out (record { answer = r; store = s }) after
-  unfolding listed_of
-  listing_rest e l = hands (l ∙ rw e)
+use Rattle.replies.specs.declared.Reply.{Reply}
 
 -- ---- the listing of a file
 
@@ -66,18 +35,18 @@ module _ (l : List ℕ) where
     text_done z = rw (le-ltb file_bytes (length l) few, eq-eqb (number_of (load_of l).reply) 0 z)
 
 module _ (l out : List ℕ) where
-  pub print_long : file_bytes < length l → {r : Written} {after : List ℕ} → Leaves (fitted (refusal_text Long 0) out) r after → Prints l out r after
+  pub print_long : file_bytes < length l → {r : Result ℕ Reply} {after : List ℕ} → Leaves (fitted (refusal_text Long 0) out) r after → Prints l out r after
   print_long h e = e ∙ ap (λ (t : List ℕ). fitted t out) (text_long l h)
 
   module _ (few : length l ≤ file_bytes) (loaded : Loaded) (same : loaded ≡ load_of l) where
     number_same : number_of loaded.reply ≡ number_of (load_of l).reply
     number_same = ap (λ (r : Loaded). number_of r.reply) same
 
-    pub print_refused : (number_of loaded.reply ≡ 0 → ⊥) → {r : Written} {after : List ℕ} → Leaves (fitted (refusal_text loaded.reply loaded.«record») out) r after → Prints l out r after
+    pub print_refused : (number_of loaded.reply ≡ 0 → ⊥) → {r : Result ℕ Reply} {after : List ℕ} → Leaves (fitted (refusal_text loaded.reply loaded.«record») out) r after → Prints l out r after
     print_refused z e = e ∙ ap (λ (x : Loaded). fitted (refusal_text x.reply x.«record») out) same ∙ ap (λ (t : List ℕ). fitted t out) (text_refused l few (λ q. z (number_same ∙ q)))
 
     pub print_right : number_of loaded.reply ≡ 0 → right_shape loaded.store ≡ true
     print_right z = ap (λ (x : Loaded). right_shape x.store) same ∙ (loaded_right l (sym number_same ∙ z)).right
 
-    pub print_done : number_of loaded.reply ≡ 0 → {r : Written} {after : List ℕ} → Leaves (fitted (listing_text loaded.store) out) r after → Prints l out r after
+    pub print_done : number_of loaded.reply ≡ 0 → {r : Result ℕ Reply} {after : List ℕ} → Leaves (fitted (listing_text loaded.store) out) r after → Prints l out r after
     print_done z e = e ∙ ap (λ (x : Loaded). fitted (listing_text x.store) out) same ∙ ap (λ (t : List ℕ). fitted t out) (text_done l few (sym number_same ∙ z))

@@ -1,87 +1,73 @@
--- The first member within a set: what a search place by place finds, and that it answers every test on the list. Assumes nothing.
-use mathlib.Core.Bool.{Bool, ◌||◌, false, true}
-use mathlib.Core.List.Memᴰ.{head as here}
-use mathlib.Core.List.Memᴰ.{tail as there}
-use mathlib.Core.List.{List, Memᴰ as Mem, [], ◌∷◌}
-use mathlib.Core.Path.{◌∙◌, ◌≡◌, ap, ap₂, refl, sym}
-use Prim.Native.Nat.{◌+◌, ◌-◌, ◌<◌, ◌^◌, ◌≤◌, suc, zero, ℕ}
+-- The first member within a set: it is of the list and lies within the set, and where there is none no member does. Assumes nothing.
+use Rattle.std.specs.Prelude.{Bool, Option, false, true, List, [], ◌∷◌, ◌≡◌, cond, ◌<◌, suc, zero, ℕ, Some, None, is_some, get_or, length, refl}
+use Rattle.std.proofs.Common.{◌-◌, ◌^◌, eqb, ap, ap₂, ◌∙◌, arith, subst}
+use Rattle.std.proofs.Common.{◌+◌, sym}
+use Rattle.std.proofs.lemmas.Iterator.Adapters.{position_from-zero}
+use Rattle.std.proofs.lemmas.List.Folds.{find_at}
+use Rattle.std.proofs.lemmas.List.Quantifiers.{position-Some}
+use Rattle.std.proofs.lemmas.List.Sums.{position_or_len_is}
+use Rattle.std.proofs.lemmas.Option.{slice_get-get_or}
+use Rattle.std.specs.List.{find, position, position_from, slice_get}
 use native.Mathlib.Nat.{mod-eq_of_lt}
-use native.Mathlib.Numerals.{add-one}
-use native.Mathlib.Omega.{arith}
 use lib.Bits.{and_comm, and_le_l, and_mask, or_add_and}
-use lib.Dec.{ltb}
-use lib.ListN.{drop, drop_of_length-le, get_or, length}
-use lib.Seq.{drop-cons}
-use borrow.Author.Tests.{le-ltb, lt-ltb, ltb-true}
-use Rattle.members.specs.Promised.{first_within}
+use borrow.Author.Tests.{eq-eqb, eqb-true}
 use Rattle.sets.proofs.Operations.{and_not}
 use Rattle.sets.specs.Promised.{meet}
-use Rattle.theory.proofs.Lists.{not_so, same_test}
+use Rattle.theory.proofs.Lists.{same_test}
 use Rattle.theory.proofs.Sets.{or_within, within_or}
-use Rattle.theory.specs.Lists.{choose, some_of}
+use mathlib.Core.List.{Memᴰ as Mem}
+use mathlib.Core.List.Memᴰ.{head as here}
+use mathlib.Core.List.Memᴰ.{tail as there}
+use Rattle.members.specs.Promised.{first_within}
+use Rattle.theory.specs.Lists.{some_of}
 use Rattle.theory.specs.Sets.{contains, within, without}
 
-pub first_most : (l : List ℕ) (E : ℕ) → first_within l E ≤ length l
-unfolding first_within
-first_most [] E = omega arith
-first_most (F ∷ l) E = go (within F E) (first_most l E)
-  where
-    go : (b : Bool) → first_within l E ≤ length l → choose b 0 (suc (first_within l E)) ≤ suc (length l)
-    go true h = omega arith
-    go false h = omega arith
+-- E contains a set of the list exactly when one is found
+pub contains_first : (l : List ℕ) (E : ℕ) → contains l E ≡ is_some (first_within l E)
+unfolding contains some_of
+contains_first [] E = refl
+contains_first (F ∷ l) E = let rest = contains_first l E in grind arith
 
--- E contains a set of the list exactly when the first is found before the list's end
-pub contains_first : (l : List ℕ) (E : ℕ) → contains l E ≡ ltb (first_within l E) (length l)
-unfolding contains some_of first_within
-contains_first [] E = sym (le-ltb 0 0 (omega arith))
-contains_first (F ∷ l) E = go (within F E) (contains_first l E)
+-- what is found is of the list and lies within E
+pub found_is : (l : List ℕ) (E F : ℕ) → first_within l E ≡ Some F → Mem F l × (within F E ≡ true)
+found_is [] E F e = cc
+found_is (G ∷ l) E F e = go (within G E) refl e (found_is l E F)
   where
-    go : (b : Bool) → contains l E ≡ ltb (first_within l E) (length l) → b || contains l E ≡ ltb (choose b 0 (suc (first_within l E))) (suc (length l))
-    go true e = sym (lt-ltb 0 (suc (length l)) (omega arith))
-    go false e = e ∙ same_test (λ t. lt-ltb (suc (first_within l E)) (suc (length l)) (omega (arith, ltb-true (first_within l E) (length l) t)))
-        (λ t. lt-ltb (first_within l E) (length l) (omega (arith, ltb-true (suc (first_within l E)) (suc (length l)) t)))
+    go : (b : Bool) → within G E ≡ b → cond b (Some G) (first_within l E) ≡ Some F → (first_within l E ≡ Some F → Mem F l × (within F E ≡ true)) → Mem F (G ∷ l) × (within F E ≡ true)
+    go true w e h = let q : G ≡ F = cc in (subst (λ (x : ℕ). Mem x (G ∷ l)) q (here refl), subst (λ (x : ℕ). within x E ≡ true) q w)
+    go false w e h = (there (h e).0, (h e).1)
 
--- ---- the test of one place: nothing of a is among what e has not
-module _ (w a e : ℕ) (p : a < 2 ^ w) (q : e < 2 ^ w) where
-  out_is : meet a (without (2 ^ w - 1) e) ≡ a - meet a e
+-- ---- the test of a member: nothing of it is among what E has not
+module _ (E : ℕ) (q : E < 2 ^ 32) where
+  out_is : (a : ℕ) → a < 2 ^ 32 → meet a (without (2 ^ 32 - 1) E) ≡ a - meet a E
   unfolding without
-  out_is =
-      ap (λ (x : ℕ). meet a ((2 ^ w - 1) - x)) (and_comm (2 ^ w - 1) e ∙ and_mask e w ∙ mod-eq_of_lt q) ∙ and_not w a e p q
+  out_is a p = ap (λ (x : ℕ). meet a ((2 ^ 32 - 1) - x)) (and_comm (2 ^ 32 - 1) E ∙ and_mask E 32 ∙ mod-eq_of_lt q) ∙ and_not 32 a E p q
 
-  pub none_out : meet a (without (2 ^ w - 1) e) ≡ 0 → true ≡ within a e
-  none_out z = sym (or_within a e (omega (arith, out_is, z, or_add_and a e, and_le_l a e)))
+  test_is : (a : ℕ) → a < 2 ^ 32 → eqb (meet a (without (2 ^ 32 - 1) E)) 0 ≡ within a E
+  test_is a p =
+      same_test (λ t. let z : meet a (without (2 ^ 32 - 1) E) ≡ 0 = eqb-true (meet a (without (2 ^ 32 - 1) E)) 0 t in or_within a E (omega (arith, out_is a p, or_add_and a E, and_le_l a E)))
+      (λ t. eq-eqb (meet a (without (2 ^ 32 - 1) E)) 0 (omega (arith, out_is a p, within_or a E t, or_add_and a E, and_le_l a E)))
 
-  pub some_out : (meet a (without (2 ^ w - 1) e) ≡ 0 → ⊥) → false ≡ within a e
-  some_out z = sym (not_so (within a e) (λ t. z (omega (arith, out_is, within_or a e t, or_add_and a e, and_le_l a e))))
+  pub found_by : (l : List ℕ) → ((i : ℕ) → get_or l i 0 < 2 ^ 32) → find (λ a. eqb (meet a (without (2 ^ 32 - 1) E)) 0) l ≡ first_within l E
+  found_by [] h = refl
+  found_by (x ∷ l) h = ap₂ (λ (b : Bool) (r : Option ℕ). cond b (Some x) r) (test_is x (h 0)) (found_by l (λ i. h (suc i)))
 
--- ---- the search, place by place
-module _ (l : List ℕ) (E i : ℕ) (inv : first_within l E ≡ i + first_within (drop i l) E) where
-  at_place : i < length l → (b : Bool) → within (get_or l i 0) E ≡ b → first_within (drop i l) E ≡ choose b 0 (suc (first_within (drop (i + 1) l) E))
-  unfolding first_within
-  at_place h b e =
-      ap (λ (m : List ℕ). first_within m E) (drop-cons l i 0 h)
-      ∙ ap₂ (λ (c : Bool) (j : ℕ). choose c 0 (suc (first_within (drop j l) E))) e (sym (add-one i))
+-- ---- the first that passes, by its place
+pub placed_find : (p : ℕ → Bool) (l : List ℕ) (i : ℕ) → position p l ≡ Some i → find p l ≡ Some (get_or l i 0)
+placed_find p l i e =
+    let h = position-Some p l i 0 e in
+    find_at p l ∙ ap (slice_get l) (position_or_len_is p l i 0 (omega (arith, h.0)) h.2 (λ q. h.1)) ∙ slice_get-get_or l i 0 h.0
 
-  pub first_here : i < length l → (r : Bool) → r ≡ within (get_or l i 0) E → r ≡ true → i ≡ first_within l E
-  first_here h r p q = omega (arith, at_place h true (sym p ∙ q))
-
-  pub first_on : i < length l → (r : Bool) → r ≡ within (get_or l i 0) E → r ≡ false → first_within l E ≡ i + 1 + first_within (drop (i + 1) l) E
-  first_on h r p q = omega (arith, at_place h false (sym p ∙ q))
-
-  pub first_none : i ≤ length l → length l ≤ i → length l ≡ first_within l E
-  unfolding first_within
-  first_none h k = let e : first_within (drop i l) E ≡ 0 = ap (λ (m : List ℕ). first_within m E) (drop_of_length-le l {i = i} k) in omega arith
-
--- the first member within E lies within E
-pub first_at : (l : List ℕ) (E : ℕ) → first_within l E < length l → within (get_or l (first_within l E) 0) E ≡ true
-unfolding first_within
-first_at [] E h = absurd (omega arith)
-first_at (F ∷ l) E h = go (within F E) refl h (first_at l E)
+none_from : (p : ℕ → Bool) (n : ℕ) (l : List ℕ) → position_from p n l ≡ None → find p l ≡ None
+none_from p n [] e = refl
+none_from p n (x ∷ l) e = go (p x) e (none_from p (n + 1) l)
   where
-    go : (b : Bool) → within F E ≡ b → choose b 0 (suc (first_within l E)) < suc (length l) → (first_within l E < length l → within (get_or l (first_within l E) 0) E ≡ true)
-        → within (get_or (F ∷ l) (choose b 0 (suc (first_within l E))) 0) E ≡ true
-    go true e k ih = e
-    go false e k ih = ih (omega arith)
+    go : (b : Bool) → cond b (Some n) (position_from p (n + 1) l) ≡ None → (position_from p (n + 1) l ≡ None → find p l ≡ None) → cond b (Some x) (find p l) ≡ None
+    go true q h = cc
+    go false q h = h q
+
+pub placed_none : (p : ℕ → Bool) (l : List ℕ) → position p l ≡ None → find p l ≡ None
+placed_none p l e = none_from p 0 l (sym (position_from-zero p l) ∙ e)
 
 -- ---- by place
 pub at_mem : (l : List ℕ) (i : ℕ) → i < length l → Mem (get_or l i 0) l

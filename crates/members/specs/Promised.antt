@@ -1,13 +1,12 @@
 -- What the search for a member promises. Assumes nothing.
-use Rattle.std.specs.Prelude.{List, [], ◌∷◌, ◌≡◌, suc, ℕ}
-use Rattle.theory.specs.Lists.{choose}
+use Rattle.std.specs.Prelude.{List, ◌≡◌, ℕ, Option}
+use Rattle.std.specs.List.{find}
 use Rattle.theory.specs.Sets.{within}
 
--- the place of the first member that lies within E, or the count of members
-unfoldable pub first_within : List ℕ → ℕ → ℕ
-first_within [] E = 0
-first_within (F ∷ l) E = let later : ℕ = suc (first_within l E) in choose (within F E) 0 later
+-- the first member of the list that lies within E
+abbrev pub first_within : List ℕ → ℕ → Option ℕ
+first_within l E = find (λ F. within F E) l
 
--- r is that place
-abbrev pub FirstWithin : List ℕ → ℕ → ℕ → Type 0
+-- r is that member
+abbrev pub FirstWithin : List ℕ → ℕ → Option ℕ → Type 0
 FirstWithin l E r = r ≡ first_within l E

@@ -1,6 +1,6 @@
 -- A number at a place of the bytes, case by case, and what it says of the bytes from that place on. Assumes nothing.
 use mathlib.Core.Bool.{Bool, ◌&&◌, true, false}
-use mathlib.Core.List.{List}
+use mathlib.Core.List.{List, [], ◌∷◌}
 use mathlib.Core.Logic.{⊎_elim}
 use mathlib.Core.Path.{◌∙◌, ◌≡◌, ap, ap₂, refl, subst, sym}
 use Prim.Native.Nat.{ℕ, ◌+◌, ◌*◌, ◌-◌, ◌<◌, ◌≤◌, suc}
@@ -8,12 +8,12 @@ use native.Mathlib.Numerals.{add-one}
 use native.Mathlib.Omega.{arith}
 use lib.Dec.{eqb, leb, ltb}
 use lib.ListN.{drop, drop_of_length-le, get_or, length, length-drop}
-use lib.Seq.{drop-cons}
-use borrow.Author.Tests.{lt-ltb, le-ltb, le-leb, lt-leb, ltb-true, ltb-false}
-use Rattle.numbers.specs.Numbers.{Taken, got, bad, and_then, second_from, number_from, placed, number_at, pair_of, past_of}
-use Rattle.numbers.specs.declared.Number.TheVariants.{Value, Bad}
-use Rattle.numbers.specs.declared.Number.{Number}
-use Rattle.numbers.specs.declared.Pair.{Pair}
+use lib.Seq.{drop-cons, drop-drop}
+use borrow.Author.Tests.{lt-ltb, le-ltb, ltb-true, ltb-false}
+use Rattle.numbers.specs.Numbers.{Taken, got, bad, and_then, second_from, number_from, two_from, placed, number_at}
+use Rattle.numbers.specs.declared.Reader.{Reader}
+use Rattle.numbers.specs.Reader.{Takes, after, left, outcome}
+use Rattle.std.specs.Prelude.{Ok, Err}
 use Rattle.replies.specs.Replies.{number_of}
 use Rattle.replies.specs.declared.Reply.TheVariants.{Ends, Form}
 use Rattle.replies.specs.declared.Reply.{Reply}
@@ -21,60 +21,34 @@ use Rattle.theory.proofs.Lists.{either}
 use Rattle.theory.specs.Lists.{choose}
 
 module _ (l : List ℕ) (at : ℕ) where
-  -- the first byte and the one after it
-  abbrev b : ℕ
-  b = get_or l at 0
-
-  abbrev c : ℕ
-  c = get_or l (at + 1) 0
-
-  first : at < length l → number_from (drop at l) ≡ choose (ltb b 128) (got b (drop (at + 1) l)) (second_from b (drop (at + 1) l))
+  -- b is the first byte, c the one after it
+  first : (b : ℕ) → at < length l → b ≡ get_or l at 0 → number_from (drop at l) ≡ choose (ltb b 128) (got b (drop (at + 1) l)) (second_from b (drop (at + 1) l))
   unfolding number_from
-  first h = ap number_from (drop-cons l at 0 h) ∙ rw add-one
+  first b h e = ap number_from (drop-cons l at 0 h) ∙ rw (add-one, ← e)
 
-  second : at + 1 < length l → second_from b (drop (at + 1) l) ≡ choose (leb 1 c && ltb c 128) (got (b - 128 + 128 * c) (drop (at + 2) l)) (bad Form)
+  second : (b c : ℕ) → at + 1 < length l → c ≡ get_or l (at + 1) 0 → second_from b (drop (at + 1) l) ≡ choose (leb 1 c && ltb c 128) (got (b - 128 + 128 * c) (drop (at + 2) l)) (bad Form)
   unfolding second_from
-  second h = let e : suc (at + 1) ≡ at + 2 = omega arith in ap (second_from b) (drop-cons l (at + 1) 0 h) ∙ rw e
+  second b c h q = let e : suc (at + 1) ≡ at + 2 = omega arith in ap (second_from b) (drop-cons l (at + 1) 0 h) ∙ rw (e, ← q)
 
-  -- n, and the bytes from the place k on
-  value : (n k : ℕ) → k ≤ length l → number_from (drop at l) ≡ got n (drop k l) → Value n k ≡ number_at l at
-  unfolding number_at
-  value n k h e = let d : length l - length (drop k l) ≡ k = omega (arith, length-drop k l) in sym (ap (placed l) e ∙ ap (Value n) d)
+-- what a second byte makes, whatever bytes come after it
+module _ (b c : ℕ) where
+  made : (t : Bool) (v n : ℕ) (rest : List ℕ) → Ok n ≡ outcome (choose t (got v []) (bad Form)) → choose t (got v rest) (bad Form) ≡ got n rest
+  made true v n rest p = let e : v ≡ n = cc in rw e
+  made false v n rest p = absurd cc
 
-  fault : (r : Reply) → number_from (drop at l) ≡ bad r → Bad r ≡ number_at l at
-  unfolding number_at
-  fault r e = sym (ap (placed l) e)
+  unmade : (t : Bool) (v : ℕ) (f : Reply) (rest : List ℕ) → Err f ≡ outcome (choose t (got v []) (bad Form)) → choose t (got v rest) (bad Form) ≡ bad f
+  unmade true v f rest p = absurd cc
+  unmade false v f rest p = let e : Form ≡ f = cc in rw e
 
-  pub no_first : length l ≤ at → Bad Ends ≡ number_at l at
-  unfolding number_from
-  no_first h = fault Ends (ap number_from (drop_of_length-le l {i = at} h))
+  second_made : (n : ℕ) (rest : List ℕ) → Ok n ≡ outcome (second_from b (c ∷ [])) → second_from b (c ∷ rest) ≡ got n rest
+  unfolding second_from
+  second_made n rest p = made (leb 1 c && ltb c 128) (b - 128 + 128 * c) n rest p
 
-  module _ (h : at < length l) where
-    pub one_byte : b < 128 → Value b (at + 1) ≡ number_at l at
-    one_byte s = value b (at + 1) (omega arith) (rw (first h, lt-ltb b 128 s))
+  second_refused : (f : Reply) (rest : List ℕ) → Err f ≡ outcome (second_from b (c ∷ [])) → second_from b (c ∷ rest) ≡ bad f
+  unfolding second_from
+  second_refused f rest p = unmade (leb 1 c && ltb c 128) (b - 128 + 128 * c) f rest p
 
-    module _ (s : 128 ≤ b) where
-      on : number_from (drop at l) ≡ second_from b (drop (at + 1) l)
-      on = rw (first h, le-ltb b 128 s)
-
-      pub no_second : length l ≤ at + 1 → Bad Ends ≡ number_at l at
-      unfolding second_from
-      no_second e = fault Ends (on ∙ ap (second_from b) (drop_of_length-le l {i = at + 1} e))
-
-      module _ (k : at + 1 < length l) where
-        pub zero_second : c < 1 → Bad Form ≡ number_at l at
-        zero_second e = fault Form (on ∙ rw (second k, lt-leb 1 c e))
-
-        pub high_second : 1 ≤ c → 128 ≤ c → Bad Form ≡ number_at l at
-        high_second e g = fault Form (on ∙ rw (second k, le-leb 1 c e, le-ltb c 128 g))
-
-        pub two_bytes : 1 ≤ c → c < 128 → Value (b - 128 + 128 * c) (at + 2) ≡ number_at l at
-        two_bytes e g = value (b - 128 + 128 * c) (at + 2) (omega arith) (on ∙ rw (second k, le-leb 1 c e, lt-ltb c 128 g))
-
--- each case of a number at a place
-pub ruleset cases = (no_first, one_byte, no_second, zero_second, high_second, two_bytes)
-
--- ---- what a number at a place says of the bytes from there on
+-- ---- what is taken lies in the bytes
 
 -- the bytes from a place on stand at that place
 pub place_of : (l : List ℕ) (k : ℕ) → k ≤ length l → length l - length (drop k l) ≡ k
@@ -111,50 +85,157 @@ module _ (l : List ℕ) (at : ℕ) where
       ⊎_elim
       (λ t.
       let h : at < length l = ltb-true at (length l) t in
-      subst (Onward l) (sym (first l at h))
+      subst (Onward l) (sym (first l at _ h refl))
       (chosen (Onward l) (ltb (get_or l at 0) 128)
       (at + 1, (omega arith), refl)
       (⊎_elim
       (λ s.
       let k : at + 1 < length l = ltb-true (at + 1) (length l) s in
-      subst (Onward l) (sym (second l at k)) (chosen (Onward l) (leb 1 (get_or l (at + 1) 0) && ltb (get_or l (at + 1) 0) 128) (at + 2, (omega arith), refl) refl))
+      subst (Onward l) (sym (second l at _ _ k refl)) (chosen (Onward l) (leb 1 (get_or l (at + 1) 0) && ltb (get_or l (at + 1) 0) 128) (at + 2, (omega arith), refl) refl))
       (λ s. subst (λ (r : List ℕ). Onward l (second_from (get_or l at 0) r)) (sym (drop_of_length-le l {i = at + 1} (ltb-false (at + 1) (length l) s))) refl)
       (either (ltb (at + 1) (length l))))))
       (λ t. subst (λ (r : List ℕ). Onward l (number_from r)) (sym (drop_of_length-le l {i = at} (ltb-false at (length l) t))) refl)
       (either (ltb at (length l)))
 
-  from_value : (t : Taken ℕ) → Onward l t → (n next : ℕ) → placed l t ≡ Value n next → (t ≡ got n (drop next l)) × (next ≤ length l)
-  unfolding Onward
-  from_value (got x rest) (k, h, e) n next q =
-      let p : length l - length rest ≡ next = cc in
-      let v : x ≡ n = cc in
-      let w : k ≡ next = sym (place_of l k h) ∙ (ap (λ (r : List ℕ). length l - length r) (sym e) ∙ p) in
-      (ap₂ got v (e ∙ ap (λ (j : ℕ). drop j l) w), (rw w at h))
-  from_value (bad f) o n next q = let z : ◌≡◌ {A = ℕ} 0 1 = cc in absurd (omega arith)
+-- ---- what a reader takes
 
-  from_bad : (t : Taken ℕ) (f : Reply) → placed l t ≡ Bad f → t ≡ bad f
-  from_bad (got x rest) f q = let z : ◌≡◌ {A = ℕ} 0 1 = cc in absurd (omega arith)
-  from_bad (bad g) f q = let e : g ≡ f = cc in ap bad e
+-- s is the reader r some bytes on
+pub record Past (r s : Reader) : Type 0 where
+  pub bytes : s.bytes ≡ r.bytes
+  pub on : r.at ≤ s.at
+  pub left_so : s.at + length (left s) ≡ r.at + length (left r)
 
-  pub value_from_lem : (n next : ℕ) → number_at l at ≡ Value n next → (number_from (drop at l) ≡ got n (drop next l)) × (next ≤ length l)
-  unfolding number_at
-  value_from_lem n next q = from_value (number_from (drop at l)) onward n next q
+pub past_none : (r : Reader) → Past r r
+past_none r = record { bytes = refl; on = omega arith; left_so = refl }
 
-  pub bad_from : (f : Reply) → number_at l at ≡ Bad f → number_from (drop at l) ≡ bad f
-  unfolding number_at
-  bad_from f q = from_bad (number_from (drop at l)) f q
+pub past_more : (r s t : Reader) → Past r s → Past s t → Past r t
+past_more r s t p q = record { bytes = q.bytes ∙ p.bytes; on = omega (arith, p.on, q.on); left_so = q.left_so ∙ p.left_so }
+
+-- r takes x of what t says, and then is s
+pub record Took {X : Type 0} (t : List ℕ → Taken X) (r s : Reader) (x : X) : Type 0 where
+  pub taken : t (left r) ≡ got x (left s)
+  pub past : Past r s
+
+-- the reader some places on
+there : (r s : Reader) (n : ℕ) → s.bytes ≡ r.bytes → s.at ≡ n → s ≡ record r { at = n }
+there r s n b e = rw (← b, ← e)
+
+took_from : {X : Type 0} (r : Reader) (u : Taken X) → Onward (left r) u → (s : Reader) (x : X) → Ok x ≡ outcome u → s ≡ after r u → (u ≡ got x (left s)) × Past r s
+unfolding Onward
+took_from r (got y rest) (k, h, e) s x p q =
+    let a : s.at ≡ r.at + (length (left r) - length rest) = ap (λ (x : Reader). x.at) q in
+    let b : s.bytes ≡ r.bytes = ap (λ (x : Reader). x.bytes) q in
+    let d : length rest ≡ length (left r) - k = ap length e ∙ length-drop k (left r) in
+    let n : s.at ≡ r.at + k = omega arith in
+    let w : left s ≡ rest = ap₂ (λ (i : ℕ) (y : Reader). drop i y.bytes.now) n q ∙ (sym (drop-drop k r.at r.bytes.now) ∙ sym e) in
+    let v : y ≡ x = cc in
+    (ap₂ got v (sym w), record { bytes = b; on = omega arith; left_so = omega (arith, ap length w) })
+took_from r (bad f) o s x p q = absurd cc
+
+faulted_from : {X : Type 0} (u : Taken X) (f : Reply) → Err f ≡ outcome u → u ≡ bad f
+faulted_from (got x rest) f p = absurd cc
+faulted_from (bad g) f p = let e : g ≡ f = cc in ap bad e
+
+module _ {X : Type 0} (t : List ℕ → Taken X) (r : Reader) where
+  pub takes : (s : Reader) (x : X) → Took t r s x → Takes t r s (Ok x)
+  takes s x p =
+      let a : s.at ≡ r.at + (length (left r) - length (left s)) = omega (arith, p.past.left_so, p.past.on) in
+      record { answered = sym (ap outcome p.taken); stands = there r s _ p.past.bytes a ∙ sym (ap (after r) p.taken) }
+
+  pub fault : (f : Reply) → t (left r) ≡ bad f → Takes t r r (Err f)
+  fault f e = record { answered = sym (ap outcome e); stands = sym (ap (after r) e) }
+
+  pub took : Onward (left r) (t (left r)) → (s : Reader) (x : X) → Takes t r s (Ok x) → Took t r s x
+  took o s x p = let w = took_from r (t (left r)) o s x p.answered p.stands in record { taken = w.0; past = w.1 }
+
+  pub faulted : (s : Reader) (f : Reply) → Takes t r s (Err f) → t (left r) ≡ bad f
+  faulted s f p = faulted_from (t (left r)) f p.answered
+
+-- ---- a number
+
+module _ (r : Reader) where
+  abbrev l : List ℕ
+  l = r.bytes.now
+
+  abbrev at : ℕ
+  at = r.at
+
+  -- k bytes on
+  value : (n k : ℕ) → at + k ≤ length l → number_from (drop at l) ≡ got n (drop (at + k) l) → Takes number_from r (record r { at = at + k }) (Ok n)
+  value n k h e = takes number_from r (record r { at = at + k }) n (record { taken = e; past = record { bytes = refl; on = omega arith; left_so = omega (arith, length-drop at l, length-drop (at + k) l) } })
+
+  pub no_first : length l ≤ at → Takes number_from r r (Err Ends)
+  unfolding number_from
+  no_first h = fault number_from r Ends (ap number_from (drop_of_length-le l {i = at} h))
+
+  module _ (b : ℕ) (h : at < length l) (e : b ≡ get_or l at 0) where
+    pub one_byte : b < 128 → Takes number_from r (record r { at = at + 1 }) (Ok b)
+    one_byte s = value b 1 (omega arith) (rw (first l at b h e, lt-ltb b 128 s))
+
+    module _ (s : 128 ≤ b) where
+      on : number_from (drop at l) ≡ second_from b (drop (at + 1) l)
+      on = rw (first l at b h e, le-ltb b 128 s)
+
+      pub no_second : length l ≤ at + 1 → Takes number_from r r (Err Ends)
+      unfolding second_from
+      no_second k = fault number_from r Ends (on ∙ ap (second_from b) (drop_of_length-le l {i = at + 1} k))
+
+      module _ (c : ℕ) (k : at + 1 < length l) (q : c ≡ get_or l (at + 1) 0) where
+        step : second_from b (drop (at + 1) l) ≡ second_from b (c ∷ drop (at + 2) l)
+        step = let e : suc (at + 1) ≡ at + 2 = omega arith in ap (second_from b) (drop-cons l (at + 1) 0 k) ∙ rw (e, ← q)
+
+        pub refused_second : (f : Reply) → Err f ≡ outcome (second_from b (c ∷ [])) → Takes number_from r r (Err f)
+        refused_second f p = fault number_from r f (on ∙ step ∙ second_refused b c f (drop (at + 2) l) p)
+
+        pub two_bytes : (n : ℕ) → Ok n ≡ outcome (second_from b (c ∷ [])) → Takes number_from r (record r { at = at + 2 }) (Ok n)
+        two_bytes n p = value n 2 (omega arith) (on ∙ step ∙ second_made b c n (drop (at + 2) l) p)
+
+  pub number_took : (s : Reader) (n : ℕ) → Takes number_from r s (Ok n) → Took number_from r s n
+  number_took s n p = took number_from r (onward (left r) 0) s n p
 
 -- ---- two numbers
 
-abbrev made : Number → Number → Pair
-made m n = record { first = m; second = n }
+two_onward : (l : List ℕ) → Onward l (two_from l)
+two_onward l = onward_then l (number_from l) _ (onward l 0) (λ m p h. onward_then l (number_from (drop p l)) _ (onward l p) (λ n q k. onward_got l (m, n) q k))
 
-module _ (l : List ℕ) (at : ℕ) (r : Pair) (e : r ≡ pair_of l at) where
-  pub pair_first : {n : Number} → r.first ≡ n → number_at l at ≡ n
-  pair_first h = sym (ap (λ (p : Pair). p.first) e) ∙ h
+pub two_took : (r s : Reader) (m n : ℕ) → Takes two_from r s (Ok (m, n)) → Took two_from r s (m, n)
+two_took r s m n p = took two_from r (two_onward (left r)) s (m, n) p
 
-  pub pair_second : {n : Number} (x p : ℕ) → r.first ≡ Value x p → r.second ≡ n → number_at l p ≡ n
-  pair_second x p h k = ap (λ (m : Number). number_at l (past_of m at)) (sym (pair_first h)) ∙ (sym (ap (λ (q : Pair). q.second) e) ∙ k)
+module _ (r s : Reader) (m : ℕ) (p : Took number_from r s m) where
+  pub two_taken : (t : Reader) (n : ℕ) → Took number_from s t n → Took two_from r t (m, n)
+  two_taken t n q = record { taken = rw (p.taken, q.taken); past = past_more r s t p.past q.past }
 
-pub pair_made : (l : List ℕ) (at : ℕ) (m n : Number) (p : ℕ) → m ≡ number_at l at → p ≡ past_of m at → n ≡ number_at l p → made m n ≡ pair_of l at
-pair_made l at m n p h k e = ap₂ made h (e ∙ (ap (number_at l) k ∙ ap (λ (x : Number). number_at l (past_of x at)) h))
+  pub two_faulted : (f : Reply) → number_from (left s) ≡ bad f → two_from (left r) ≡ bad f
+  two_faulted f q = rw (p.taken, q)
+
+-- what comes after two numbers comes after one and another
+module _ {X : Type 0} (f : ℕ → ℕ → List ℕ → Taken X) where
+  second_then : (m : ℕ) (t : Taken ℕ) → and_then {X = ℕ × ℕ} (and_then t (λ n rest. got (m, n) rest)) (λ p rest. f p.0 p.1 rest) ≡ and_then t (f m)
+  second_then m (got n rest) = refl
+  second_then m (bad g) = refl
+
+  first_then : (t : Taken ℕ) → and_then {X = ℕ × ℕ} (and_then t (λ m rest. and_then (number_from rest) (λ n rest₁. got (m, n) rest₁))) (λ p rest. f p.0 p.1 rest) ≡ and_then t (λ m rest. and_then (number_from rest) (f m))
+  first_then (got m rest) = second_then m (number_from rest)
+  first_then (bad g) = refl
+
+  pub two_then : (l : List ℕ) → and_then (two_from l) (λ p l₁. f p.0 p.1 l₁) ≡ and_then (number_from l) (λ m l₁. and_then (number_from l₁) (f m))
+  two_then l = first_then (number_from l)
+
+-- ---- the number at a place
+
+before_end : (l : List ℕ) (at n : ℕ) (rest : List ℕ) → number_from (drop at l) ≡ got n rest → at < length l
+unfolding number_from
+before_end l at n rest e =
+    ⊎_elim (λ t. ltb-true at (length l) t) (λ t. let z : bad Ends ≡ got n rest = sym (ap number_from (drop_of_length-le l {i = at} (ltb-false at (length l) t))) ∙ e in absurd cc) (either (ltb at (length l)))
+
+module _ (r : Reader) where
+  pub value_at : (s : Reader) (n : ℕ) → Took number_from r s n → Ok (record { value = n; next = s.at }) ≡ number_at r.bytes.now r.at
+  unfolding number_at
+  value_at s n p =
+      let b : r.at < length r.bytes.now = before_end r.bytes.now r.at n (left s) p.taken in
+      let d : length r.bytes.now - length (left s) ≡ s.at = omega (arith, p.past.left_so, length-drop r.at r.bytes.now) in
+      sym (ap (placed r.bytes.now) p.taken ∙ ap (λ (k : ℕ). Ok (record { value = n; next = k })) d)
+
+  pub fault_at : (s : Reader) (f : Reply) → Takes number_from r s (Err f) → Err f ≡ number_at r.bytes.now r.at
+  unfolding number_at
+  fault_at s f p = sym (ap (placed r.bytes.now) (faulted number_from r s f p))

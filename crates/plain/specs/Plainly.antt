@@ -1,10 +1,9 @@
 -- Question and context without labels: read from what follows from the set, stage by stage. Assumes nothing.
-use Rattle.std.specs.Prelude.{◌||◌, not, List, ◌++◌, ◌≡◌, ◌+◌, ℕ, ltb, drop, get_or, length, replicate}
+use Rattle.std.specs.Prelude.{◌||◌, not, List, ◌++◌, ◌≡◌, ◌+◌, ℕ, ltb, drop, get_or, length, Result, Ok, Err}
 use Rattle.asking.specs.Asking.{context_reply, left}
 use Rattle.following.specs.First.{since_of}
-use Rattle.plain.specs.declared.Followed.{Followed}
 use Rattle.plain.specs.declared.Plain.{Plain}
-use Rattle.plain.specs.declared.Plain.TheVariants.{Inconsistent, Refused, Supported, Unsupported}
+use Rattle.plain.specs.declared.Plain.TheVariants.{Inconsistent, Supported, Unsupported}
 use Rattle.plain.specs.declared.Told.{Told}
 use Rattle.replies.specs.Replies.{number_of}
 use Rattle.replies.specs.declared.Reply.{Reply}
@@ -31,20 +30,20 @@ unfoldable pub read_from : List ℕ → ℕ → Plain
 read_from m n = choose (ltb (get_or m 0 255) 255) Inconsistent (choose (ltb (get_or m n 255) 255) Supported Unsupported)
 
 -- the word for n; 4 where n is above N
-abbrev pub word_in : List ℕ → ℕ → ℕ → Plain
-word_in m N n = choose (ltb N n) (Refused Number) (read_from m n)
+abbrev pub word_in : List ℕ → ℕ → ℕ → Result Plain Reply
+word_in m N n = choose (ltb N n) (Err Number) (Ok (read_from m n))
 
--- for each number the first stage at which it follows from E; or the refusal of a call that reads n and E, and no marks
-unfoldable pub followed_of : Store → ℕ → ℕ → Followed
-followed_of s n E = record { reply = refusal_of s n E; marks = choose (is_done (refusal_of s n E)) (table (limits.numbers + 1) (since_of (said_by s.held) E)) (replicate (limits.numbers + 1) 255) }
+-- for each number the first stage at which it follows from E; or the refusal of a call that reads n and E
+unfoldable pub followed_of : Store → ℕ → ℕ → Result (List ℕ) Reply
+followed_of s n E = choose (is_done (refusal_of s n E)) (Ok (table (limits.numbers + 1) (since_of (said_by s.held) E))) (Err (refusal_of s n E))
 
 -- ---- question
 
-unfoldable pub plain_of : Store → ℕ → ℕ → Plain
+unfoldable pub plain_of : Store → ℕ → ℕ → Result Plain Reply
 plain_of s n E =
-    choose (not (right_shape s)) (Refused Shape)
-    (choose (ltb (top s.held) n || not (in_range s.held.assumptions E)) (Refused Number)
-    (plain_by (said_by s.held) E n))
+    choose (not (right_shape s)) (Err Shape)
+    (choose (ltb (top s.held) n || not (in_range s.held.assumptions E)) (Err Number)
+    (Ok (plain_by (said_by s.held) E n)))
 
 -- the store in the answer is the one that came in
 abbrev pub Questioned : Store → ℕ → ℕ → Told → Type 0
@@ -57,7 +56,6 @@ abbrev pub byte_of : Plain → ℕ
 byte_of Inconsistent = 2
 byte_of Supported = 1
 byte_of Unsupported = 0
-byte_of (Refused r) = 0
 
 -- the bytes of 0 to N, read from marks: 15 where there are fewer, and then all are kept; else those after them are kept
 abbrev pub fill_reply : ℕ → ℕ → Reply
@@ -78,8 +76,6 @@ abbrev pub Contexted : Store → ℕ → List ℕ → Outcome → List ℕ → T
 Contexted s E out r after = left r after ≡ left (answer (context_reply s E (length out)) s) (plain_after s E out)
 
 -- the document's number of an answer
-abbrev pub plain_number : Plain → ℕ
-plain_number Inconsistent = 0
-plain_number Supported = 0
-plain_number Unsupported = 0
-plain_number (Refused r) = number_of r
+abbrev pub plain_number : Result Plain Reply → ℕ
+plain_number (Ok a) = 0
+plain_number (Err r) = number_of r

@@ -1,17 +1,17 @@
 // The plain path: question and context without labels, from what follows from the set, stage by stage.
 #![tactic(auto)]
 
-ghost use Rattle.std.specs.Prelude.{◌≡◌, ◌≤◌, length};
-ghost use Rattle.theory.specs.Limits.{limits};
-ghost use Rattle.theory.specs.Lists.{choose};
-ghost use Rattle.theory.specs.Sets.{among};
+ghost use Rattle.std.specs.Prelude.{◌≡◌, length};
 ghost use Rattle.following.specs.Marks.{sown};
-ghost use Rattle.plain.specs.Plainly.{Contexted, Questioned, byte_of, fill_bytes, fill_reply, followed_of, read_from, word_in};
+ghost use Rattle.replies.specs.Replies.{checked};
+ghost use Rattle.plain.specs.Plainly.{Contexted, Questioned, byte_of, fill_bytes, fill_reply, followed_of, plain_after, plain_of, read_from, word_in};
+ghost use Rattle.theory.specs.Places.{table};
+ghost use Rattle.asking.specs.Asking.{context_reply};
 
 use replies::Reply;
 use sets::{Set, WIDTH};
 use store::{Outcome, Store};
-use theory::{MARKS, NUMBERS};
+use theory::MARKS;
 
 // What a set is to a number.
 #[derive(Clone, Copy)]
@@ -19,31 +19,26 @@ pub enum Plain {
     Inconsistent,
     Supported,
     Unsupported,
-    Refused(Reply),
 }
 
+// The byte of a context.
+impl From<Plain> for u8 {
+    ghost from_gives = { λ word byte. byte ≡ byte_of word };
+
+    fn from(word: Plain) -> u8 {
+        match word {
+            Plain::Inconsistent => 2,
+            Plain::Supported => 1,
+            Plain::Unsupported => 0,
+        }
+    }
+}
+
+// What a question answers, and the store that came in, as in `asking`: a refusal hands it back too (theorem `Refusals`).
 #[derive(Clone, Copy)]
 pub struct Told {
-    pub answer: Plain,
+    pub answer: Result<Plain, Reply>,
     pub store: Store,
-}
-
-// The reply to a call that reads, and for each number the first stage at which it follows.
-#[derive(Clone, Copy)]
-pub struct Followed {
-    pub reply: Reply,
-    pub marks: [u8; MARKS],
-}
-
-// The mark of assumption k at stage 0.
-fn first(e: Set, k: u8) -> u8
-    requires { (1 ≤ k) × (k ≤ limits.assumptions) }
-    ensures { result ≡ choose (among e k) 0 255 }
-{
-    if sets::has(e, k) {
-        return 0;
-    }
-    255
 }
 
 // The marks of stage 0: those of the assumptions in e.
@@ -51,116 +46,107 @@ pub fn sown(e: Set) -> [u8; MARKS]
     ensures { result ≡ sown e }
 {
     let mut marks = [255u8; MARKS];
-    let mut k = 1u8;
-    while k <= WIDTH {
-        let at = k as usize;
-        marks[at] = first(e, k);
-        k += 1;
+    for k in 1..=WIDTH {
+        if sets::has(e, k) {
+            marks[k as usize] = 0;
+        }
     }
     marks
 }
 
 // For each number the first stage at which it follows from e, 255 where it never does; or why a call that reads n and e is refused.
-pub fn follow(store: Store, n: u32, e: Set) -> Followed
+// Never is no None: since_of and marks_of, of which theorems speak, have 255 for it.
+#[tactic(auto, using(crate::proofs::Laws::of_follow))]
+pub fn follow(store: Store, n: u32, e: Set) -> Result<[u8; MARKS], Reply>
     ensures { result ≡ followed_of store n e }
 {
-    let reply = store.refusal(n, e);
-    if replies::number(reply) != 0 {
-        let marks = [255u8; MARKS];
-        return Followed { reply, marks };
-    }
-    let start = sown(e);
-    let marks = following::stages(store.held, start);
-    Followed { reply, marks }
+    store.refusal(n, e)?;
+    Ok(following::stages(store.held, sown(e)))
 }
 
 // What the marks say of n; no number above 128 has one.
+#[tactic(auto, unfolding(crate::specs::Plainly::read_from))]
 fn read(marks: [u8; MARKS], n: usize) -> Plain
     ensures { result ≡ read_from marks n }
 {
     if marks[0] < 255 {
         return Plain::Inconsistent;
     }
-    if NUMBERS < n {
-        return Plain::Unsupported;
+    match marks.get(n) {
+        Some(mark) if *mark < 255 => Plain::Supported,
+        _ => Plain::Unsupported,
     }
-    if marks[n] < 255 {
-        return Plain::Supported;
-    }
-    Plain::Unsupported
 }
 
 // The word for n; 4 where n is above the highest number.
-pub fn word(marks: [u8; MARKS], top: u8, n: u32) -> Plain
+pub fn word(marks: [u8; MARKS], top: u8, n: u32) -> Result<Plain, Reply>
     ensures { result ≡ word_in marks top n }
 {
     let highest = top as u32;
     if highest < n {
-        return Plain::Refused(Reply::Number);
+        return Err(Reply::Number);
     }
-    read(marks, n as usize)
+    Ok(read(marks, n as usize))
+}
+
+// What e is to n, or why that is not told.
+#[tactic(auto, using(crate::proofs::Laws::question_says))]
+fn said(store: Store, n: u32, e: Set) -> Result<Plain, Reply>
+    ensures { result ≡ plain_of store n e }
+{
+    let marks = follow(store, n, e)?;
+    Ok(read(marks, n as usize))
 }
 
 // Whether e is inconsistent, supports n, or neither.
 pub fn question(store: Store, n: u32, e: Set) -> Told
     ensures { Questioned store n e result }
 {
-    let followed = follow(store, n, e);
-    let reply = followed.reply;
-    if replies::number(reply) != 0 {
-        return Told {
-            answer: Plain::Refused(reply),
-            store,
-        };
-    }
-    let marks = followed.marks;
-    let answer = read(marks, n as usize);
+    let answer = said(store, n, e);
     Told { answer, store }
 }
 
-// The byte of n.
-fn byte(marks: [u8; MARKS], n: usize) -> u8
-    ensures { result ≡ byte_of (read_from marks n) }
+// The bytes of the first numbers, as many as are lent.
+fn bytes(marks: [u8; MARKS], out: &mut [u8])
+    ensures { out.new ≡ table (length out.old) (λ n. byte_of (read_from marks n)) }
 {
-    let told = read(marks, n);
-    match told {
-        Plain::Inconsistent => 2,
-        Plain::Supported => 1,
-        Plain::Unsupported => 0,
-        Plain::Refused(_) => 0,
+    for (n, byte) in out.iter_mut().enumerate() {
+        *byte = u8::from(read(marks, n));
     }
 }
 
 // The bytes of the numbers up to top; 15 where there are too few.
-pub fn fill(marks: [u8; MARKS], top: u8, out: &mut [u8]) -> Reply
-    ensures { (result ≡ fill_reply top (length out.old)) × (out.new ≡ fill_bytes marks top out.old) }
+#[tactic(auto, using(crate::proofs::Laws::of_fill))]
+pub fn fill(marks: [u8; MARKS], top: u8, out: &mut [u8]) -> Result<(), Reply>
+    ensures reply { result ≡ checked (fill_reply top (length out.old)) }
+    ensures bytes { out.new ≡ fill_bytes marks top out.old }
 {
     let end = top as usize + 1;
     if out.len() < end {
-        return Reply::Short;
+        return Err(Reply::Short);
     }
-    let mut i = 0;
-    while i < end {
-        out[i] = byte(marks, i);
-        i += 1;
-    }
-    Reply::Done
+    bytes(marks, &mut out[..end]);
+    Ok(())
+}
+
+// The bytes of all numbers, where there is room for them.
+#[tactic(auto, using(crate::proofs::Laws::of_context))]
+fn write(store: Store, e: Set, out: &mut [u8]) -> Result<(), Reply>
+    ensures reply { result ≡ checked (context_reply store e (length out.old)) }
+    ensures bytes { out.new ≡ plain_after store e out.old }
+{
+    let marks = follow(store, 0, e)?;
+    fill(marks, store.held.assumptions + store.held.claims, out)
 }
 
 // What e is to every number, a byte each.
+#[tactic(auto, using(asking::proofs::Laws::of_reply))]
 pub fn context(store: Store, e: Set, out: &mut [u8]) -> Outcome
     ensures { Contexted store e out.old result out.new }
 {
-    let followed = follow(store, 0, e);
-    let refusal = followed.reply;
-    if replies::number(refusal) != 0 {
-        return Outcome {
-            reply: refusal,
-            store,
-        };
-    }
-    let held = store.held;
-    let marks = followed.marks;
-    let reply = fill(marks, held.assumptions + held.claims, out);
+    let reply = match write(store, e, out) {
+        Ok(()) => Reply::Done,
+        Err(reply) => reply,
+    };
     Outcome { reply, store }
 }

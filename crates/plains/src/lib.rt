@@ -5,98 +5,49 @@ ghost use Rattle.std.specs.Prelude.{◌≤◌, length};
 ghost use Rattle.stagetext.specs.Stagetext.{longest};
 
 use plain::Plain;
-use printing::{Console, say};
-use script::Read;
+use printing::Console;
+use replies::Reply;
+use sets::Set;
 use store::Store;
-use telling::{MOST, bad, filled, refused, sound, told};
+use telling::{Fault, asked, filled, told};
 use theory::MARKS;
 
-// Whether the word is a call of the plain path on the store.
-pub fn of_store(word: &[u8]) -> bool {
-    if script::same(word, b"plain") {
-        return true;
-    }
-    if script::same(word, b"plaincontext") {
-        return true;
-    }
-    script::same(word, b"stages")
-}
-
-// A bare word, or the refusal.
+// A bare word.
 pub fn word(console: Console, answer: Plain) {
     match answer {
-        Plain::Inconsistent => say(console, b"inconsistent\n"),
-        Plain::Supported => say(console, b"supported\n"),
-        Plain::Unsupported => say(console, b"unsupported\n"),
-        Plain::Refused(reply) => refused(console, reply),
+        Plain::Inconsistent => console.say(b"inconsistent\n"),
+        Plain::Supported => console.say(b"supported\n"),
+        Plain::Unsupported => console.say(b"unsupported\n"),
     }
 }
 
 // plain N K..
-fn ask(console: Console, n: u32, set: &[u32], store: Store) {
-    let out = plain::question(store, n, script::set_of(set));
-    let answer = out.answer;
-    word(console, answer);
+pub fn ask(console: Console, store: &Store, n: u32, set: &[u32]) -> Result<(), Fault> {
+    word(console, plain::question(*store, n, asked(set)?).answer?);
+    Ok(())
 }
 
-// plaincontext K..
-fn context(console: Console, set: &[u32], store: Store) {
-    let mut values = [0u8; MARKS];
-    let out = plain::context(store, script::set_of(set), &mut values);
-    let reply = out.reply;
-    let held = store.held;
-    filled(
-        console,
-        reply,
-        values,
-        held.assumptions as usize + held.claims as usize + 1,
-    );
+// plaincontext K..; as in `reads`, by the other call: one function over the call would ask in a clause that it may be made, and be no shorter.
+pub fn context(console: Console, store: &Store, set: &[u32]) -> Result<(), Fault> {
+    let mut bytes = [0u8; MARKS];
+    let reply = plain::context(*store, asked(set)?, &mut bytes).reply;
+    let Reply::Done = reply else {
+        return Err(Fault::Refused(reply));
+    };
+    let held = &store.held;
+    filled(console, &bytes, held.assumptions.into(), held.claims.into())
 }
 
 // The lines, on bytes that are enough for any.
-fn lines(console: Console, set: &[u32], store: Store, text: &mut [u8])
+fn lines(console: Console, store: &Store, set: Set, text: &mut [u8]) -> Result<(), Fault>
     requires { longest ≤ length text.old }
 {
-    let out = stagetext::lines(store, script::set_of(set), text);
-    let answer = out.answer;
-    told(console, answer, text);
+    let out = stagetext::lines(*store, set, text);
+    told(console, out.answer, text)
 }
 
 // stages K..
-fn stages(console: Console, set: &[u32], store: Store) {
+pub fn stages(console: Console, store: &Store, set: &[u32]) -> Result<(), Fault> {
     let mut text = [0u8; stagetext::LONGEST];
-    lines(console, set, store, &mut text);
-}
-
-// plaincontext K.., stages K..
-fn of_set(console: Console, name: &[u8], set: &[u32], number: u32, store: Store) {
-    if !sound(console, set, number) {
-        return;
-    }
-    if script::same(name, b"stages") {
-        return stages(console, set, store);
-    }
-    context(console, set, store);
-}
-
-// The calls on the store.
-pub fn read(console: Console, name: &[u8], rest: &[u8], number: u32, store: Store) {
-    let mut fields = [0u32; MOST];
-    let read = script::numbers(rest, 0, &mut fields);
-    let Read::Count(n) = read else {
-        bad(console, number);
-        return;
-    };
-    if MOST < n {
-        return bad(console, number);
-    }
-    if !script::same(name, b"plain") {
-        return of_set(console, name, &fields[..n], number, store);
-    }
-    if n < 1 {
-        return bad(console, number);
-    }
-    if sound(console, &fields[1..n], number) {
-        ask(console, fields[0], &fields[1..n], store);
-    }
+    lines(console, store, asked(set)?, &mut text)
 }

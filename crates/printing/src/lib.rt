@@ -3,15 +3,17 @@
 
 ghost use Rattle.std.specs.Prelude.{◌≤◌, length};
 
-use lent::Written;
 use replies::Reply;
+use std::fmt::Display;
+use std::io;
 use std::io::{IsTerminal, Print, Read, Stderr, Stdin, Stdout};
+use text::Writer;
 
 // Where a program writes: its output, and what failed.
 #[derive(Clone, Copy)]
 pub struct Console {
-    pub output: Stdout,
-    pub complaints: Stderr,
+    output: Stdout,
+    complaints: Stderr,
 }
 
 impl Console {
@@ -22,14 +24,55 @@ impl Console {
             complaints: rt.stderr(),
         }
     }
-}
 
-// What a failure says of itself, where the output may be what failed.
-pub fn complain(console: Console, text: &[u8]) {
-    let _ = console.complaints.write_all(text);
+    // What a failure says of itself, where the output may be what failed.
+    pub fn complain(self, text: &[u8]) {
+        let _ = self.complaints.write_all(text);
+    }
+
+    // What could not be written is told on standard error.
+    fn told(self, outcome: io::Result<()>) {
+        if outcome.is_err() {
+            self.complain(b"the output could not be written\n");
+        }
+    }
+
+    // Bytes as they are.
+    pub fn say(self, text: &[u8]) {
+        self.told(self.output.write_all(text));
+    }
+
+    // A text, for `print!`.
+    pub fn print<D: Display + Drop>(self, text: D) {
+        self.told(self.output.print(text));
+    }
+
+    // A text and a newline, for `println!`.
+    pub fn println<D: Display + Drop>(self, text: D) {
+        self.told(self.output.println(text));
+    }
+
+    // The text that a call wrote; where it wrote none, that is told on standard error.
+    pub fn written(self, answer: Result<usize, Reply>, text: &[u8]) {
+        if let Ok(n) = answer
+            && let Some(text) = text.get(..n)
+        {
+            return self.say(text);
+        }
+        self.complain(b"there is no room for the text\n");
+    }
+
+    // A set as the listing prints it.
+    pub fn set(self, e: u32) {
+        let mut text = [0u8; 88];
+        let mut writer = Writer::new(&mut text);
+        writer.braces(e);
+        self.say(writer.text());
+    }
 }
 
 // Reads until the bytes are full, the input ends or a read fails, and returns how many bytes it put at their start.
+// A loop over `read`: the library's reading to the end says no count where a read fails.
 pub fn read_full(input: &mut Stdin, bytes: &mut [u8]) -> usize
     ensures { result ≤ length bytes.new }
 {
@@ -51,41 +94,4 @@ pub fn at_end(input: &mut Stdin) -> bool {
     }
     let mut one = [0u8; 1];
     matches!(input.read(&mut one), Ok(0))
-}
-
-// A text; what could not be written is told on standard error.
-pub fn say(console: Console, text: &[u8]) {
-    if console.output.write_all(text).is_err() {
-        complain(console, b"the output could not be written\n");
-    }
-}
-
-// A number in decimal digits.
-pub fn decimal(console: Console, n: u32) {
-    let _ = console.output.print(n);
-}
-
-// The text that a call wrote; where it wrote none, that is told on standard error.
-pub fn written(console: Console, answer: Written, text: &[u8]) {
-    if let Written::Length(n) = answer {
-        if n <= text.len() {
-            say(console, &text[..n]);
-            return;
-        }
-    }
-    complain(console, b"there is no room for the text\n");
-}
-
-// The line of a refusal and of the record being read.
-pub fn refused(console: Console, reply: Reply, record: u32) {
-    let mut text = [0u8; lines::LONGEST];
-    let answer = lines::refusal(reply, record, &mut text);
-    written(console, answer, &text);
-}
-
-// A set as the listing prints it.
-pub fn set(console: Console, e: u32) {
-    let mut text = [0u8; 88];
-    let end = text::braces(e, 0, &mut text);
-    say(console, &text[..end]);
 }

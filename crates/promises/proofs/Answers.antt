@@ -1,10 +1,11 @@
 -- The answers of question, context, member and the lines on a made store, over what was put in. Assumes nothing.
+use Rattle.replies.specs.declared.Reply.{Reply}
+use Rattle.std.specs.Prelude.{Option, Some, None, Result, Ok, Err}
 use mathlib.Core.Bool.{Bool, ◌&&◌, false, not, true}
 use mathlib.Core.List.Memᴰ.{head as here}
 use mathlib.Core.List.Memᴰ.{tail as there}
 use mathlib.Core.List.{List, Memᴰ as Mem, [], ◌++◌, ◌∷◌}
 use mathlib.Core.Logic.{◌↔◌, ⊎_elim}
-use mathlib.Core.Option.{Option, none, some}
 use mathlib.Core.Path.{◌∙◌, ◌≡◌, ap, ap₂, refl, subst, sym}
 use Prim.Native.Nat.{◌+◌, ◌<◌, ◌^◌, ◌≤◌, suc, zero, ℕ}
 use native.Mathlib.Nat.{le_of_suc-le-suc}
@@ -14,7 +15,7 @@ use lib.ListN.{drop, length}
 use borrow.Author.Tests.{ne_eqb}
 use Rattle.asking.specs.Asking.{byte_of, first_in, member_at, member_of, question_of, reasoned, standing}
 use Rattle.asking.specs.declared.Answer.{Answer}
-use Rattle.asking.specs.declared.Answer.TheVariants.{Inconsistent, Refused, Supported, Unsupported}
+use Rattle.asking.specs.declared.Answer.TheVariants.{Inconsistent, Supported, Unsupported}
 use Rattle.lines.specs.Lines.{case_text, line_text}
 use Rattle.wording.specs.Wording.{line_with, word_of}
 use Rattle.promises.proofs.Form.{Form, form_a, form_count, form_m}
@@ -53,27 +54,26 @@ each_same f g (x ∷ l) h = ap₂ (λ (a b : List ℕ). a ++ b) (h x (here refl)
 
 module _ (A : ℕ) (H : List Justification) (n E : ℕ) where
   -- c telling whether the line would say `contradicted`
-  pub byte_says : (c : Bool) (a : Answer) → QuestionSays A H n E a → byte_of c a ≡ choose (contradicts H E) 2 (choose (carries H E n) 1 (choose c 3 0))
+  pub byte_says : (c : Bool) (a : Answer) → QuestionSays A H n E (Ok a) → byte_of c a ≡ choose (contradicts H E) 2 (choose (carries H E n) 1 (choose c 3 0))
   byte_says b (Inconsistent G) h = let c : contradicts H E ≡ true = h.0 in rw c
   byte_says b (Supported F) h = let k : carries H E n ≡ true = h.0 in let c : contradicts H E ≡ false = ((carries_means H E n).0 k).0 in rw (c, k)
   byte_says b Unsupported h = let c : contradicts H E ≡ false = h.0 in let k : carries H E n ≡ false = h.1 in rw (c, k)
-  byte_says b (Refused r) h = absurd h
 
   -- one answer is right
-  pub says_one : (a b : Answer) → QuestionSays A H n E a → QuestionSays A H n E b → a ≡ b
-  says_one (Inconsistent F) (Inconsistent G) p q = ap Inconsistent (first_one F G p.1 q.1)
-  says_one (Inconsistent F) (Supported G) p q = clash p.0 ((carries_means H E n).0 q.0).0
-  says_one (Inconsistent F) Unsupported p q = clash p.0 q.0
-  says_one (Supported F) (Inconsistent G) p q = clash q.0 ((carries_means H E n).0 p.0).0
-  says_one (Supported F) (Supported G) p q = ap Supported (first_one F G p.1 q.1)
-  says_one (Supported F) Unsupported p q = clash p.0 q.1
-  says_one Unsupported (Inconsistent G) p q = clash q.0 p.0
-  says_one Unsupported (Supported G) p q = clash q.0 p.1
-  says_one Unsupported Unsupported p q = refl
-  says_one (Inconsistent F) (Refused r) p q = absurd q
-  says_one (Supported F) (Refused r) p q = absurd q
-  says_one Unsupported (Refused r) p q = absurd q
-  says_one (Refused r) b p q = absurd p
+  pub says_one : (a b : Result Answer Reply) → QuestionSays A H n E a → QuestionSays A H n E b → a ≡ b
+  says_one (Ok (Inconsistent F)) (Ok (Inconsistent G)) p q = ap (λ (x : ℕ). Ok (Inconsistent x)) (first_one F G p.1 q.1)
+  says_one (Ok (Inconsistent F)) (Ok (Supported G)) p q = clash p.0 ((carries_means H E n).0 q.0).0
+  says_one (Ok (Inconsistent F)) (Ok Unsupported) p q = clash p.0 q.0
+  says_one (Ok (Supported F)) (Ok (Inconsistent G)) p q = clash q.0 ((carries_means H E n).0 p.0).0
+  says_one (Ok (Supported F)) (Ok (Supported G)) p q = ap (λ (x : ℕ). Ok (Supported x)) (first_one F G p.1 q.1)
+  says_one (Ok (Supported F)) (Ok Unsupported) p q = clash p.0 q.1
+  says_one (Ok Unsupported) (Ok (Inconsistent G)) p q = clash q.0 p.0
+  says_one (Ok Unsupported) (Ok (Supported G)) p q = clash q.0 p.1
+  says_one (Ok Unsupported) (Ok Unsupported) p q = refl
+  says_one (Ok (Inconsistent F)) (Err r) p q = absurd q
+  says_one (Ok (Supported F)) (Err r) p q = absurd q
+  says_one (Ok Unsupported) (Err r) p q = absurd q
+  says_one (Err r) b p q = absurd p
 
 -- ---- a made store
 
@@ -81,14 +81,14 @@ module _ {A M : ℕ} {H : List Justification} {s : Store} (f : Form A M H s) whe
   abbrev bad : List ℕ
   bad = nogoods_held s.lists
 
-  pub standing_says : (n E : ℕ) → n ≤ A + M → E < 2 ^ A → QuestionSays A H n E (standing s.lists n E)
+  pub standing_says : (n E : ℕ) → n ≤ A + M → E < 2 ^ A → QuestionSays A H n E (Ok (standing s.lists n E))
   unfolding standing
   standing_says n E l h = go (first_in bad E) (first_in (label_held s.lists n) E) refl refl
     where
-      go : (g m : Option ℕ) → first_in bad E ≡ g → first_in (label_held s.lists n) E ≡ m → QuestionSays A H n E (reasoned g m)
-      go (some G) m p q = (sym (form_contradicts f E h) ∙ named_within (form_nogoods f) E p, named_first (form_nogoods f) E p)
-      go none (some F) p q = ((form_carries f n E l h).1 (none_within bad E p, named_within (form_label f n l) E q), named_first (form_label f n l) E q)
-      go none none p q = (sym (form_contradicts f E h) ∙ none_within bad E p, not_so (carries H E n) (λ k. clash ((form_carries f n E l h).0 k).1 (none_within (label_held s.lists n) E q)))
+      go : (g m : Option ℕ) → first_in bad E ≡ g → first_in (label_held s.lists n) E ≡ m → QuestionSays A H n E (Ok (reasoned g m))
+      go (Some G) m p q = (sym (form_contradicts f E h) ∙ named_within (form_nogoods f) E p, named_first (form_nogoods f) E p)
+      go None (Some F) p q = ((form_carries f n E l h).1 (none_within bad E p, named_within (form_label f n l) E q), named_first (form_label f n l) E q)
+      go None None p q = (sym (form_contradicts f E h) ∙ none_within bad E p, not_so (carries H E n) (λ k. clash ((form_carries f n E l h).0 k).1 (none_within (label_held s.lists n) E q)))
 
   -- a label is empty exactly where no set carries its number
   carried_some : (i : ℕ) → suc i ≤ A + M → (F : ℕ) (l : List ℕ) → label_held s.lists (suc i) ≡ F ∷ l → carried_by A H (suc i) ≡ true
@@ -150,14 +150,14 @@ module _ {A M : ℕ} {H : List Justification} {s : Store} (f : Form A M H s) whe
 
   -- ---- question
 
-  pub question_by : (n E : ℕ) → n ≤ A + M → E < 2 ^ A → question_of s n E ≡ standing s.lists n E
+  pub question_by : (n E : ℕ) → n ≤ A + M → E < 2 ^ A → question_of s n E ≡ Ok (standing s.lists n E)
   question_by n E l h = ap (λ (r : Read (question n E)). r.said) (stand.reading (question n E) (passes ℕ _ _ 0 _ (⊎_elim (in_top n l) (in_set E h)) refl))
 
-  pub form_question : (n E : ℕ) → n ≤ A + M → E < 2 ^ A → (a : Answer) → (question_of s n E ≡ a) ↔ QuestionSays A H n E a
+  pub form_question : (n E : ℕ) → n ≤ A + M → E < 2 ^ A → (a : Result Answer Reply) → (question_of s n E ≡ a) ↔ QuestionSays A H n E a
   form_question n E l h a =
       let e = question_by n E l h in
       let w = standing_says n E l h in
-      (λ q. subst (QuestionSays A H n E) (sym e ∙ q) w, λ q. e ∙ says_one A H n E (standing s.lists n E) a w q)
+      (λ q. subst (QuestionSays A H n E) (sym e ∙ q) w, λ q. e ∙ says_one A H n E (Ok (standing s.lists n E)) a w q)
 
   -- ---- context
 

@@ -13,8 +13,7 @@ use Rattle.casefile.proofs.Loading.{load_done}
 use Rattle.casefile.specs.Load.{load_of}
 use Rattle.casefile.specs.declared.Loaded.{Loaded}
 use Rattle.lent.specs.Lent.{Wrote, fitted, kept, written_number}
-use Rattle.lent.specs.declared.Written.{Written}
-use Rattle.lent.specs.declared.Written.TheVariants.{Length, Refused}
+use Rattle.std.proofs.Common.{Result, Ok, Err}
 use Rattle.promises.proofs.Form.{Form, form_a, form_count, form_m, form_said, made_form, made_holds}
 use Rattle.promises.proofs.InOrder.{in_order_is}
 use Rattle.promises.proofs.Printing.{printed_same}
@@ -37,6 +36,7 @@ use Rattle.theory.specs.Stages.{Justification}
 use Rattle.writing.proofs.Files.{file_back, file_length, file_loads, file_one, tells_apart}
 use Rattle.writing.proofs.Turns.{shape_fits}
 use Rattle.writing.specs.Writing.{bytes_of, file_of, numbers_for, record_for, write_of}
+use Rattle.replies.specs.declared.Reply.{Reply}
 
 -- ---- what is left of a file that fits, or not, by its two tests
 
@@ -47,9 +47,9 @@ by_tests : (s : Store) (out : List ℕ) → write_of s out ≡ tried (right_shap
 unfolding write_of fitted
 by_tests s out = refl
 
-abbrev length_of : Written → ℕ
-length_of (Length n) = n
-length_of (Refused r) = 0
+abbrev length_of : Result ℕ Reply → ℕ
+length_of (Ok n) = n
+length_of (Err r) = 0
 
 -- what is left, of the two parts that a call that writes hands over
 abbrev left : {out : List ℕ} → Read (file out) → Wrote

@@ -1,4 +1,5 @@
 -- A refusal leaves the store and every lent byte as they were. Assumes nothing.
+use Rattle.std.specs.Prelude.{Ok, Err, Result}
 use mathlib.Core.Bool.{Bool, ◌||◌, false, not, true}
 use mathlib.Core.List.{List, ◌++◌}
 use mathlib.Core.Path.{◌∙◌, ◌≡◌, refl, sym}
@@ -7,9 +8,9 @@ use lib.Dec.{leb, ltb}
 use lib.ListN.{drop, length}
 use borrow.Author.Tests.{eqb-true}
 use Rattle.asking.specs.Asking.{context_bytes, context_of, context_reply}
-use Rattle.bare.specs.Bare.{Answered, answered, ask_of, barely, faults_of, refused_as, tell_of, told_number}
+use Rattle.bare.specs.Bare.{Answered, answered, ask_of, barely, faults_of, tell_of, told_number, said_as}
 use Rattle.bare.specs.declared.Query.{Query}
-use Rattle.bare.specs.declared.Told.TheVariants.{Filled}
+use Rattle.bare.specs.declared.Told.TheVariants.{Filled, Lines}
 use Rattle.bare.specs.declared.What.{What}
 use Rattle.bare.specs.declared.What.TheVariants.{Context, Number as Of, Stages}
 use Rattle.casefile.specs.Case.{Case, Reading, case_of, held_by, refused as unread, whole}
@@ -204,6 +205,11 @@ printing_keeps bytes out = kept_fitted no_store (listing_of bytes) out
 
 -- ---- a bare list
 
+-- the number of lines that a bare list answers is that of the text
+pub lines_number : (r : Result ℕ Reply) → told_number (said_as Lines r) ≡ written_number r
+lines_number (Ok n) = refl
+lines_number (Err r) = refl
+
 module _ (out : List ℕ) where
   abbrev KeptBare : Answered → Type 0
   KeptBare x = (told_number x.answer ≡ 0 → ⊥) → x.bytes ≡ out
@@ -215,14 +221,14 @@ module _ (out : List ℕ) where
   tell_keeps : (N : ℕ) (J : List Justification) (E : ℕ) (w : What) → KeptBare (tell_of N J E w out)
   tell_keeps N J E (Of n) k = refl
   tell_keeps N J E Context k =
-      bare_choose (ltb (length out) (N + 1)) (answered (Filled Short) out) (answered (Filled Done) (table (N + 1) (λ n. byte_of (plain_by J E n)) ++ drop (N + 1) out)) refl (λ z. absurd (z refl)) k
-  tell_keeps N J E Stages k = kept_fitted no_store (stage_text N J E) out k
+      bare_choose (ltb (length out) (N + 1)) (answered (Err Short) out) (answered (Ok Filled) (table (N + 1) (λ n. byte_of (plain_by J E n)) ++ drop (N + 1) out)) refl (λ z. absurd (z refl)) k
+  tell_keeps N J E Stages k = let t : List ℕ = stage_text N J E in kept_fitted no_store t out (λ z. k (lines_number (fitted t out).answer ∙ z))
 
 pub bare_keeps : (q : Query) (l : List Handed) (out : List ℕ) → (told_number (ask_of q l out).answer ≡ 0 → ⊥) → (ask_of q l out).bytes ≡ out
 unfolding ask_of
 bare_keeps q l out =
     let N : ℕ = q.assumptions + q.claims in
-    bare_choose out (ltb limits.assumptions q.assumptions || ltb limits.claims q.claims) (answered (refused_as q.what Counts) out) _ refl
-    (bare_choose out (not (is_done (faults_of N l))) (answered (refused_as q.what (faults_of N l)) out) _ refl
-    (bare_choose out (not (in_range q.assumptions q.set)) (answered (refused_as q.what Number) out) _ refl
+    bare_choose out (ltb limits.assumptions q.assumptions || ltb limits.claims q.claims) (answered (Err Counts) out) _ refl
+    (bare_choose out (not (is_done (faults_of N l))) (answered (Err (faults_of N l)) out) _ refl
+    (bare_choose out (not (in_range q.assumptions q.set)) (answered (Err Number) out) _ refl
     (tell_keeps out N (barely N l) q.set q.what)))

@@ -1,11 +1,11 @@
 -- The first member of a list that lies within a set: of a list of the smallest sets it is the first of those within, and no two sets are that. Assumes nothing.
+use Rattle.std.specs.Prelude.{Some, None, cond}
 use mathlib.Core.Bool.{Bool, ◌||◌, false, true}
 use mathlib.Core.List.Memᴰ
 use mathlib.Core.List.Memᴰ.{head as here}
 use mathlib.Core.List.Memᴰ.{tail as there}
 use mathlib.Core.List.{List, Memᴰ as Mem, [], ◌∷◌}
 use mathlib.Core.Logic.{◌⊎◌, inl, inr, ⊎_elim}
-use mathlib.Core.Option.{none-ne-some, some-injective, some-ne-none, none, some}
 use mathlib.Core.Path.{◌≡◌, refl, subst, sym}
 use Prim.Native.Nat.{ℕ}
 use Rattle.asking.specs.Asking.{first_in}
@@ -24,14 +24,14 @@ record Leads (l : List ℕ) (E F : ℕ) : Type 0 where
   inside : within F E ≡ true
   first : (G : ℕ) → Mem G l → within G E ≡ true → (G ≡ F) ⊎ (before F G ≡ true)
 
-leads : (l : List ℕ) (E F : ℕ) → sorted_by before l ≡ true → first_in l E ≡ some F → Leads l E F
+leads : (l : List ℕ) (E F : ℕ) → sorted_by before l ≡ true → first_in l E ≡ Some F → Leads l E F
 unfolding first_in
-leads [] E F o e = absurd (none-ne-some F e)
+leads [] E F o e = cc
 leads (D ∷ l) E F o e = go (within D E) refl e (leads l E F (sorted_tail before D l o))
   where
-    go : (b : Bool) → within D E ≡ b → choose b (some D) (first_in l E) ≡ some F → (first_in l E ≡ some F → Leads l E F) → Leads (D ∷ l) E F
+    go : (b : Bool) → within D E ≡ b → cond b (Some D) (first_in l E) ≡ Some F → (first_in l E ≡ Some F → Leads l E F) → Leads (D ∷ l) E F
     go true w e later =
-        subst (Leads (D ∷ l) E) (some-injective D F e)
+        let same : D ≡ F = cc in subst (Leads (D ∷ l) E) same
         (record { member = here refl; inside = w; first = λ G m v. ⊎_elim (λ q. inl q) (λ k. inr (sorted_head before D o G k)) (Memᴰ.cases_cons m) })
     go false w e later =
         let r = later e in
@@ -42,18 +42,18 @@ leads (D ∷ l) E F o e = go (within D E) refl e (leads l E F (sorted_tail befor
         }
 
 -- none is named: E contains no member
-pub none_within : (l : List ℕ) (E : ℕ) → first_in l E ≡ none → contains l E ≡ false
+pub none_within : (l : List ℕ) (E : ℕ) → first_in l E ≡ None → contains l E ≡ false
 unfolding first_in contains some_of
 none_within [] E e = refl
 none_within (D ∷ l) E e = go (within D E) e (none_within l E)
   where
-    go : (b : Bool) → choose b (some D) (first_in l E) ≡ none → (first_in l E ≡ none → some_of (λ F. within F E) l ≡ false) → b || some_of (λ F. within F E) l ≡ false
-    go true e k = absurd (some-ne-none D e)
+    go : (b : Bool) → cond b (Some D) (first_in l E) ≡ None → (first_in l E ≡ None → some_of (λ F. within F E) l ≡ false) → b || some_of (λ F. within F E) l ≡ false
+    go true e k = cc
     go false e k = k e
 
 -- ---- a list of the smallest sets
 
-module _ {A : ℕ} {P : ℕ → Bool} {l : List ℕ} (h : ListsSmallest A P l) (E : ℕ) {F : ℕ} (e : first_in l E ≡ some F) where
+module _ {A : ℕ} {P : ℕ → Bool} {l : List ℕ} (h : ListsSmallest A P l) (E : ℕ) {F : ℕ} (e : first_in l E ≡ Some F) where
   abbrev lead : Leads l E F
   lead = leads l E F h.order e
 

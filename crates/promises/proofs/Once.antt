@@ -5,7 +5,9 @@ use Prim.Native.Nat.{ℕ}
 use Rattle.asking.specs.Asking.{Left}
 use Rattle.bare.specs.Bare.{Answered}
 use Rattle.lent.specs.Lent.{Wrote}
+use Rattle.numbers.specs.declared.Reader.{Reader}
 use Rattle.promises.specs.Once.{OnceEach}
+use Rattle.text.specs.declared.Writer.{Writer}
 
 both : {X Y : Type 0} {x x' : X} {y y' : Y} → ◌≡◌ {A = X × Y} (x, y) (x', y') → (x ≡ x') × (y ≡ y')
 both {X} {Y} e = (ap (λ (z : X × Y). z.0) e, ap (λ (z : X × Y). z.1) e)
@@ -33,7 +35,7 @@ once_each = record {
   printed_one = λ κs a r r' w w' p q. (ap (λ (x : Wrote). x.answer) (p ∙ sym q), ap (λ (l : List ℕ). (tt, (l, tt))) (ap (λ (x : Wrote). x.bytes) (p ∙ sym q)));
   write_one = λ κs a r r' w w' p q. (p.0 ∙ sym q.0, ap (λ (l : List ℕ). (tt, (l, tt))) (p.1 ∙ sym q.1));
   fit_one = λ κs a r r' w w' p q. (ap (λ (x : Wrote). x.answer) (p ∙ sym q), ap (λ (l : List ℕ). (tt, (l, tt))) (ap (λ (x : Wrote). x.bytes) (p ∙ sym q)));
-  lined_one = λ κs a r r' w w' p q. (p.next ∙ sym q.next, ap (λ (l : List ℕ). (tt, (tt, (tt, (l, tt))))) (p.bytes ∙ sym q.bytes));
+  lined_one = λ κs a r r' w w' p q. (refl, ap (λ (x : Writer). (tt, (tt, (tt, (x, tt))))) (p ∙ sym q));
   load_one = λ κs a r r' w w' p q. (p ∙ sym q, refl);
   number_one = λ κs a r r' w w' p q. (p ∙ sym q, refl);
   union_one = λ κs a r r' w w' p q. (p ∙ sym q, refl);
@@ -63,15 +65,20 @@ once_each = record {
   start_one = λ κs a r r' w w' p q. (p ∙ sym q, refl);
   judge_one = λ κs a r r' w w' p q. (p ∙ sym q, refl);
   lists_one = λ κs a r r' w w' p q. (p ∙ sym q, refl);
-  copy_one = λ κs a r r' w w' p q. (p.next ∙ sym q.next, ap (λ (l : List ℕ). (tt, (tt, (l, tt)))) (p.bytes ∙ sym q.bytes));
-  braces_one = λ κs a r r' w w' p q. (p.next ∙ sym q.next, ap (λ (l : List ℕ). (tt, (tt, (l, tt)))) (p.bytes ∙ sym q.bytes));
-  row_one = λ κs a r r' w w' p q. (p.next ∙ sym q.next, ap (λ (l : List ℕ). (tt, (tt, (tt, (l, tt))))) (p.bytes ∙ sym q.bytes));
-  head_one = λ κs a r r' w w' p q. (p.next ∙ sym q.next, ap (λ (l : List ℕ). (tt, (tt, (tt, (tt, (l, tt)))))) (p.bytes ∙ sym q.bytes));
-  refused_one = λ κs a r r' w w' p q. (p.next ∙ sym q.next, ap (λ (l : List ℕ). (tt, (tt, (l, tt)))) (p.bytes ∙ sym q.bytes));
+  copy_one = λ κs a r r' w w' p q. (refl, ap (λ (x : Writer). (x, (tt, tt))) (p ∙ sym q));
+  braces_one = λ κs a r r' w w' p q. (refl, ap (λ (x : Writer). (x, (tt, tt))) (p ∙ sym q));
+  row_one = λ κs a r r' w w' p q. (refl, ap (λ (x : Writer). (x, (tt, (tt, (tt, tt))))) (p ∙ sym q));
+  head_one = λ κs a r r' w w' p q. (refl, ap (λ (x : Writer). (x, (tt, (tt, (tt, (tt, tt)))))) (p ∙ sym q));
+  refused_one = λ κs a r r' w w' p q. (refl, ap (λ (x : Writer). (x, (tt, (tt, tt)))) (p ∙ sym q));
+  begun_one = λ κs a r r' w w' p q. (p ∙ sym q, refl);
+  byte_one = λ κs a r r' w w' p q. (refl, ap (λ (x : Writer). (x, (tt, tt))) (p ∙ sym q));
+  text_one = λ κs a r r' w w' p q. p ∙ sym q;
+  line_one_one = λ κs a r r' w w' p q. (refl, ap (λ (x : Writer). (tt, (x, tt))) (p ∙ sym q));
   read_one = λ κs a r r' w w' p q. (p ∙ sym q, refl);
-  two_one = λ κs a r r' w w' p q. (p ∙ sym q, refl);
-  header_one = λ κs a r r' w w' p q. (p ∙ sym q, refl);
-  record_one = λ κs a r r' w w' p q. (p ∙ sym q, refl);
+  next_number_one = λ κs a r r' w w' p q. (p.answered ∙ sym q.answered, ap (λ (s : Reader). (s, tt)) (p.stands ∙ sym q.stands));
+  two_one = λ κs a r r' w w' p q. (p.answered ∙ sym q.answered, ap (λ (s : Reader). (s, tt)) (p.stands ∙ sym q.stands));
+  header_one = λ κs a r r' w w' p q. (p.answered ∙ sym q.answered, ap (λ (s : Reader). (s, tt)) (p.stands ∙ sym q.stands));
+  record_one = λ κs a r r' w w' p q. (p.answered ∙ sym q.answered, ap (λ (s : Reader). (s, (tt, tt))) (p.stands ∙ sym q.stands));
   line_end_one = λ κs a r r' w w' p q. (p ∙ sym q, refl);
   field_one = λ κs a r r' w w' p q. (p ∙ sym q, refl);
   numerals_one = λ κs a r r' w w' p q. ((both (p ∙ sym q)).0, ap (λ (l : List ℕ). (tt, (tt, (l, tt)))) (both (p ∙ sym q)).1);
@@ -90,8 +97,8 @@ once_each = record {
   plain_context_one = λ κs a r r' w w' p q. (ap (λ (x : Left). x.outcome) (p ∙ sym q), ap (λ (l : List ℕ). (tt, (tt, (l, tt)))) (ap (λ (x : Left). x.bytes) (p ∙ sym q)));
   put_one = λ κs a r r' w w' p q. (ap (λ (x : Wrote). x.answer) (p ∙ sym q), ap (λ (l : List ℕ). (tt, (tt, (l, tt)))) (ap (λ (x : Wrote). x.bytes) (p ∙ sym q)));
   stage_lines_one = λ κs a r r' w w' p q. (p.0 ∙ sym q.0, ap (λ (l : List ℕ). (tt, (tt, (l, tt)))) (p.1 ∙ sym q.1));
-  digits_one = λ κs a r r' w w' p q. (p.next ∙ sym q.next, ap (λ (l : List ℕ). (tt, (tt, (l, tt)))) (p.bytes ∙ sym q.bytes));
-  spaced_one = λ κs a r r' w w' p q. (p.next ∙ sym q.next, ap (λ (l : List ℕ). (tt, (tt, (l, tt)))) (p.bytes ∙ sym q.bytes));
+  digits_one = λ κs a r r' w w' p q. (refl, ap (λ (x : Writer). (x, (tt, tt))) (p ∙ sym q));
+  spaced_one = λ κs a r r' w w' p q. (refl, ap (λ (x : Writer). (x, (tt, tt))) (p ∙ sym q));
   ask_some_one = λ κs a r r' w w' p q. (ap (λ (x : Answered). x.answer) (p ∙ sym q), ap (λ (l : List ℕ). (tt, (tt, (tt, (l, tt))))) (ap (λ (x : Answered). x.bytes) (p ∙ sym q)));
   bare_one = λ κs a r r' w w' p q. (ap (λ (x : Answered). x.answer) (p ∙ sym q), ap (λ (l : List ℕ). (tt, (tt, (l, tt)))) (ap (λ (x : Answered). x.bytes) (p ∙ sym q)));
 }

@@ -1,4 +1,6 @@
 -- On every made store the plain path answers as the labels do, and so does a bare list of what was put in. Assumes nothing.
+use Rattle.std.specs.Prelude.{Result, Ok, Err}
+use Rattle.replies.specs.Replies.{checked}
 use mathlib.Core.Bool.{Bool, ◌||◌, false, not, true}
 use mathlib.Core.List.{List, ◌++◌}
 use mathlib.Core.Logic.{⊎_elim}
@@ -10,9 +12,9 @@ use lib.ListN.{get_or-append, drop, get_or, length}
 use borrow.Author.Tests.{le-ltb, lt-ltb, ltb-false, ltb-true}
 use Rattle.asking.specs.Asking.{context_reply, question_of, standing}
 use Rattle.asking.specs.declared.Answer.{Answer}
-use Rattle.asking.specs.declared.Answer.TheVariants.{Inconsistent as Against, Refused as Not, Supported as For, Unsupported as Neither}
+use Rattle.asking.specs.declared.Answer.TheVariants.{Inconsistent as Against, Supported as For, Unsupported as Neither}
 use Rattle.bare.proofs.Items.{bare_placed}
-use Rattle.bare.specs.Bare.{Answered, answered, ask_of, barely, faults_of, refused_as, tell_of, wrote_as}
+use Rattle.bare.specs.Bare.{Answered, answered, ask_of, barely, faults_of, tell_of, wrote_as, said_as}
 use Rattle.bare.specs.declared.Query.{Query}
 use Rattle.bare.specs.declared.Told.TheVariants.{Filled, Word}
 use Rattle.bare.specs.declared.What.TheVariants.{Context, Number as Of, Stages}
@@ -24,7 +26,7 @@ use Rattle.lent.specs.Lent.{fitted, kept}
 use Rattle.plain.proofs.Laws.{followable, placed}
 use Rattle.plain.specs.Plainly.{byte_of, plain_after, plain_by, plain_bytes, plain_of}
 use Rattle.plain.specs.declared.Plain.{Plain}
-use Rattle.plain.specs.declared.Plain.TheVariants.{Inconsistent, Refused, Supported, Unsupported}
+use Rattle.plain.specs.declared.Plain.TheVariants.{Inconsistent, Supported, Unsupported}
 use Rattle.promises.proofs.Answers.{form_context, in_set, standing_says}
 use Rattle.promises.proofs.Form.{Form, form_a, form_exactly, form_m, made_form}
 use Rattle.promises.proofs.Right.{form_right}
@@ -88,14 +90,14 @@ module _ (J H : List Justification) (f : SameMembers J H) where
         (λ k m. ap (λ (S : ℕ → ℕ → ℕ → Bool). digits k ++ (each field (those (S k E) (numbers_below (N + 1))) ++ word "\n")) same)
 
 -- ---- an answer of the labels, its name left out, is what follows
-word_says : (A : ℕ) (H : List Justification) (n E : ℕ) (a : Answer) → QuestionSays A H n E a → word_alone a ≡ plain_by H E n
+word_says : (A : ℕ) (H : List Justification) (n E : ℕ) (a : Result Answer Reply) → QuestionSays A H n E a → word_alone a ≡ Ok (plain_by H E n)
 unfolding plain_by
-word_says A H n E (Against G) h = let c : contradicts H E ≡ true = h.0 in rw c
-word_says A H n E (For F) h = let k : carries H E n ≡ true = h.0 in let c : contradicts H E ≡ false = ((carries_means H E n).0 k).0 in rw (c, k)
-word_says A H n E Neither h = let c : contradicts H E ≡ false = h.0 in let k : carries H E n ≡ false = h.1 in rw (c, k)
-word_says A H n E (Not r) h = absurd h
+word_says A H n E (Ok (Against G)) h = let c : contradicts H E ≡ true = h.0 in rw c
+word_says A H n E (Ok (For F)) h = let k : carries H E n ≡ true = h.0 in let c : contradicts H E ≡ false = ((carries_means H E n).0 k).0 in rw (c, k)
+word_says A H n E (Ok Neither) h = let c : contradicts H E ≡ false = h.0 in let k : carries H E n ≡ false = h.1 in rw (c, k)
+word_says A H n E (Err r) h = absurd h
 
-word_choose : (b : Bool) (x y : Answer) → word_alone (choose b x y) ≡ choose b (word_alone x) (word_alone y)
+word_choose : (b : Bool) (x y : Result Answer Reply) → word_alone (choose b x y) ≡ choose b (word_alone x) (word_alone y)
 word_choose true x y = refl
 word_choose false x y = refl
 
@@ -137,13 +139,13 @@ module _ {A M : ℕ} {H : List Justification} {s : Store} (f : Form A M H s) whe
   -- ---- question
 
   -- within the numbers and the sets of the store, the lists say what follows
-  stands_by : (n E : ℕ) → n ≤ top s.held → in_range s.held.assumptions E ≡ true → plain_by J E n ≡ word_alone (standing s.lists n E)
-  stands_by n E l r = held_by_lem E n ∙ sym (word_says A H n E (standing s.lists n E) (standing_says f n E (omega (arith, tops)) (set_low E r)))
+  stands_by : (n E : ℕ) → n ≤ top s.held → in_range s.held.assumptions E ≡ true → Ok (plain_by J E n) ≡ word_alone (Ok (standing s.lists n E))
+  stands_by n E l r = ap Ok (held_by_lem E n) ∙ sym (word_says A H n E (Ok (standing s.lists n E)) (standing_says f n E (omega (arith, tops)) (set_low E r)))
 
-  abbrev beyond : Bool → Bool → ℕ → ℕ → Plain → Plain
-  beyond a b n E x = choose (a || not b) (Refused Number) x
+  abbrev beyond : Bool → Bool → ℕ → ℕ → Result Plain Reply → Result Plain Reply
+  beyond a b n E x = choose (a || not b) (Err Number) x
 
-  within_both : (n E : ℕ) (a b : Bool) → ltb (top s.held) n ≡ a → in_range s.held.assumptions E ≡ b → beyond a b n E (plain_by J E n) ≡ beyond a b n E (word_alone (standing s.lists n E))
+  within_both : (n E : ℕ) (a b : Bool) → ltb (top s.held) n ≡ a → in_range s.held.assumptions E ≡ b → beyond a b n E (Ok (plain_by J E n)) ≡ beyond a b n E (word_alone (Ok (standing s.lists n E)))
   within_both n E true b p q = refl
   within_both n E false false p q = refl
   within_both n E false true p q = stands_by n E (ltb-false (top s.held) n p) q
@@ -152,16 +154,16 @@ module _ {A M : ℕ} {H : List Justification} {s : Store} (f : Form A M H s) whe
   unfolding plain_of question_of
   plain_question n E =
       let b : Bool = ltb (top s.held) n || not (in_range s.held.assumptions E) in
-      ap (λ (x : Bool). choose (not x) (Refused Shape) (choose b (Refused Number) (plain_by J E n))) right
+      ap (λ (x : Bool). choose (not x) (Err Shape) (choose b (Err Number) (Ok (plain_by J E n)))) right
       ∙ within_both n E (ltb (top s.held) n) (in_range s.held.assumptions E) refl refl
-      ∙ sym (word_choose b (Not Number) (standing s.lists n E))
-      ∙ ap (λ (x : Bool). word_alone (choose (not x) (Not Shape) (choose b (Not Number) (standing s.lists n E)))) (sym right)
+      ∙ sym (word_choose b (Err Number) (Ok (standing s.lists n E)))
+      ∙ ap (λ (x : Bool). word_alone (choose (not x) (Err Shape) (choose b (Err Number) (Ok (standing s.lists n E))))) (sym right)
 
   in_top : (n : ℕ) → n ≤ A + M → top s.held < n → ⊥
   in_top n h k = omega (arith, tops)
 
-  plain_says : (n E : ℕ) → n ≤ A + M → E < 2 ^ A → plain_of s n E ≡ plain_by H E n
-  plain_says n E l h = ap (λ (x : Read (plainly n E)). x.said) (stand.reading (plainly n E) (passes ℕ _ _ 0 _ (⊎_elim (in_top n l) (in_set f E h)) refl)) ∙ held_by_lem E n
+  plain_says : (n E : ℕ) → n ≤ A + M → E < 2 ^ A → plain_of s n E ≡ Ok (plain_by H E n)
+  plain_says n E l h = ap (λ (x : Read (plainly n E)). x.said) (stand.reading (plainly n E) (passes ℕ _ _ 0 _ (⊎_elim (in_top n l) (in_set f E h)) refl)) ∙ ap Ok (held_by_lem E n)
 
   -- ---- context
 
@@ -225,38 +227,38 @@ module _ {A M : ℕ} {H : List Justification} {s : Store} (f : Form A M H s) whe
 
     module _ (E : ℕ) (out : List ℕ) where
       -- ask_of, its first tests passed
-      asked : (q : Query) → q.assumptions ≡ A → q.claims ≡ M → ask_of q l out ≡ choose (not (in_range A q.set)) (answered (refused_as q.what Number) out) (tell_of N L q.set q.what out)
+      asked : (q : Query) → q.assumptions ≡ A → q.claims ≡ M → ask_of q l out ≡ choose (not (in_range A q.set)) (answered (Err Number) out) (tell_of N L q.set q.what out)
       unfolding ask_of
       asked q e m =
-          ap₂ (λ (a c : ℕ). choose (over_counts a c) (answered (refused_as q.what Counts) out)
-          (choose (not (is_done (faults_of (a + c) l))) (answered (refused_as q.what (faults_of (a + c) l)) out)
-          (choose (not (in_range a q.set)) (answered (refused_as q.what Number) out) (tell_of (a + c) (barely (a + c) l) q.set q.what out)))) e m
-          ∙ ap (λ (b : Bool). choose b (answered (refused_as q.what Counts) out) (choose (not (is_done (faults_of N l))) (answered (refused_as q.what (faults_of N l)) out) rest)) counts
-          ∙ ap (λ (r : Reply). choose (not (is_done r)) (answered (refused_as q.what r) out) rest) sound
+          ap₂ (λ (a c : ℕ). choose (over_counts a c) (answered (Err Counts) out)
+          (choose (not (is_done (faults_of (a + c) l))) (answered (Err (faults_of (a + c) l)) out)
+          (choose (not (in_range a q.set)) (answered (Err Number) out) (tell_of (a + c) (barely (a + c) l) q.set q.what out)))) e m
+          ∙ ap (λ (b : Bool). choose b (answered (Err Counts) out) (choose (not (is_done (faults_of N l))) (answered (Err (faults_of N l)) out) rest)) counts
+          ∙ ap (λ (r : Reply). choose (not (is_done r)) (answered (Err r) out) rest) sound
         where
           rest : Answered
-          rest = choose (not (in_range A q.set)) (answered (refused_as q.what Number) out) (tell_of N L q.set q.what out)
+          rest = choose (not (in_range A q.set)) (answered (Err Number) out) (tell_of N L q.set q.what out)
 
-      bare_word : (n : ℕ) → ask_of (asking A M (Of n) E) l out ≡ answered (Word (plain_of s n E)) out
+      bare_word : (n : ℕ) → ask_of (asking A M (Of n) E) l out ≡ answered (said_as Word (plain_of s n E)) out
       unfolding plain_of
       bare_word n =
           asked (asking A M (Of n) E) refl refl
-          ∙ ap (λ (x : Plain). choose (not (in_range A E)) (answered (Word (Refused Number)) out) (answered (Word (choose (ltb N n) (Refused Number) x)) out)) (sym (plain_same J L held_listed E n))
+          ∙ ap (λ (x : Plain). choose (not (in_range A E)) (answered (Err Number) out) (answered (choose (ltb N n) (Err Number) (Ok (Word x))) out)) (sym (plain_same J L held_listed E n))
           ∙ go (in_range A E) (ltb N n)
-          ∙ ap (λ (x : Bool). answered (Word (choose (not x) (Refused Shape) (choose (ltb N n || not (in_range A E)) (Refused Number) (plain_by J E n)))) out) (sym right)
-          ∙ ap₂ (λ (t : ℕ) (b : Bool). answered (Word (choose (not (right_shape s)) (Refused Shape) (choose (ltb t n || not b) (Refused Number) (plain_by J E n)))) out) (sym tops) (sym (range E))
+          ∙ ap (λ (x : Bool). answered (said_as Word (choose (not x) (Err Shape) (choose (ltb N n || not (in_range A E)) (Err Number) (Ok (plain_by J E n))))) out) (sym right)
+          ∙ ap₂ (λ (t : ℕ) (b : Bool). answered (said_as Word (choose (not (right_shape s)) (Err Shape) (choose (ltb t n || not b) (Err Number) (Ok (plain_by J E n))))) out) (sym tops) (sym (range E))
         where
-          go : (b o : Bool) → choose (not b) (answered (Word (Refused Number)) out) (answered (Word (choose o (Refused Number) (plain_by J E n))) out) ≡ answered (Word (choose (o || not b) (Refused Number) (plain_by J E n))) out
+          go : (b o : Bool) → choose (not b) (answered (Err Number) out) (answered (choose o (Err Number) (Ok (Word (plain_by J E n)))) out) ≡ answered (said_as Word (choose (o || not b) (Err Number) (Ok (plain_by J E n)))) out
           go true true = refl
           go true false = refl
           go false true = refl
           go false false = refl
 
-      bare_bytes : ask_of (asking A M Context E) l out ≡ answered (Filled (context_reply s E (length out))) (plain_after s E out)
-      unfolding context_reply plain_after plain_bytes
+      bare_bytes : ask_of (asking A M Context E) l out ≡ answered (said_as (λ _. Filled) (checked (context_reply s E (length out)))) (plain_after s E out)
+      unfolding checked context_reply plain_after plain_bytes
       bare_bytes =
           asked (asking A M Context E) refl refl
-          ∙ ap (λ (t : List ℕ). choose (not (in_range A E)) (answered (Filled Number) out) (choose (ltb (length out) (N + 1)) (answered (Filled Short) out) (answered (Filled Done) (t ++ drop (N + 1) out))))
+          ∙ ap (λ (t : List ℕ). choose (not (in_range A E)) (answered (Err Number) out) (choose (ltb (length out) (N + 1)) (answered (Err Short) out) (answered (Ok Filled) (t ++ drop (N + 1) out))))
           (table_same (N + 1) (λ n. byte_of (plain_by L E n)) (λ n. byte_of (plain_by J E n)) 0 (λ n p. ap byte_of (sym (plain_same J L held_listed E n))))
           ∙ go (in_range A E) (ltb (length out) (N + 1))
           ∙ ap (λ (x : Bool). leaves x (in_range A E) N) (sym right)
@@ -267,11 +269,11 @@ module _ {A M : ℕ} {H : List Justification} {s : Store} (f : Form A M H s) whe
 
           leaves : Bool → Bool → ℕ → Answered
           leaves x b t =
-              answered (Filled (replies x b (ltb (length out) (t + 1))))
+              answered (said_as (λ _. Filled) (checked (replies x b (ltb (length out) (t + 1)))))
               (choose (is_done (replies x b (ltb (length out) (t + 1)))) (table (t + 1) (λ n. byte_of (plain_by J E n)) ++ drop (t + 1) out) out)
 
-          go : (b o : Bool) → choose (not b) (answered (Filled Number) out) (choose o (answered (Filled Short) out) (answered (Filled Done) (table (N + 1) (λ n. byte_of (plain_by J E n)) ++ drop (N + 1) out)))
-              ≡ answered (Filled (replies true b o)) (choose (is_done (replies true b o)) (table (N + 1) (λ n. byte_of (plain_by J E n)) ++ drop (N + 1) out) out)
+          go : (b o : Bool) → choose (not b) (answered (Err Number) out) (choose o (answered (Err Short) out) (answered (Ok Filled) (table (N + 1) (λ n. byte_of (plain_by J E n)) ++ drop (N + 1) out)))
+              ≡ answered (said_as (λ _. Filled) (checked (replies true b o))) (choose (is_done (replies true b o)) (table (N + 1) (λ n. byte_of (plain_by J E n)) ++ drop (N + 1) out) out)
           go true true = refl
           go true false = refl
           go false o = refl
@@ -296,10 +298,10 @@ unfolding ask_of in_range
 bare_told q l out a m d h =
     let N : ℕ = q.assumptions + q.claims in
     let told : Answered = tell_of N (barely N l) q.set q.what out in
-    let unless : Answered = choose (not (ltb q.set (2 ^ q.assumptions))) (answered (refused_as q.what Number) out) told in
-    ap₂ (λ (x y : Bool). choose (x || y) (answered (refused_as q.what Counts) out) (choose (not (is_done (faults_of N l))) (answered (refused_as q.what (faults_of N l)) out) unless)) (le-ltb limits.assumptions q.assumptions a) (le-ltb limits.claims q.claims m)
-    ∙ ap (λ (r : Reply). choose (not (is_done r)) (answered (refused_as q.what r) out) unless) d
-    ∙ ap (λ (b : Bool). choose (not b) (answered (refused_as q.what Number) out) told) (lt-ltb q.set (2 ^ q.assumptions) h)
+    let unless : Answered = choose (not (ltb q.set (2 ^ q.assumptions))) (answered (Err Number) out) told in
+    ap₂ (λ (x y : Bool). choose (x || y) (answered (Err Counts) out) (choose (not (is_done (faults_of N l))) (answered (Err (faults_of N l)) out) unless)) (le-ltb limits.assumptions q.assumptions a) (le-ltb limits.claims q.claims m)
+    ∙ ap (λ (r : Reply). choose (not (is_done r)) (answered (Err r) out) unless) d
+    ∙ ap (λ (b : Bool). choose (not b) (answered (Err Number) out) told) (lt-ltb q.set (2 ^ q.assumptions) h)
 
 -- ---- bytes enough
 held_enough : (s : Store) → right_shape s ≡ true → (E : ℕ) → length (stage_text (top s.held) (said_by s.held) E) ≤ longest

@@ -1,7 +1,7 @@
 -- Demand 1 of our calls. Assumes nothing.
 use Rattle.promises.proofs.Coded.{coded}
 use Rattle.promises.proofs.Keeping.{add_keeps, all_bytes, all_keeps, bare_keeps, judge_keeps, load_keeps, open_keeps, printing_keeps, read_keeps, read_store, refusal_keeps, withdraw_keeps}
-use Rattle.promises.proofs.Table.{bare_kind, reply_table}
+use Rattle.promises.proofs.Table.{bare_done, bare_kind, bare_said, reply_table}
 use Rattle.promises.specs.Calls.{ours}
 use Rattle.promises.specs.Demand1.{Demand1, Refusals}
 
@@ -20,6 +20,8 @@ refusals = record {
   refusal_bytes = refusal_keeps;
   bare_bytes = bare_keeps;
   bare_kind = bare_kind;
+  bare_done = bare_done;
+  bare_said = bare_said;
   printing_bytes = printing_keeps;
 }
 

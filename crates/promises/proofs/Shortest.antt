@@ -1,4 +1,6 @@
 -- Whatever serves in its place contains every smallest set, so it is no shorter, and of that length the same. Assumes nothing.
+use Rattle.replies.specs.declared.Reply.{Reply}
+use Rattle.std.specs.Prelude.{Result, Ok, Err}
 use mathlib.Core.Bool.{Bool, false, not, true}
 use mathlib.Core.List.Memᴰ
 use mathlib.Core.List.Memᴰ.{head as here}
@@ -12,11 +14,11 @@ use lib.Dec.{eqb}
 use lib.ListN.{length}
 use borrow.Author.Tests.{eq-eqb, eqb-true, not-true}
 use Rattle.asking.specs.declared.Answer.{Answer}
-use Rattle.asking.specs.declared.Answer.TheVariants.{Inconsistent, Refused, Supported, Unsupported}
+use Rattle.asking.specs.declared.Answer.TheVariants.{Inconsistent, Supported, Unsupported}
 use Rattle.promises.proofs.Form.{made_form}
 use Rattle.promises.proofs.Telling.{form_carries, form_contradicts}
 use Rattle.promises.proofs.Truth.{demand_2}
-use Rattle.promises.specs.Calls.{ours, question}
+use Rattle.promises.specs.Calls.{ours}
 use Rattle.promises.specs.Demand2.{ListsSmallest, QuestionSays}
 use Rattle.promises.specs.Made.{Made}
 use Rattle.promises.specs.Shortest.{NothingShorter, Serves, Shortest, Unrepeated, asked, consistent, more, none, supports}
@@ -134,11 +136,11 @@ module _ {A M : ℕ} {H : List Justification} {s : Store} (m : Made ours A M H s
       shortest A (λ E. true) (contradicts H) (nogoods_held s.lists) (λ F E w c. refl) (λ F c. refl) (demand_2.tells m).nogoods (λ E h c. form_contradicts (made_form m) E h)
 
   -- what is seen of an answer
-  seen : (n E : ℕ) → (a : Answer) → QuestionSays A H n E a → (consistent a ≡ not (contradicts H E)) × (supports a ≡ carries H E n)
-  seen n E (Inconsistent G) w = (ap not (sym w.0), sym (not_so (carries H E n) (λ k. clash w.0 ((carries_means H E n).0 k).0)))
-  seen n E (Supported F) w = (ap not (sym ((carries_means H E n).0 w.0).0), sym w.0)
-  seen n E Unsupported w = (ap not (sym w.0), sym w.1)
-  seen n E (Refused r) w = absurd w
+  seen : (n E : ℕ) → (a : Result Answer Reply) → QuestionSays A H n E a → (consistent a ≡ not (contradicts H E)) × (supports a ≡ carries H E n)
+  seen n E (Ok (Inconsistent G)) w = (ap not (sym w.0), sym (not_so (carries H E n) (λ k. clash w.0 ((carries_means H E n).0 k).0)))
+  seen n E (Ok (Supported F)) w = (ap not (sym ((carries_means H E n).0 w.0).0), sym w.0)
+  seen n E (Ok Unsupported) w = (ap not (sym w.0), sym w.1)
+  seen n E (Err r) w = absurd w
 
   seen_asked : (n E : ℕ) → n ≤ A + M → E < 2 ^ A → (consistent (asked ours s n E) ≡ not (contradicts H E)) × (supports (asked ours s n E) ≡ carries H E n)
   seen_asked n E l h = seen n E (asked ours s n E) (((demand_2.tells m).question n E l h (asked ours s n E)).0 refl)

@@ -1,4 +1,5 @@
 -- Of a right shape, our calls read the lists as they stand, and add and withdraw from the justifications alone. Assumes nothing.
+use Rattle.std.specs.Prelude.{Result, Ok, Err}
 use mathlib.Core.Bool.{◌||◌, false, not, true}
 use mathlib.Core.List.{List, [], ◌++◌}
 use mathlib.Core.Path.{◌∙◌, ◌≡◌, ap, ap₂, sym}
@@ -9,7 +10,6 @@ use lib.ListN.{drop, length}
 use borrow.Author.Tests.{le-ltb}
 use Rattle.asking.specs.Asking.{context_bytes, context_of, context_reply, first_in, member_at, member_of, question_of, standing}
 use Rattle.asking.specs.declared.Answer.{Answer}
-use Rattle.asking.specs.declared.Found.{Found}
 use Rattle.lent.specs.Lent.{Wrote, fitted}
 use Rattle.lines.specs.Lines.{case_text, heading_of, line_of, line_text, refusal_text}
 use Rattle.plain.specs.Plainly.{plain_after, plain_by, plain_bytes, plain_of}
@@ -55,7 +55,7 @@ module _ (s : Store) (right : right_shape s ≡ true) where
 
   -- ---- the lists as they stand
 
-  question_stands : (n E : ℕ) → ltb N n || not (in_range A E) ≡ false → question_of s n E ≡ standing s.lists n E
+  question_stands : (n E : ℕ) → ltb N n || not (in_range A E) ≡ false → question_of s n E ≡ Ok (standing s.lists n E)
   unfolding question_of
   question_stands n E h = rw (right, h)
 
@@ -87,7 +87,7 @@ module _ (s : Store) (right : right_shape s ≡ true) where
   unfolding write_of
   writing_stands out h = rw right (fits (file_of s.held) out h)
 
-  plain_stands : (n E : ℕ) → ltb N n || not (in_range A E) ≡ false → plain_of s n E ≡ plain_by (said_by s.held) E n
+  plain_stands : (n E : ℕ) → ltb N n || not (in_range A E) ≡ false → plain_of s n E ≡ Ok (plain_by (said_by s.held) E n)
   unfolding plain_of
   plain_stands n E h = rw (right, h)
 
@@ -103,7 +103,7 @@ module _ (s : Store) (right : right_shape s ≡ true) where
   unfolding context_of plain_bytes
   read_stands (question n E) w =
       let p = passed _ _ _ w (λ z. omega arith) in
-      ap (λ (x : Answer). reads (question n E) x s []) (question_stands n E (test_off (ltb N n || not (in_range A E)) (or_test (less_test N n) (outside_test s E)) p.0))
+      ap (λ (x : Result Answer Reply). reads (question n E) x s []) (question_stands n E (test_off (ltb N n || not (in_range A E)) (or_test (less_test N n) (outside_test s E)) p.0))
   read_stands (context E out) w =
       let p = passed _ _ _ w (λ z. omega arith) in
       let q = passed _ _ _ p.1 (λ z. omega arith) in
@@ -111,7 +111,7 @@ module _ (s : Store) (right : right_shape s ≡ true) where
       ap₂ (λ (x : Reply) (b : List ℕ). reads (context E out) x s b) d (context_stands E out d)
   read_stands (member n place) w =
       let p = passed _ _ _ w (λ z. omega arith) in
-      ap (λ (x : Found). reads (member n place) x s []) (member_stands n place (test_off (ltb N n) (less_test N n) p.0))
+      ap (λ (x : Result ℕ Reply). reads (member n place) x s []) (member_stands n place (test_off (ltb N n) (less_test N n) p.0))
   read_stands (line n out) w =
       let p = passed _ _ _ w (λ z. omega arith) in
       let q = passed _ _ _ p.1 (λ z. omega arith) in
@@ -130,7 +130,7 @@ module _ (s : Store) (right : right_shape s ≡ true) where
       ap (λ (x : Wrote). reads (file out) x.answer s x.bytes) (writing_stands out (test_off (ltb (length out) (length t)) (less_test (length out) (length t)) p.0))
   read_stands (plainly n E) w =
       let p = passed _ _ _ w (λ z. omega arith) in
-      ap (λ (x : Plain). reads (plainly n E) x s []) (plain_stands n E (test_off (ltb N n || not (in_range A E)) (or_test (less_test N n) (outside_test s E)) p.0))
+      ap (λ (x : Result Plain Reply). reads (plainly n E) x s []) (plain_stands n E (test_off (ltb N n || not (in_range A E)) (or_test (less_test N n) (outside_test s E)) p.0))
   read_stands (plain_context E out) w =
       let p = passed _ _ _ w (λ z. omega arith) in
       let q = passed _ _ _ p.1 (λ z. omega arith) in

@@ -1,4 +1,7 @@
 -- The reply table of our calls. Assumes nothing.
+use Rattle.promises.proofs.Keeping.{lines_number}
+use Rattle.std.specs.Prelude.{Result, Ok, Err}
+use Rattle.bare.specs.declared.Told.{Told}
 use mathlib.Core.Bool.{Bool, ◌||◌, false, not, true}
 use mathlib.Core.List.Memᴰ
 use mathlib.Core.List.Memᴰ.{head as here}
@@ -11,24 +14,22 @@ use Prim.Native.Nat.{◌+◌, ◌<◌, ◌^◌, ◌≤◌, ℕ}
 use native.Mathlib.Omega.{arith}
 use lib.Dec.{eqb, leb, ltb}
 use lib.ListN.{drop, get_or, length}
-use borrow.Author.Tests.{le-ltb, ltb-false, not-false, not-true}
+use borrow.Author.Tests.{eq-eqb, le-ltb, ltb-false, not-false, not-true}
 use Rattle.asking.specs.Asking.{answer_number, context_reply, first_in, member_at, member_number, member_of, question_of, reasoned, standing}
-use Rattle.asking.specs.declared.Answer.TheVariants.{Refused}
-use Rattle.asking.specs.declared.Found.TheVariants.{Is, Not}
-use Rattle.bare.specs.Bare.{Answered, answered, ask_of, barely, faults_of, refused_as, tell_of, told_number, wrote_as}
+use Rattle.bare.specs.Bare.{Answered, answered, ask_of, barely, faults_of, tell_of, told_number, wrote_as, in_kind, said_as}
 use Rattle.bare.specs.declared.Query.{Query}
-use Rattle.bare.specs.declared.Told.TheVariants.{Filled, Word}
+use Rattle.bare.specs.declared.Told.TheVariants.{Filled, Word, Lines}
 use Rattle.bare.specs.declared.What.{What}
 use Rattle.bare.specs.declared.What.TheVariants.{Context, Number as Of, Stages}
 use Rattle.casefile.specs.Load.{load_of}
 use Rattle.handed.specs.Supplied.{supplied_by}
 use Rattle.handed.specs.declared.Handed.{Handed}
 use Rattle.lent.specs.Lent.{Wrote, fitted, kept, written_number}
-use Rattle.lent.specs.declared.Written.TheVariants.{Length}
+use Rattle.std.proofs.Common.{Ok}
 use Rattle.lines.specs.Lines.{case_text, heading_of, line_of, line_text, refusal_text}
 use Rattle.numbers.specs.Numbers.{number_at}
 use Rattle.plain.specs.Plainly.{plain_by, plain_number, plain_of}
-use Rattle.plain.specs.declared.Plain.TheVariants.{Inconsistent, Refused as Unsaid, Supported, Unsupported}
+use Rattle.plain.specs.declared.Plain.TheVariants.{Inconsistent, Supported, Unsupported}
 use Rattle.promises.proofs.Filing.{decode_one, decode_told, load_names, load_one, load_told, report_of}
 use Rattle.promises.proofs.Full.{VerdictSays, judge_says}
 use Rattle.promises.proofs.Rows.{Names, Tests, by_choice, exactly, fault_told, given_one, less_test, most_test, names_choice, no_row_one, not_test, or_test, outside_test, stages_name, stages_one, stages_told, unnamed}
@@ -277,43 +278,31 @@ all_told s l out =
 
 fitted_told : (t out : List ℕ) → given (length out < length t) 15 no_row (wrote (fitted t out))
 unfolding fitted
-fitted_told t out = by_choice no_row wrote (ltb (length out) (length t)) (kept Short out) (record { answer = Length (length t); bytes = t ++ drop (length t) out }) (less_test (length out) (length t)) refl (λ z. refl)
+fitted_told t out = by_choice no_row wrote (ltb (length out) (length t)) (kept Short out) (record { answer = Ok (length t); bytes = t ++ drop (length t) out }) (less_test (length out) (length t)) refl (λ z. refl)
 
 -- none of the three answers is a refusal
-pub standing_zero : (l : Lists) (n E : ℕ) → answer_number (standing l n E) ≡ 0
-unfolding standing
-standing_zero l n E = go (first_in (nogoods_held l) E) (first_in (label_held l n) E)
-  where
-    go : (g m : Option ℕ) → answer_number (reasoned g m) ≡ 0
-    go (some G) m = refl
-    go none (some F) = refl
-    go none none = refl
+pub standing_zero : (l : Lists) (n E : ℕ) → answer_number (Ok (standing l n E)) ≡ 0
+standing_zero l n E = refl
 
-pub plain_zero : (J : List Justification) (E n : ℕ) → plain_number (plain_by J E n) ≡ 0
-unfolding plain_by
-plain_zero J E n = go (contradicts J E) (carries J E n)
-  where
-    go : (b c : Bool) → plain_number (choose b Inconsistent (choose c Supported Unsupported)) ≡ 0
-    go true c = refl
-    go false true = refl
-    go false false = refl
+pub plain_zero : (J : List Justification) (E n : ℕ) → plain_number (Ok (plain_by J E n)) ≡ 0
+plain_zero J E n = refl
 
 module _ (s : Store) where
   read_told : (a : Ask) → AskRows s a (number_said a (read_of s a).said)
   unfolding question_of context_reply member_of member_at line_of heading_of listed_of write_of plain_of stages_of
   read_told (question n E) =
       let out : Bool = ltb (top s.held) n || not (in_range s.held.assumptions E) in
-      by_choice _ answer_number (not (right_shape s)) (Refused Shape) (choose out (Refused Number) (standing s.lists n E)) (not_test (right_shape s)) refl
-      (λ p. by_choice no_row answer_number out (Refused Number) (standing s.lists n E) (or_test (less_test (top s.held) n) (outside_test s E)) refl (λ q. standing_zero s.lists n E))
+      by_choice _ answer_number (not (right_shape s)) (Err Shape) (choose out (Err Number) (Ok (standing s.lists n E))) (not_test (right_shape s)) refl
+      (λ p. by_choice no_row answer_number out (Err Number) (Ok (standing s.lists n E)) (or_test (less_test (top s.held) n) (outside_test s E)) refl (λ q. standing_zero s.lists n E))
   read_told (context E out) =
       by_choice _ number_of (not (right_shape s)) Shape (choose (not (in_range s.held.assumptions E)) Number (choose (ltb (length out) (top s.held + 1)) Short Done)) (not_test (right_shape s)) refl
       (λ p. by_choice _ number_of (not (in_range s.held.assumptions E)) Number (choose (ltb (length out) (top s.held + 1)) Short Done) (outside_test s E) refl
       (λ q. by_choice no_row number_of (ltb (length out) (top s.held + 1)) Short Done (less_test (length out) (top s.held + 1)) refl (λ z. refl)))
   read_told (member n place) =
       let l : List ℕ = list_held s.lists n in
-      by_choice _ member_number (not (right_shape s)) (Not Shape) (choose (ltb (top s.held) n) (Not Number) (choose (leb (length l) place) (Not Place) (Is (get_or l place 0)))) (not_test (right_shape s)) refl
-      (λ p. by_choice _ member_number (ltb (top s.held) n) (Not Number) (choose (leb (length l) place) (Not Place) (Is (get_or l place 0))) (less_test (top s.held) n) refl
-      (λ q. by_choice no_row member_number (leb (length l) place) (Not Place) (Is (get_or l place 0)) (most_test (length l) place) refl (λ z. refl)))
+      by_choice _ member_number (not (right_shape s)) (Err Shape) (choose (ltb (top s.held) n) (Err Number) (choose (leb (length l) place) (Err Place) (Ok (get_or l place 0)))) (not_test (right_shape s)) refl
+      (λ p. by_choice _ member_number (ltb (top s.held) n) (Err Number) (choose (leb (length l) place) (Err Place) (Ok (get_or l place 0))) (less_test (top s.held) n) refl
+      (λ q. by_choice no_row member_number (leb (length l) place) (Err Place) (Ok (get_or l place 0)) (most_test (length l) place) refl (λ z. refl)))
   read_told (line n out) =
       let w : Wrote = fitted (line_text s n) out in
       by_choice _ wrote (not (right_shape s)) (kept Shape out) (choose (ltb (top s.held) n) (kept Number out) w) (not_test (right_shape s)) refl
@@ -323,8 +312,8 @@ module _ (s : Store) where
   read_told (file out) = by_choice _ wrote (not (right_shape s)) (kept Shape out) (fitted (file_of s.held) out) (not_test (right_shape s)) refl (λ p. fitted_told (file_of s.held) out)
   read_told (plainly n E) =
       let out : Bool = ltb (top s.held) n || not (in_range s.held.assumptions E) in
-      by_choice _ plain_number (not (right_shape s)) (Unsaid Shape) (choose out (Unsaid Number) (plain_by (said_by s.held) E n)) (not_test (right_shape s)) refl
-      (λ p. by_choice no_row plain_number out (Unsaid Number) (plain_by (said_by s.held) E n) (or_test (less_test (top s.held) n) (outside_test s E)) refl (λ q. plain_zero (said_by s.held) E n))
+      by_choice _ plain_number (not (right_shape s)) (Err Shape) (choose out (Err Number) (Ok (plain_by (said_by s.held) E n))) (not_test (right_shape s)) refl
+      (λ p. by_choice no_row plain_number out (Err Number) (Ok (plain_by (said_by s.held) E n)) (or_test (less_test (top s.held) n) (outside_test s E)) refl (λ q. plain_zero (said_by s.held) E n))
   read_told (plain_context E out) =
       by_choice _ number_of (not (right_shape s)) Shape (choose (not (in_range s.held.assumptions E)) Number (choose (ltb (length out) (top s.held + 1)) Short Done)) (not_test (right_shape s)) refl
       (λ p. by_choice _ number_of (not (in_range s.held.assumptions E)) Number (choose (ltb (length out) (top s.held + 1)) Short Done) (outside_test s E) refl
@@ -348,11 +337,6 @@ module _ (s : Store) where
 
 -- ---- a bare list
 
-refused_number : (w : What) (r : Reply) → told_number (refused_as w r) ≡ number_of r
-refused_number (Of n) r = refl
-refused_number Context r = refl
-refused_number Stages r = refl
-
 module _ (N : ℕ) (g : Reply → ℕ) (e₆ : g Supports ≡ 6) (e₄ : g Number ≡ 4) (e₅ : g Falsity ≡ 5) (e₁₇ : g Itself ≡ 17) (next : ℕ → Type 0) where
   items_told : (l : List Handed) → (faults_of N l ≡ Done → next (g Done)) → ItemRows N l next (g (faults_of N l))
   unfolding ItemRows faults_of
@@ -374,7 +358,7 @@ module _ (q : Query) (l : List Handed) (out : List ℕ) where
   answered_by x = told_number x.answer
 
   abbrev refusal_of_lem : Reply → Answered
-  refusal_of_lem r = answered (refused_as q.what r) out
+  refusal_of_lem r = answered (Err r) out
 
   set_test : Tests (not (in_range q.assumptions q.set)) (2 ^ q.assumptions ≤ q.set)
   unfolding in_range
@@ -385,17 +369,17 @@ module _ (q : Query) (l : List Handed) (out : List ℕ) where
   abbrev LastRows : What → ℕ → Type 0
   LastRows w = given (AskedOver Q w ⊎ (2 ^ q.assumptions ≤ q.set)) 4 (given (TooFew Q (barely Q l) q.set w out) 15 no_row)
 
-  last_told : (w : What) (b : Bool) → Tests b (2 ^ q.assumptions ≤ q.set) → LastRows w (answered_by (choose b (answered (refused_as w Number) out) (tell_of Q (barely Q l) q.set w out)))
+  last_told : (w : What) (b : Bool) → Tests b (2 ^ q.assumptions ≤ q.set) → LastRows w (answered_by (choose b (answered (Err Number) out) (tell_of Q (barely Q l) q.set w out)))
   unfolding given
-  last_told w true t = inl (inr (t.so refl), refused_number w Number)
+  last_told w true t = inl (inr (t.so refl), refl)
   last_told (Of n) false t = go (ltb Q n) (less_test Q n)
     where
-      go : (o : Bool) → Tests o (Q < n) → LastRows (Of n) (plain_number (choose o (Unsaid Number) (plain_by (barely Q l) q.set n)))
+      go : (o : Bool) → Tests o (Q < n) → LastRows (Of n) (told_number (choose o (Err Number) (Ok (Word (plain_by (barely Q l) q.set n)))))
       go true u = inl (inl (u.so refl), refl)
-      go false u = inr (⊎_elim (u.not_so refl) (t.not_so refl), inr (λ z. z, plain_zero (barely Q l) q.set n))
+      go false u = inr (⊎_elim (u.not_so refl) (t.not_so refl), inr (λ z. z, refl))
   last_told Context false t =
-      inr (⊎_elim (λ z. z) (t.not_so refl), by_choice no_row answered_by (ltb (length out) (Q + 1)) (answered (Filled Short) out) _ (less_test (length out) (Q + 1)) refl (λ z. refl))
-  last_told Stages false t = inr (⊎_elim (λ z. z) (t.not_so refl), fitted_told (stage_text Q (barely Q l) q.set) out)
+      inr (⊎_elim (λ z. z) (t.not_so refl), by_choice no_row answered_by (ltb (length out) (Q + 1)) (answered (Err Short) out) _ (less_test (length out) (Q + 1)) refl (λ z. refl))
+  last_told Stages false t = inr (⊎_elim (λ z. z) (t.not_so refl), subst (given (TooFew Q (barely Q l) q.set Stages out) 15 no_row) (sym (lines_number (fitted (stage_text Q (barely Q l) q.set) out).answer)) (fitted_told (stage_text Q (barely Q l) q.set) out))
 
   abbrev after_items : Reply → Answered
   after_items r = choose (not (is_done r)) (refusal_of_lem r) (choose (not (in_range q.assumptions q.set)) (refusal_of_lem Number) (tell_of Q (barely Q l) q.set q.what out))
@@ -403,44 +387,76 @@ module _ (q : Query) (l : List Handed) (out : List ℕ) where
   bare_told : BareRows q l out (answered_by (ask_of q l out))
   unfolding ask_of
   bare_told =
-      by_choice _ answered_by (ltb limits.assumptions q.assumptions || ltb limits.claims q.claims) (refusal_of_lem Counts) (after_items (faults_of Q l)) (or_test (less_test limits.assumptions q.assumptions) (less_test limits.claims q.claims)) (refused_number q.what Counts)
-      (λ p. items_told Q (λ r. answered_by (after_items r)) (refused_number q.what Supports) (refused_number q.what Number) (refused_number q.what Falsity) (refused_number q.what Itself) (LastRows q.what) l
+      by_choice _ answered_by (ltb limits.assumptions q.assumptions || ltb limits.claims q.claims) (refusal_of_lem Counts) (after_items (faults_of Q l)) (or_test (less_test limits.assumptions q.assumptions) (less_test limits.claims q.claims)) refl
+      (λ p. items_told Q (λ r. answered_by (after_items r)) refl refl refl refl (LastRows q.what) l
       (λ d. last_told q.what (not (in_range q.assumptions q.set)) set_test))
 
   bare_one : One (BareRows q l out)
   bare_one = given_one _ _ _ (items_one Q (LastRows q.what) (given_one _ _ _ (given_one _ _ _ no_row_one)) l)
 
-  -- ---- a refusal is said in the kind of what is asked
-  abbrev Kind : What → Answered → Type 0
-  Kind w x = (told_number x.answer ≡ 0 → ⊥) → (r : Reply) × (x.answer ≡ refused_as w r)
+  -- ---- what is not refused is answered in the kind of what is asked
+  pub bare_kind : (told_number (ask_of q l out).answer ≡ 0 → ⊥) → (r : Reply) × ((ask_of q l out).answer ≡ Err r)
+  bare_kind = go (ask_of q l out).answer
+    where
+      go : (x : Result Told Reply) → (told_number x ≡ 0 → ⊥) → (r : Reply) × (x ≡ Err r)
+      go (Ok t) k = absurd (k refl)
+      go (Err r) k = (r, refl)
 
-  kind_choose : (w : What) (b : Bool) (r : Reply) (y : Answered) → Kind w y → Kind w (choose b (answered (refused_as w r) out) y)
-  kind_choose w true r y k n = (r, refl)
-  kind_choose w false r y k n = k n
+  abbrev Kind : What → Answered → Type 0
+  Kind w x = (t : Told) → x.answer ≡ Ok t → in_kind w t ≡ true
+
+  kind_choose : (w : What) (b : Bool) (r : Reply) (y : Answered) → Kind w y → Kind w (choose b (answered (Err r) out) y)
+  kind_choose w true r y k t e = cc
+  kind_choose w false r y k t e = k t e
+
+  kind_said : {X : Type 0} (w : What) (say : X → Told) → ((x : X) → in_kind w (say x) ≡ true) → (r : Result X Reply) (t : Told) → said_as say r ≡ Ok t → in_kind w t ≡ true
+  kind_said w say k (Ok x) t e = let same : say x ≡ t = cc in subst (λ (y : Told). in_kind w y ≡ true) same (k x)
+  kind_said w say k (Err r) t e = cc
 
   tell_kind : (w : What) → Kind w (tell_of Q (barely Q l) q.set w out)
-  unfolding fitted
-  tell_kind (Of n) = go (ltb Q n)
+  tell_kind (Of n) = word_kind (ltb Q n)
     where
-      go : (b : Bool) → Kind (Of n) (answered (Word (choose b (Unsaid Number) (plain_by (barely Q l) q.set n))) out)
-      go true k = (Number, refl)
-      go false k = absurd (k (plain_zero (barely Q l) q.set n))
-  tell_kind Context = kind_choose Context (ltb (length out) (Q + 1)) Short _ (λ k. absurd (k refl))
-  tell_kind Stages = go (ltb (length out) (length t))
-    where
-      t : List ℕ
-      t = stage_text Q (barely Q l) q.set
+      word_kind : (b : Bool) → Kind (Of n) (answered (choose b (Err Number) (Ok (Word (plain_by (barely Q l) q.set n)))) out)
+      word_kind true t e = cc
+      word_kind false t e = let same : Word (plain_by (barely Q l) q.set n) ≡ t = cc in subst (λ (y : Told). in_kind (Of n) y ≡ true) same refl
+  tell_kind Context = kind_choose Context (ltb (length out) (Q + 1)) Short _ (λ t e. let same : Filled ≡ t = cc in subst (λ (y : Told). in_kind Context y ≡ true) same refl)
+  tell_kind Stages = kind_said Stages Lines (λ n. refl) (fitted (stage_text Q (barely Q l) q.set) out).answer
 
-      go : (b : Bool) → Kind Stages (wrote_as (choose b (kept Short out) (record { answer = Length (length t); bytes = t ++ drop (length t) out })))
-      go true k = (Short, refl)
-      go false k = absurd (k refl)
-
-  pub bare_kind : (told_number (ask_of q l out).answer ≡ 0 → ⊥) → (r : Reply) × ((ask_of q l out).answer ≡ refused_as q.what r)
+  pub bare_done : Kind q.what (ask_of q l out)
   unfolding ask_of
-  bare_kind =
+  bare_done =
       let w : What = q.what in
       kind_choose w (ltb limits.assumptions q.assumptions || ltb limits.claims q.claims) Counts _
       (kind_choose w (not (is_done (faults_of Q l))) (faults_of Q l) _ (kind_choose w (not (in_range q.assumptions q.set)) Number _ (tell_kind w)))
+
+  -- ---- what no number refuses is an answer
+  abbrev Answers0 : Answered → Type 0
+  Answers0 x = told_number x.answer ≡ 0 → (t : Told) × (x.answer ≡ Ok t)
+
+  said_choose : (b : Bool) (r : Reply) (y : Answered) → (b ≡ true → number_of r ≡ 0 → ⊥) → Answers0 y → Answers0 (choose b (answered (Err r) out) y)
+  said_choose true r y k h z = absurd (k refl z)
+  said_choose false r y k h z = h z
+
+  tell_said : (w : What) → Answers0 (tell_of Q (barely Q l) q.set w out)
+  unfolding fitted
+  tell_said (Of n) = word_said (ltb Q n)
+    where
+      word_said : (b : Bool) → Answers0 (answered (choose b (Err Number) (Ok (Word (plain_by (barely Q l) q.set n)))) out)
+      word_said true z = absurd (omega arith)
+      word_said false z = (_, refl)
+  tell_said Context = said_choose (ltb (length out) (Q + 1)) Short _ (λ p z. omega arith) (λ z. (_, refl))
+  tell_said Stages = lines_said (ltb (length out) (length (stage_text Q (barely Q l) q.set)))
+    where
+      lines_said : (b : Bool) → Answers0 (wrote_as (choose b (kept Short out) (record { answer = Ok (length (stage_text Q (barely Q l) q.set)); bytes = stage_text Q (barely Q l) q.set ++ drop (length (stage_text Q (barely Q l) q.set)) out })))
+      lines_said true z = absurd (omega arith)
+      lines_said false z = (_, refl)
+
+  pub bare_said : Answers0 (ask_of q l out)
+  unfolding ask_of
+  bare_said =
+      said_choose (ltb limits.assumptions q.assumptions || ltb limits.claims q.claims) Counts _ (λ p z. omega arith)
+      (said_choose (not (is_done (faults_of Q l))) (faults_of Q l) _ (λ p z. let e : is_done (faults_of Q l) ≡ true = eq-eqb _ 0 z in cc)
+      (said_choose (not (in_range q.assumptions q.set)) Number _ (λ p z. omega arith) (tell_said q.what)))
 
 -- ---- all of it
 

@@ -1,8 +1,8 @@
 -- Byte 3 and the word `contradicted` of lists as they stand, forged or not. Assumes nothing.
+use Rattle.std.specs.Prelude.{Option, Some, None}
 use mathlib.Core.Bool.{Bool, ◌&&◌, false, true}
 use mathlib.Core.List.{List, [], ◌∷◌}
 use mathlib.Core.Logic.{◌↔◌}
-use mathlib.Core.Option.{Option, none, some}
 use mathlib.Core.Path.{◌∙◌, ◌≡◌, ap, refl, sym}
 use Prim.Native.Nat.{suc, ℕ}
 use native.Mathlib.Omega.{arith}
@@ -31,14 +31,14 @@ third_word i (F ∷ l) c = (λ e. absurd (differ (ap length e)), λ p. absurd (f
     filled e = omega arith
 
 abbrev many : Option ℕ → ℕ
-many none = 0
-many (some n) = 1
+many None = 0
+many (Some n) = 1
 
 -- the byte of it, g the nogood found within the set
 pub third_byte : (i E : ℕ) (g : Option ℕ) (l : List ℕ) (c : Bool)
-    → (byte_of (eqb (length l) 0 && c) (reasoned g (first_in l E)) ≡ 3) ↔ ((g ≡ none) × (word_of (suc i) l c ≡ word " contradicted"))
+    → (byte_of (eqb (length l) 0 && c) (reasoned g (first_in l E)) ≡ 3) ↔ ((g ≡ None) × (word_of (suc i) l c ≡ word " contradicted"))
 unfolding first_in
-third_byte i E (some G) l c = (λ e. absurd (two e), λ p. absurd (found p.0))
+third_byte i E (Some G) l c = (λ e. absurd (two e), λ p. absurd (found p.0))
   where
     two : ◌≡◌ {A = ℕ} 2 3 → ⊥
     two e = omega arith
@@ -46,21 +46,21 @@ third_byte i E (some G) l c = (λ e. absurd (two e), λ p. absurd (found p.0))
     alone : ◌≡◌ {A = ℕ} 1 0 → ⊥
     alone e = omega arith
 
-    found : ◌≡◌ {A = Option ℕ} (some G) none → ⊥
+    found : ◌≡◌ {A = Option ℕ} (Some G) None → ⊥
     found e = alone (ap many e)
-third_byte i E none [] true = (λ e. (refl, (third_word i [] true).1 (refl, refl)), λ p. three)
+third_byte i E None [] true = (λ e. (refl, (third_word i [] true).1 (refl, refl)), λ p. three)
   where
-    three : byte_of true (reasoned none (first_in [] E)) ≡ 3
+    three : byte_of true (reasoned None (first_in [] E)) ≡ 3
     three = refl
-third_byte i E none [] false = (λ e. absurd (none_such e), λ p. clash ((third_word i [] false).0 p.1).1 refl)
+third_byte i E None [] false = (λ e. absurd (none_such e), λ p. clash ((third_word i [] false).0 p.1).1 refl)
   where
-    none_such : byte_of false (reasoned none (first_in [] E)) ≡ 3 → ⊥
+    none_such : byte_of false (reasoned None (first_in [] E)) ≡ 3 → ⊥
     none_such e = omega arith
-third_byte i E none (F ∷ l) c = (λ e. absurd (never (first_in (F ∷ l) E) (sym (ap (λ (b : Bool). byte_of (b && c) (reasoned none (first_in (F ∷ l) E))) (ne_eqb (length (F ∷ l)) 0 filled)) ∙ e)), λ p. absurd (filled (ap length ((third_word i (F ∷ l) c).0 p.1).0)))
+third_byte i E None (F ∷ l) c = (λ e. absurd (never (first_in (F ∷ l) E) (sym (ap (λ (b : Bool). byte_of (b && c) (reasoned None (first_in (F ∷ l) E))) (ne_eqb (length (F ∷ l)) 0 filled)) ∙ e)), λ p. absurd (filled (ap length ((third_word i (F ∷ l) c).0 p.1).0)))
   where
     filled : ◌≡◌ {A = ℕ} (suc (length l)) 0 → ⊥
     filled e = omega arith
 
-    never : (o : Option ℕ) → byte_of false (reasoned none o) ≡ 3 → ⊥
-    never (some G) e = omega arith
-    never none e = omega arith
+    never : (o : Option ℕ) → byte_of false (reasoned None o) ≡ 3 → ⊥
+    never (Some G) e = omega arith
+    never None e = omega arith

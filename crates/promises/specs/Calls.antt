@@ -1,16 +1,13 @@
 -- The calls as one value, so that a demand can be said of any program. Assumes nothing.
-use Rattle.std.specs.Prelude.{Bool, List, [], ◌++◌, ℕ, drop, length}
+use Rattle.std.specs.Prelude.{Bool, List, [], ◌++◌, ℕ, drop, length, Result, Ok}
 use Rattle.asking.specs.Asking.{Left, answer_number, context_bytes, context_reply, left, member_number, member_of, question_of}
 use Rattle.asking.specs.declared.Answer.{Answer}
-use Rattle.asking.specs.declared.Found.{Found}
 use Rattle.bare.specs.Bare.{Answered, ask_of}
 use Rattle.bare.specs.declared.Query.{Query}
 use Rattle.casefile.specs.Load.{load_of}
 use Rattle.casefile.specs.declared.Loaded.{Loaded}
 use Rattle.handed.specs.declared.Handed.{Handed}
 use Rattle.lent.specs.Lent.{Wrote, fitted, written_number}
-use Rattle.lent.specs.declared.Written.{Written}
-use Rattle.lent.specs.declared.Written.TheVariants.{Length}
 use Rattle.lines.specs.Lines.{heading_of, line_of, refusal_text}
 use Rattle.numbers.specs.Numbers.{number_at}
 use Rattle.numbers.specs.declared.Number.{Number}
@@ -52,16 +49,16 @@ pub data Ask : Type 0 where
 
 -- what is said to each
 abbrev pub Said : Ask → Type 0
-Said (question n E) = Answer
+Said (question n E) = Result Answer Reply
 Said (context E out) = Reply
-Said (member n place) = Found
-Said (line n out) = Written
-Said (case_line out) = Written
-Said (list_all out) = Written
-Said (file out) = Written
-Said (plainly n E) = Plain
+Said (member n place) = Result ℕ Reply
+Said (line n out) = Result ℕ Reply
+Said (case_line out) = Result ℕ Reply
+Said (list_all out) = Result ℕ Reply
+Said (file out) = Result ℕ Reply
+Said (plainly n E) = Result Plain Reply
 Said (plain_context E out) = Reply
-Said (stage_lines E out) = Written
+Said (stage_lines E out) = Result ℕ Reply
 
 -- the document's number of it
 abbrev pub number_said : (a : Ask) → Said a → ℕ
@@ -99,8 +96,8 @@ abbrev pub reads : (a : Ask) → Said a → Store → List ℕ → Read a
 reads a x s b = record { said = x; store = s; bytes = b }
 
 -- the text t and its length, bytes after it kept
-abbrev pub written : List ℕ → Written
-written t = Length (length t)
+abbrev pub written : List ℕ → Result ℕ Reply
+written t = Ok (length t)
 
 abbrev pub over : List ℕ → List ℕ → List ℕ
 over t out = t ++ drop (length t) out
@@ -125,7 +122,7 @@ pub record Calls : Type 0 where
   -- what the listing program prints of the bytes of a file, into lent bytes
   pub printing : List ℕ → List ℕ → Wrote
   -- the number at a place of the bytes of a file
-  pub decoding : List ℕ → ℕ → Number
+  pub decoding : List ℕ → ℕ → Result Number Reply
   -- what is asked of a bare list of justifications, with lent bytes; no store is in it
   pub bare : Query → List Handed → List ℕ → Answered
 

@@ -1,5 +1,5 @@
 -- The calls held to the compiled code: of any arguments, each of the functions ends, is safe, and answers and leaves in the lent bytes what C says. Assumes nothing.
-use Rattle.std.specs.Prelude.{List, ◌≡◌, ℕ}
+use Rattle.std.specs.Prelude.{List, ◌≡◌, ℕ, Result}
 use Rattle.asking.specs.contracts.context as context-at
 use Rattle.asking.proofs.context.Reads as context-reads
 use Rattle.asking.proofs.context.Symbol as context-code
@@ -35,7 +35,6 @@ use Rattle.lines.proofs.refusal.Reads as refusal-reads
 use Rattle.lines.proofs.refusal.Symbol as refusal-code
 use Rattle.lent.specs.Lent.{Wrote}
 use Rattle.lent.specs.declared.Listed.{Listed}
-use Rattle.lent.specs.declared.Written.{Written}
 use Rattle.numbers.specs.contracts.read as read_at
 use Rattle.numbers.proofs.read.Reads as read-reads
 use Rattle.numbers.proofs.read.Symbol as read-code
@@ -72,6 +71,7 @@ use Rattle.store.specs.Calls.{answer}
 use Rattle.writing.specs.contracts.write as write-at
 use Rattle.writing.proofs.write.Reads as write-reads
 use Rattle.writing.proofs.write.Symbol as write-code
+use Rattle.replies.specs.declared.Reply.{Reply}
 
 -- ---- the structs in which the code hands over what a call leaves
 
@@ -105,7 +105,7 @@ plain_contexted x = left (answer x.said x.store) x.bytes
 abbrev pub staged : {E : ℕ} {out : List ℕ} → Read (stage_lines E out) → Listed
 staged x = record { answer = x.said; store = x.store }
 
-abbrev pub wrote : Written → List ℕ → Wrote
+abbrev pub wrote : Result ℕ Reply → List ℕ → Wrote
 wrote r b = record { answer = r; bytes = b }
 
 -- what `add_all` ensures

@@ -1,6 +1,7 @@
 -- Demand 1: every call ends, for every input, and does nothing undefined; bad numbers, bad files and stores of the wrong shape are refused by number; a refusal hands back the store it was given and changes no byte of any buffer. Assumes nothing.
-use Rattle.std.specs.Prelude.{List, ◌≡◌, ℕ}
-use Rattle.bare.specs.Bare.{refused_as, told_number}
+use Rattle.std.specs.Prelude.{List, ◌≡◌, ℕ, Ok, Err, true}
+use Rattle.bare.specs.Bare.{in_kind, told_number}
+use Rattle.bare.specs.declared.Told.{Told}
 use Rattle.bare.specs.declared.Query.{Query}
 use Rattle.handed.specs.declared.Handed.{Handed}
 use Rattle.lent.specs.Lent.{written_number}
@@ -33,8 +34,11 @@ pub record Refusals (C : Calls) : Type 0 where
   pub bytes : (s : Store) (a : Ask) → (number_said a (C.reading s a).said ≡ 0 → ⊥) → (C.reading s a).bytes ≡ lent_to a
   pub refusal_bytes : (r : Reply) (k : ℕ) (out : List ℕ) → (written_number (C.refusal r k out).answer ≡ 0 → ⊥) → (C.refusal r k out).bytes ≡ out
   pub bare_bytes : (q : Query) (l : List Handed) (out : List ℕ) → (told_number (C.bare q l out).answer ≡ 0 → ⊥) → (C.bare q l out).bytes ≡ out
-  -- a refusal of a bare list is said as the call of a store says it: a word, the reply of the context, or that of the lines
-  pub bare_kind : (q : Query) (l : List Handed) (out : List ℕ) → (told_number (C.bare q l out).answer ≡ 0 → ⊥) → (r : Reply) × ((C.bare q l out).answer ≡ refused_as q.what r)
+  -- a refusal of a bare list is said as the call of a store says it; any other answer is a word, a context or lines, as is asked
+  pub bare_kind : (q : Query) (l : List Handed) (out : List ℕ) → (told_number (C.bare q l out).answer ≡ 0 → ⊥) → (r : Reply) × ((C.bare q l out).answer ≡ Err r)
+  pub bare_done : (q : Query) (l : List Handed) (out : List ℕ) → (t : Told) → (C.bare q l out).answer ≡ Ok t → in_kind q.what t ≡ true
+  -- and what no number refuses is such an answer
+  pub bare_said : (q : Query) (l : List Handed) (out : List ℕ) → told_number (C.bare q l out).answer ≡ 0 → (t : Told) × ((C.bare q l out).answer ≡ Ok t)
   pub printing_bytes : (bytes out : List ℕ) → (written_number (C.printing bytes out).answer ≡ 0 → ⊥) → (C.printing bytes out).bytes ≡ out
 
 pub record Demand1 (C : Calls) : Type 2 where

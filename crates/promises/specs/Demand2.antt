@@ -1,10 +1,8 @@
 -- Demand 2, over what was put in and not over the store's arrays: answers, labels, nogoods, the depth, and when a list is called full. Assumes nothing.
-use Rattle.std.specs.Prelude.{Bool, ◌&&◌, false, not, true, ◌↔◌, ◌⊎◌, ◌≡◌, ◌+◌, ◌<◌, ◌^◌, ◌≤◌, suc, zero, ℕ, leb, drop, get_or, length}
+use Rattle.std.specs.Prelude.{Bool, ◌&&◌, false, not, true, ◌↔◌, ◌⊎◌, ◌≡◌, ◌+◌, ◌<◌, ◌^◌, ◌≤◌, suc, zero, ℕ, leb, drop, get_or, length, Result, Ok, Err}
 use mathlib.Core.List.{List, Memᴰ as Mem, ◌++◌}
 use Rattle.asking.specs.declared.Answer.{Answer}
-use Rattle.asking.specs.declared.Answer.TheVariants.{Inconsistent, Refused, Supported, Unsupported}
-use Rattle.asking.specs.declared.Found.{Found}
-use Rattle.asking.specs.declared.Found.TheVariants.{Is, Not}
+use Rattle.asking.specs.declared.Answer.TheVariants.{Inconsistent, Supported, Unsupported}
 use Rattle.casefile.specs.Case.{Case, case_of, whole}
 use Rattle.promises.specs.Calls.{Calls, case_line, context, line, list_all, member, over, question, reads, written}
 use Rattle.promises.specs.Made.{Input, Made, in_order, put_in}
@@ -39,12 +37,12 @@ pub record FirstOf (A : ℕ) (P : ℕ → Bool) (E F : ℕ) : Type 0 where
 -- ---- questions
 
 -- when each answer is given, of a number n and a set E in range, and which set it names
-abbrev pub QuestionSays : ℕ → Input → ℕ → ℕ → Answer → Type 0
-QuestionSays A H n E (Inconsistent G) = (contradicts H E ≡ true) × FirstOf A (contradicts H) E G
+abbrev pub QuestionSays : ℕ → Input → ℕ → ℕ → Result Answer Reply → Type 0
+QuestionSays A H n E (Ok (Inconsistent G)) = (contradicts H E ≡ true) × FirstOf A (contradicts H) E G
 -- the set contradicts nothing and n follows from it by the rules held
-QuestionSays A H n E (Supported F) = (carries H E n ≡ true) × FirstOf A (λ D. carries H D n) E F
-QuestionSays A H n E Unsupported = (contradicts H E ≡ false) × (carries H E n ≡ false)
-QuestionSays A H n E (Refused r) = ⊥
+QuestionSays A H n E (Ok (Supported F)) = (carries H E n ≡ true) × FirstOf A (λ D. carries H D n) E F
+QuestionSays A H n E (Ok Unsupported) = (contradicts H E ≡ false) × (carries H E n ≡ false)
+QuestionSays A H n E (Err r) = ⊥
 
 -- some set of A assumptions carries n
 unfoldable pub carried_by : ℕ → Input → ℕ → Bool
@@ -72,8 +70,8 @@ listed_for H zero E = contradicts H E
 listed_for H (suc i) E = carries H E (suc i)
 
 -- the set at that place of a list
-abbrev pub at_place : List ℕ → ℕ → Found
-at_place l place = choose (leb (length l) place) (Not Place) (Is (get_or l place 0))
+abbrev pub at_place : List ℕ → ℕ → Result ℕ Reply
+at_place l place = choose (leb (length l) place) (Err Place) (Ok (get_or l place 0))
 
 -- the word of n: `nogood` for 0; for the others `supported` where some set carries it, else `contradicted` where it follows from all assumptions together, else `unsupported`
 unfoldable pub word_by : ℕ → Input → ℕ → List ℕ
@@ -101,7 +99,7 @@ pub record IsDepth (A N : ℕ) (H : Input) (k : ℕ) : Type 0 where
 
 pub record Tells (C : Calls) (A M : ℕ) (H : Input) (s : Store) : Type 0 where
   -- for every number and every set of assumptions
-  pub question : (n E : ℕ) → n ≤ A + M → E < 2 ^ A → (a : Answer) → ((C.reading s (question n E)).said ≡ a) ↔ QuestionSays A H n E a
+  pub question : (n E : ℕ) → n ≤ A + M → E < 2 ^ A → (a : Result Answer Reply) → ((C.reading s (question n E)).said ≡ a) ↔ QuestionSays A H n E a
   -- byte n, for n from 0 to A + M; bytes from A + M + 1 on are kept
   pub context : (E : ℕ) (out : List ℕ) → E < 2 ^ A → A + M + 1 ≤ length out → C.reading s (context E out) ≡ reads (context E out) Done s (table (A + M + 1) (byte_by A H E) ++ drop (A + M + 1) out)
   -- each label lists the sets of this kind that have no smaller one inside them, all of them, once; so do the nogoods

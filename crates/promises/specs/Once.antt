@@ -17,8 +17,8 @@ use Rattle.items.specs.contracts.header as header_at
 use Rattle.items.proofs.header.Reads as header-reads
 use Rattle.items.specs.contracts.record as record-at
 use Rattle.items.proofs.record.Reads as record-reads
-use Rattle.joining.specs.contracts.pool.late as late-at
-use Rattle.joining.proofs.pool.late.Reads as late-reads
+use Rattle.joining.specs.contracts.pool.Pool.late as late-at
+use Rattle.joining.proofs.pool.Pool.late.Reads as late-reads
 use Rattle.labels.specs.contracts.build as build-at
 use Rattle.labels.proofs.build.Reads as build-reads
 use Rattle.members.specs.contracts.first_within as first-within-at
@@ -39,8 +39,10 @@ use Rattle.lines.specs.contracts.refusal as refusal-at
 use Rattle.lines.proofs.refusal.Reads as refusal-reads
 use Rattle.numbers.specs.contracts.read as read_at
 use Rattle.numbers.proofs.read.Reads as read-reads
-use Rattle.numbers.specs.contracts.two as two_at
-use Rattle.numbers.proofs.two.Reads as two-reads
+use Rattle.numbers.specs.contracts.Reader.number as next-number-at
+use Rattle.numbers.proofs.Reader.number.Reads as next-number-reads
+use Rattle.numbers.specs.contracts.Reader.two as two_at
+use Rattle.numbers.proofs.Reader.two.Reads as two-reads
 use Rattle.replies.specs.contracts.number as number_at
 use Rattle.replies.proofs.number.Reads as number-reads
 use Rattle.holding.specs.contracts.holds as holds_at
@@ -124,16 +126,24 @@ use Rattle.store.specs.contracts.Store.withdraw as withdraw-at
 use Rattle.store.proofs.Store.withdraw.Reads as withdraw-reads
 use Rattle.store.specs.contracts.judged as judged-at
 use Rattle.store.proofs.judged.Reads as judged-reads
-use Rattle.text.specs.contracts.braces as braces-at
-use Rattle.text.proofs.braces.Reads as braces-reads
-use Rattle.text.specs.contracts.copy as copy_at
-use Rattle.text.proofs.copy.Reads as copy-reads
-use Rattle.text.specs.contracts.head as head_at
-use Rattle.text.proofs.head.Reads as head-reads
-use Rattle.text.specs.contracts.line as row_at
-use Rattle.text.proofs.line.Reads as row_reads
-use Rattle.text.specs.contracts.refused as refused-at
-use Rattle.text.proofs.refused.Reads as refused-reads
+use Rattle.text.specs.contracts.Writer.braces as braces-at
+use Rattle.text.proofs.Writer.braces.Reads as braces-reads
+use Rattle.text.specs.contracts.Writer.word as copy_at
+use Rattle.text.proofs.Writer.word.Reads as copy-reads
+use Rattle.text.specs.contracts.Writer.head as head_at
+use Rattle.text.proofs.Writer.head.Reads as head-reads
+use Rattle.text.specs.contracts.Writer.line as row_at
+use Rattle.text.proofs.Writer.line.Reads as row_reads
+use Rattle.text.specs.contracts.Writer.refused as refused-at
+use Rattle.text.proofs.Writer.refused.Reads as refused-reads
+use Rattle.text.specs.contracts.Writer.new as begun-at
+use Rattle.text.proofs.Writer.new.Reads as begun-reads
+use Rattle.text.specs.contracts.Writer.byte as byte-at
+use Rattle.text.proofs.Writer.byte.Reads as byte-reads
+use Rattle.text.specs.contracts.Writer.text as text-at
+use Rattle.text.proofs.Writer.text.Reads as text-reads
+use Rattle.wording.specs.contracts.head as line-one-at
+use Rattle.wording.proofs.head.Reads as line-one-reads
 use Rattle.lent.specs.contracts.fit as fit_at
 use Rattle.lent.proofs.fit.Reads as fit-reads
 use Rattle.writing.specs.contracts.write as write-at
@@ -159,10 +169,10 @@ use Rattle.stagetext.specs.contracts.put as put-at
 use Rattle.stagetext.proofs.put.Reads as put_reads
 use Rattle.stagetext.specs.contracts.lines as stage-lines-at
 use Rattle.stagetext.proofs.lines.Reads as stage-lines-reads
-use Rattle.text.specs.contracts.number as digits-at
-use Rattle.text.proofs.number.Reads as digits-reads
-use Rattle.text.specs.contracts.field as spaced-at
-use Rattle.text.proofs.field.Reads as spaced-reads
+use Rattle.text.specs.contracts.Writer.number as digits-at
+use Rattle.text.proofs.Writer.number.Reads as digits-reads
+use Rattle.text.specs.contracts.Writer.field as spaced-at
+use Rattle.text.proofs.Writer.field.Reads as spaced-reads
 use Rattle.bare.specs.contracts.ask_some as ask-some-at
 use Rattle.bare.proofs.ask_some.Reads as ask-some-reads
 use Rattle.bare.specs.contracts.ask as bare-at
@@ -234,7 +244,13 @@ pub record OnceEach : Type 0 where
   pub row_one : Once row_at.ended row_reads.Learnt
   pub head_one : Once head_at.ended head-reads.Learnt
   pub refused_one : Once refused-at.ended refused-reads.Learnt
+  pub begun_one : Once begun-at.ended begun-reads.Learnt
+  pub byte_one : Once byte-at.ended byte-reads.Learnt
+  -- of a part of lent bytes that is handed out: the bytes
+  pub text_one : (κs : Lfts text-at.ended.signature.lifetimes) (a : Args text-at.ended.signature κs) (r r' : Res text-at.ended.signature κs) (w w' : Lasts text-at.ended κs a) → text-reads.Learnt κs a r (at_exit text-at.ended κs a w) → text-reads.Learnt κs a r' (at_exit text-at.ended κs a w') → r.now ≡ r'.now
+  pub line_one_one : Once line-one-at.ended line-one-reads.Learnt
   pub read_one : Once read_at.ended read-reads.Learnt
+  pub next_number_one : Once next-number-at.ended next-number-reads.Learnt
   pub two_one : Once two_at.ended two-reads.Learnt
   pub header_one : Once header_at.ended header-reads.Learnt
   pub record_one : Once record-at.ended record-reads.Learnt

@@ -1,8 +1,8 @@
 -- The plain path: on every store made by the calls it answers as the labels do; its lines over what was put in; and the same from a bare list. Assumes nothing.
-use Rattle.std.specs.Prelude.{true, List, ◌++◌, ◌≡◌, ◌+◌, ◌<◌, ◌^◌, ◌≤◌, ℕ, eqb, drop, get_or, length}
+use Rattle.std.specs.Prelude.{true, List, ◌++◌, ◌≡◌, ◌+◌, ◌<◌, ◌^◌, ◌≤◌, ℕ, eqb, drop, get_or, length, Result, Ok, Err}
 use Rattle.asking.specs.declared.Answer.{Answer}
-use Rattle.asking.specs.declared.Answer.TheVariants.{Inconsistent as Against, Refused as Not, Supported as For, Unsupported as Neither}
-use Rattle.bare.specs.Bare.{answered, barely, faults_of, tell_of}
+use Rattle.asking.specs.declared.Answer.TheVariants.{Inconsistent as Against, Supported as For, Unsupported as Neither}
+use Rattle.bare.specs.Bare.{answered, barely, faults_of, said_as, tell_of}
 use Rattle.bare.specs.declared.Query.{Query}
 use Rattle.bare.specs.declared.Told.TheVariants.{Filled, Lines, Word}
 use Rattle.bare.specs.declared.What.{What}
@@ -10,9 +10,11 @@ use Rattle.bare.specs.declared.What.TheVariants.{Context, Number as Of, Stages}
 use Rattle.handed.specs.declared.Handed.{Handed}
 use Rattle.plain.specs.Plainly.{plain_by}
 use Rattle.plain.specs.declared.Plain.{Plain}
-use Rattle.plain.specs.declared.Plain.TheVariants.{Inconsistent, Refused, Supported, Unsupported}
+use Rattle.plain.specs.declared.Plain.TheVariants.{Inconsistent, Supported, Unsupported}
 use Rattle.promises.specs.Calls.{Calls, context, over, plain_context, plainly, question, reads, stage_lines, written}
 use Rattle.promises.specs.Made.{Input, Made, SameMembers}
+use Rattle.replies.specs.Replies.{checked}
+use Rattle.replies.specs.declared.Reply.{Reply}
 use Rattle.replies.specs.declared.Reply.TheVariants.{Done}
 use Rattle.rules.specs.Held.{said_by}
 use Rattle.stagetext.specs.Stagetext.{longest, stage_text}
@@ -23,11 +25,11 @@ use Rattle.theory.specs.Lists.{choose}
 use Rattle.theory.specs.Places.{table}
 
 -- the answer of the labels, its name left out
-abbrev pub word_alone : Answer → Plain
-word_alone (Against G) = Inconsistent
-word_alone (For F) = Supported
-word_alone Neither = Unsupported
-word_alone (Not r) = Refused r
+abbrev pub word_alone : Result Answer Reply → Result Plain Reply
+word_alone (Ok (Against G)) = Ok Inconsistent
+word_alone (Ok (For F)) = Ok Supported
+word_alone (Ok Neither) = Ok Unsupported
+word_alone (Err r) = Err r
 
 -- 0 in place of 3
 abbrev pub unthird : ℕ → ℕ
@@ -45,7 +47,7 @@ pub record PlainPath (C : Calls) : Type 0 where
   pub context_bytes_lem : {A M : ℕ} {H : Input} {s : Store} → Made C A M H s → (E : ℕ) (out : List ℕ) → E < 2 ^ A → A + M + 1 ≤ length out
       → C.reading s (plain_context E out) ≡ reads (plain_context E out) Done s (table (A + M + 1) (λ n. unthird (get_or (C.reading s (context E out)).bytes n 0)) ++ drop (A + M + 1) out)
   -- what is answered, over what was put in
-  pub says : {A M : ℕ} {H : Input} {s : Store} → Made C A M H s → (n E : ℕ) → n ≤ A + M → E < 2 ^ A → (C.reading s (plainly n E)).said ≡ plain_by H E n
+  pub says : {A M : ℕ} {H : Input} {s : Store} → Made C A M H s → (n E : ℕ) → n ≤ A + M → E < 2 ^ A → (C.reading s (plainly n E)).said ≡ Ok (plain_by H E n)
   -- the lines: one a stage from 0 up to the last with something new
   pub lines : {A M : ℕ} {H : Input} {s : Store} → Made C A M H s → (E : ℕ) (out : List ℕ) → E < 2 ^ A → length (stage_text (A + M) H E) ≤ length out
       → C.reading s (stage_lines E out) ≡ reads (stage_lines E out) (written (stage_text (A + M) H E)) s (over (stage_text (A + M) H E) out)
@@ -59,8 +61,8 @@ pub record PlainPath (C : Calls) : Type 0 where
       → C.bare q l out ≡ tell_of (q.assumptions + q.claims) (barely (q.assumptions + q.claims) l) q.set q.what out
   -- where a made store has the same put in, it answers as the store's calls do, refusals too
   pub bare_question : {A M : ℕ} {H : Input} {s : Store} → Made C A M H s → (l : List Handed) → faults_of (A + M) l ≡ Done → SameMembers H (barely (A + M) l)
-      → (n E : ℕ) (out : List ℕ) → C.bare (asking A M (Of n) E) l out ≡ answered (Word (C.reading s (plainly n E)).said) out
+      → (n E : ℕ) (out : List ℕ) → C.bare (asking A M (Of n) E) l out ≡ answered (said_as Word (C.reading s (plainly n E)).said) out
   pub bare_context : {A M : ℕ} {H : Input} {s : Store} → Made C A M H s → (l : List Handed) → faults_of (A + M) l ≡ Done → SameMembers H (barely (A + M) l)
-      → (E : ℕ) (out : List ℕ) → C.bare (asking A M Context E) l out ≡ answered (Filled (C.reading s (plain_context E out)).said) (C.reading s (plain_context E out)).bytes
+      → (E : ℕ) (out : List ℕ) → C.bare (asking A M Context E) l out ≡ answered (said_as (λ _. Filled) (checked (C.reading s (plain_context E out)).said)) (C.reading s (plain_context E out)).bytes
   pub bare_lines : {A M : ℕ} {H : Input} {s : Store} → Made C A M H s → (l : List Handed) → faults_of (A + M) l ≡ Done → SameMembers H (barely (A + M) l)
-      → (E : ℕ) (out : List ℕ) → C.bare (asking A M Stages E) l out ≡ answered (Lines (C.reading s (stage_lines E out)).said) (C.reading s (stage_lines E out)).bytes
+      → (E : ℕ) (out : List ℕ) → C.bare (asking A M Stages E) l out ≡ answered (said_as Lines (C.reading s (stage_lines E out)).said) (C.reading s (stage_lines E out)).bytes

@@ -1,10 +1,11 @@
 -- Nothing shorter would serve: any list of sets that tells on every consistent set whether it supports a number contains the number's label; the same of the nogoods. Assumes nothing.
-use Rattle.std.specs.Prelude.{Bool, false, not, true, ◌↔◌, ◌≡◌, ◌+◌, ◌<◌, ◌^◌, ◌≤◌, ℕ, length}
+use Rattle.std.specs.Prelude.{Bool, false, not, true, ◌↔◌, ◌≡◌, ◌+◌, ◌<◌, ◌^◌, ◌≤◌, ℕ, length, Result, Ok, Err}
 use mathlib.Core.List.{List, Memᴰ as Mem, [], ◌∷◌}
 use Rattle.asking.specs.declared.Answer.{Answer}
-use Rattle.asking.specs.declared.Answer.TheVariants.{Inconsistent, Refused, Supported, Unsupported}
+use Rattle.asking.specs.declared.Answer.TheVariants.{Inconsistent, Supported, Unsupported}
 use Rattle.promises.specs.Calls.{Calls, question}
 use Rattle.promises.specs.Made.{Input, Made}
+use Rattle.replies.specs.declared.Reply.{Reply}
 use Rattle.store.specs.Reading.{label_held, nogoods_held}
 use Rattle.store.specs.declared.Store.{Store}
 use Rattle.theory.specs.Demands.{carries, contradicts}
@@ -31,20 +32,20 @@ pub record Shortest (A : ℕ) (ok P : ℕ → Bool) (m : List ℕ) : Type 0 wher
   pub only : (l : List ℕ) → Serves A ok P l → length l ≡ length m → (F : ℕ) → Mem F l ↔ Mem F m
 
 -- what a customer sees of an answer: the set is consistent; it supports
-abbrev pub consistent : Answer → Bool
-consistent (Inconsistent G) = false
-consistent (Supported F) = true
-consistent Unsupported = true
-consistent (Refused r) = true
+abbrev pub consistent : Result Answer Reply → Bool
+consistent (Ok (Inconsistent G)) = false
+consistent (Ok (Supported F)) = true
+consistent (Ok Unsupported) = true
+consistent (Err r) = true
 
-abbrev pub supports : Answer → Bool
-supports (Inconsistent G) = false
-supports (Supported F) = true
-supports Unsupported = false
-supports (Refused r) = false
+abbrev pub supports : Result Answer Reply → Bool
+supports (Ok (Inconsistent G)) = false
+supports (Ok (Supported F)) = true
+supports (Ok Unsupported) = false
+supports (Err r) = false
 
 -- the answer to n and E
-abbrev pub asked : Calls → Store → ℕ → ℕ → Answer
+abbrev pub asked : Calls → Store → ℕ → ℕ → Result Answer Reply
 asked C s n E = (C.reading s (question n E)).said
 
 pub record NothingShorter (C : Calls) : Type 0 where

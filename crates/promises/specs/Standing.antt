@@ -1,6 +1,5 @@
 -- Whatever store of right shape is handed in, forged or not: adding and withdrawing work from the justifications alone; questions read the lists as they stand; whether an empty label is contradicted comes from the justifications. Assumes nothing.
-use Rattle.std.specs.Prelude.{true, List, [], ◌++◌, ◌↔◌, ◌≡◌, ◌+◌, ◌≤◌, suc, ℕ, drop, length}
-use Rattle.std.proofs.Math.Option.{none}
+use Rattle.std.specs.Prelude.{true, List, [], ◌++◌, ◌↔◌, ◌≡◌, ◌+◌, ◌≤◌, suc, ℕ, drop, length, None, Ok}
 use Rattle.asking.specs.Asking.{byte_of, first_in, member_at, standing}
 use Rattle.lines.specs.Lines.{case_text, line_text, refusal_text}
 use Rattle.plain.specs.Plainly.{byte_of as plain_byte, plain_by}
@@ -24,7 +23,7 @@ use Rattle.writing.specs.Writing.{file_of}
 
 -- what is read of the lists; of an empty label the third word, and byte 3, of the justifications, and so the file
 abbrev pub as_read : Store → (a : Ask) → Read a
-as_read s (question n E) = reads (question n E) (standing s.lists n E) s []
+as_read s (question n E) = reads (question n E) (Ok (standing s.lists n E)) s []
 as_read s (context E out) = reads (context E out) Done s (table (top s.held + 1) (λ n. byte_of (contradicted_in s n) (standing s.lists n E)) ++ drop (top s.held + 1) out)
 as_read s (member n place) = reads (member n place) (member_at s.lists n place) s []
 as_read s (line n out) = reads (line n out) (written (line_text s n)) s (over (line_text s n) out)
@@ -32,7 +31,7 @@ as_read s (case_line out) = reads (case_line out) (written (case_text s)) s (ove
 as_read s (list_all out) = reads (list_all out) (written (listing_text s)) s (over (listing_text s) out)
 as_read s (file out) = reads (file out) (written (file_of s.held)) s (over (file_of s.held) out)
 -- the plain path reads no list
-as_read s (plainly n E) = reads (plainly n E) (plain_by (said_by s.held) E n) s []
+as_read s (plainly n E) = reads (plainly n E) (Ok (plain_by (said_by s.held) E n)) s []
 as_read s (plain_context E out) = reads (plain_context E out) Done s (table (top s.held + 1) (λ n. plain_byte (plain_by (said_by s.held) E n)) ++ drop (top s.held + 1) out)
 as_read s (stage_lines E out) = reads (stage_lines E out) (written (stage_text (top s.held) (said_by s.held) E)) s (over (stage_text (top s.held) (said_by s.held) E) out)
 
@@ -50,7 +49,7 @@ pub record Stands (C : Calls) (s : Store) : Type 0 where
   -- `contradicted` where the label has no set in it and the number follows from all assumptions by the justifications
   pub third_word : (i : ℕ) → (said_of s i ≡ word " contradicted") ↔ ((label_held s.lists (suc i) ≡ []) × (follows_from_all s.held.assumptions (said_by s.held) (suc i) ≡ true))
   -- byte 3 where no nogood lies within E and the line says so
-  pub third_byte : (i E : ℕ) → (byte_of (contradicted_in s (suc i)) (standing s.lists (suc i) E) ≡ 3) ↔ ((first_in (nogoods_held s.lists) E ≡ none) × (said_of s i ≡ word " contradicted"))
+  pub third_byte : (i E : ℕ) → (byte_of (contradicted_in s (suc i)) (standing s.lists (suc i) E) ≡ 3) ↔ ((first_in (nogoods_held s.lists) E ≡ None) × (said_of s i ≡ word " contradicted"))
 
 pub record AsTheyStand (C : Calls) : Type 0 where
   pub stands : (s : Store) → right_shape s ≡ true → Stands C s

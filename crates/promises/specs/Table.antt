@@ -1,5 +1,5 @@
 -- The reply table of document 01: for every call, every input, forged stores included, and every number, the exact condition of the answer. Assumes nothing.
-use Rattle.std.specs.Prelude.{false, ◌↔◌, ◌⊎◌, ◌≡◌, ◌*◌, ◌+◌, ◌-◌, ◌<◌, ◌^◌, ◌≤◌, suc, zero, ℕ, drop, length}
+use Rattle.std.specs.Prelude.{false, ◌↔◌, ◌⊎◌, ◌≡◌, ◌*◌, ◌+◌, ◌-◌, ◌<◌, ◌^◌, ◌≤◌, suc, zero, ℕ, drop, length, Result, Ok, Err}
 use mathlib.Core.List.{List, Memᴰ as Mem, [], ◌∷◌}
 use Rattle.std.proofs.Math.Option.{some}
 use Rattle.bare.specs.Bare.{barely, told_number}
@@ -12,7 +12,6 @@ use Rattle.handed.specs.declared.Handed.{Handed}
 use Rattle.lent.specs.Lent.{written_number}
 use Rattle.lines.specs.Lines.{case_text, line_text, refusal_text}
 use Rattle.numbers.specs.declared.Number.{Number}
-use Rattle.numbers.specs.declared.Number.TheVariants.{Bad, Value}
 use Rattle.promises.specs.Calls.{Ask, Calls, case_line, context, file, line, list_all, member, number_said, plain_context, plainly, question, stage_lines}
 use Rattle.promises.specs.Made.{put_in}
 use Rattle.promises.specs.Room.{Above, LabelFull, NogoodsFull}
@@ -202,9 +201,9 @@ RecordRows A N (suc n) r H l =
     (RecordRows A N n (suc r) (justification_of N c s ∷ H) l₃)))))))
 
 -- the number at a place of the bytes: 0 and the number, or the fault
-abbrev pub reported : Number → Reported
-reported (Value n next) = (0, n)
-reported (Bad f) = (number_of f, 0)
+abbrev pub reported : Result Number Reply → Reported
+reported (Ok x) = (0, x.value)
+reported (Err f) = (number_of f, 0)
 
 abbrev pub DecodeRows : List ℕ → ℕ → Reported → Type 0
 DecodeRows bytes at = NumberRows 0 (drop at bytes) (λ x rest a. a ≡ (0, x))
@@ -243,7 +242,7 @@ pub record ReplyTable (C : Calls) : Type 0 where
   pub printing : (bytes out : List ℕ) (a : ℕ) → (written_number (C.printing bytes out).answer ≡ a) ↔ PrintRows bytes out a
   pub bare : (q : Query) (l : List Handed) (out : List ℕ) (a : ℕ) → (told_number (C.bare q l out).answer ≡ a) ↔ BareRows q l out a
   pub decoding : (bytes : List ℕ) (at : ℕ) (a : Reported) → (reported (C.decoding bytes at) ≡ a) ↔ DecodeRows bytes at a
-  pub onward : (bytes : List ℕ) (at n next : ℕ) → C.decoding bytes at ≡ Value n next → Onward at n next
+  pub onward : (bytes : List ℕ) (at n next : ℕ) → C.decoding bytes at ≡ Ok (record { value = n; next = next }) → Onward at n next
   -- 8 names the lowest such claim or assumption; no other reply names one
   pub adding_names : (s : Store) (c : ℕ) (l : List ℕ) (n : ℕ) → (named_by (C.adding s c l).reply ≡ some n)
       ↔ ((number_of (C.adding s c l).reply ≡ 8) × LabelFull s.held.assumptions (top s.held) (enlarged s c l) n)

@@ -1,4 +1,5 @@
 -- Every case of the table holds of our calls: the answers by the demands, the lists by computing the judgement of what was put in. Assumes nothing.
+use Rattle.std.specs.Prelude.{Ok}
 use mathlib.Core.Bool.{Bool, false}
 use mathlib.Core.List.Memᴰ
 use mathlib.Core.List.Memᴰ.{head as here}
@@ -186,9 +187,9 @@ prints {A} {H = H} {s = s} f n h l c t e k u out w =
 
 -- the answer where the nogoods and the label are known
 pub answers : {A M : ℕ} {H : List Justification} {s : Store} (f : Form A M H s) (n E : ℕ) → n ≤ A + M → E < 2 ^ A
-    → (bad own : List ℕ) → nogoods_held s.lists ≡ bad → label_held s.lists n ≡ own → question_of s n E ≡ reasoned (first_in bad E) (first_in own E)
+    → (bad own : List ℕ) → nogoods_held s.lists ≡ bad → label_held s.lists n ≡ own → question_of s n E ≡ Ok (reasoned (first_in bad E) (first_in own E))
 unfolding standing
-answers f n E l h bad own p q = question_by f n E l h ∙ ap₂ (λ (g m : List ℕ). reasoned (first_in g E) (first_in m E)) p q
+answers f n E l h bad own p q = question_by f n E l h ∙ ap₂ (λ (g m : List ℕ). Ok (reasoned (first_in g E) (first_in m E))) p q
 
 -- the second and the third of three labels
 second_third : (l : Lists) (a b c : List ℕ) → map (label_held l) (numbers_to 3) ≡ a ∷ b ∷ c ∷ [] → (label_held l 2 ≡ b) × (label_held l 3 ≡ c)
@@ -265,7 +266,7 @@ p_cases = record {
   each_other_done = add_done made_one_way 3 (2 ∷ []) reaches_other (omega arith);
   each_other_made = made_each_other;
   each_other_lists = made_are made_each_other each_other_verdict;
-  each_other_asked = λ n E p q r. ((demand_2.tells made_each_other).question n E (omega arith) (omega arith) Unsupported).1 (each_other_carry n E p q r);
+  each_other_asked = λ n E p q r. ((demand_2.tells made_each_other).question n E (omega arith) (omega arith) (Ok Unsupported)).1 (each_other_carry n E p q r);
   each_other_lines =
       let f = made_form made_each_other in
       let e = second_third (each_other ours).lists (1 ∷ []) [] [] (made_are made_each_other each_other_verdict).labels in

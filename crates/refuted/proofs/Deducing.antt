@@ -1,4 +1,5 @@
 -- A question that works the lists out anew from the justifications is right of every made store, and refuses as ours does: the demands over made stores do not tell it from ours. Assumes nothing.
+use Rattle.std.specs.Prelude.{Result, Ok}
 use mathlib.Core.Bool.{Bool, false, true}
 use mathlib.Core.List.{List}
 use mathlib.Core.Logic.{◌↔◌, inl, inr, ⊎_elim}
@@ -49,8 +50,8 @@ use Rattle.replies.specs.declared.Reply.TheVariants.{Long}
 use Rattle.theory.proofs.Lists.{clash, either}
 
 -- the question of this program
-abbrev asks : Store → ℕ → ℕ → Answer
-asks s n E = choose (eqb (answer_number (question_of s n E)) 0) (worked_out s.held n E) (question_of s n E)
+abbrev asks : Store → ℕ → ℕ → Result Answer Reply
+asks s n E = choose (eqb (answer_number (question_of s n E)) 0) (Ok (worked_out s.held n E)) (question_of s n E)
 
 abbrev again : Store → Lists
 again s = (store_of no_store s.held.assumptions s.held.claims (said_by s.held)).store.lists
@@ -105,7 +106,7 @@ prints_ours bytes out =
 same_number : (s : Store) (n E : ℕ) → answer_number (asks s n E) ≡ answer_number (question_of s n E)
 same_number s n E = go (question_of s n E) (eqb (answer_number (question_of s n E)) 0) refl
   where
-    go : (q : Answer) (b : Bool) → eqb (answer_number q) 0 ≡ b → answer_number (choose b (worked_out s.held n E) q) ≡ answer_number q
+    go : (q : Result Answer Reply) (b : Bool) → eqb (answer_number q) 0 ≡ b → answer_number (choose b (Ok (worked_out s.held n E)) q) ≡ answer_number q
     go q true e = standing_zero (again s) n E ∙ sym (eqb-true (answer_number q) 0 e)
     go q false e = refl
 
@@ -154,6 +155,8 @@ refusals_too = record {
   refusal_bytes = refusals.refusal_bytes;
   bare_bytes = refusals.bare_bytes;
   bare_kind = refusals.bare_kind;
+  bare_done = refusals.bare_done;
+  bare_said = refusals.bare_said;
   printing_bytes = λ bytes out k.
       ap (λ (w : Wrote). w.bytes) (prints_ours bytes out)
       ∙ refusals.printing_bytes bytes out (λ z. k (ap (λ (w : Wrote). written_number w.answer) (prints_ours bytes out) ∙ z));
@@ -169,14 +172,14 @@ lists_again {A} {M} {s = s} f =
 
 same_answer : {A M : ℕ} {H : List Justification} {s : Store} → Made ours A M H s → (n E : ℕ) → n ≤ A + M → E < 2 ^ A → asks s n E ≡ question_of s n E
 same_answer {s = s} m n E l h =
-    ap (λ (x : Answer). choose (eqb (answer_number (question_of s n E)) 0) x (question_of s n E)) (ap (λ (x : Lists). standing x n E) (lists_again (made_form m)) ∙ sym (question_by (made_form m) n E l h))
+    ap (λ (x : Result Answer Reply). choose (eqb (answer_number (question_of s n E)) 0) x (question_of s n E)) (ap (λ (x : Lists). Ok (standing x n E)) (lists_again (made_form m)) ∙ sym (question_by (made_form m) n E l h))
     ∙ either_way (eqb (answer_number (question_of s n E)) 0) (question_of s n E)
   where
-    either_way : (b : Bool) (q : Answer) → choose b q q ≡ q
+    either_way : (b : Bool) (q : Result Answer Reply) → choose b q q ≡ q
     either_way true q = refl
     either_way false q = refl
 
-its_question : {A M : ℕ} {H : List Justification} {s : Store} → Made ours A M H s → (n E : ℕ) → n ≤ A + M → E < 2 ^ A → (a : Answer) → (asks s n E ≡ a) ↔ QuestionSays A H n E a
+its_question : {A M : ℕ} {H : List Justification} {s : Store} → Made ours A M H s → (n E : ℕ) → n ≤ A + M → E < 2 ^ A → (a : Result Answer Reply) → (asks s n E ≡ a) ↔ QuestionSays A H n E a
 its_question m n E l h a =
     let r = (demand_2.tells m).question n E l h a in
     let e = same_answer m n E l h in
@@ -232,7 +235,7 @@ one_by_one_too = record { one_by_one = one_by_one.one_by_one; few = one_by_one.f
 same_question : {A M : ℕ} {H : List Justification} {s : Store} → Made ours A M H s → (n E : ℕ) → asks s n E ≡ question_of s n E
 same_question {A} {M} {s = s} m n E = go (eqb (answer_number (question_of s n E)) 0) refl
   where
-    go : (b : Bool) → eqb (answer_number (question_of s n E)) 0 ≡ b → choose b (worked_out s.held n E) (question_of s n E) ≡ question_of s n E
+    go : (b : Bool) → eqb (answer_number (question_of s n E)) 0 ≡ b → choose b (Ok (worked_out s.held n E)) (question_of s n E) ≡ question_of s n E
     go true e =
         let f = made_form m in
         let rows = passed _ _ _ ((reply_table.reading s (question n E) 0).0 (eqb-true (answer_number (question_of s n E)) 0 e)) (λ z. omega arith) in
@@ -240,7 +243,7 @@ same_question {A} {M} {s = s} m n E = go (eqb (answer_number (question_of s n E)
         let tops : top s.held ≡ A + M = ap₂ (λ (a c : ℕ). a + c) (form_a f) (form_m f) in
         let low : n ≤ A + M = at_most (top s.held) (A + M) n tops (λ k. no.0 (inl k)) in
         let small : E < 2 ^ A = subst (λ (a : ℕ). E < 2 ^ a) (form_a f) (under (2 ^ s.held.assumptions) E (λ k. no.0 (inr k))) in
-        ap (λ (x : Lists). standing x n E) (lists_again f) ∙ sym (question_by f n E low small)
+        ap (λ (x : Lists). Ok (standing x n E)) (lists_again f) ∙ sym (question_by f n E low small)
       where
         at_most : (t k x : ℕ) → t ≡ k → (t < x → ⊥) → x ≤ k
         at_most t k x p q = omega (arith, p, q)

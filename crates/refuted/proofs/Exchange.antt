@@ -1,4 +1,6 @@
 -- What holds of a reading and of an exchanged question holds of the reading with the question exchanged. Assumes nothing.
+use Rattle.replies.specs.declared.Reply.{Reply}
+use Rattle.std.specs.Prelude.{Result}
 use mathlib.Core.List.{[]}
 use Prim.Native.Nat.{ℕ}
 use Rattle.asking.specs.declared.Answer.{Answer}
@@ -6,7 +8,7 @@ use Rattle.promises.specs.Calls.{Ask, Read, case_line, context, file, line, list
 use Rattle.refuted.specs.Exchange.{answering}
 use Rattle.store.specs.declared.Store.{Store}
 
-module _ (f : Store → ℕ → ℕ → Answer) (r : Store → (a : Ask) → Read a) (s : Store) (P : (a : Ask) → Read a → Type 0) where
+module _ (f : Store → ℕ → ℕ → Result Answer Reply) (r : Store → (a : Ask) → Read a) (s : Store) (P : (a : Ask) → Read a → Type 0) where
   pub by_question : ((a : Ask) → P a (r s a)) → ((n E : ℕ) → P (question n E) (reads (question n E) (f s n E) s [])) → (a : Ask) → P a (answering f r s a)
   by_question p q (question n E) = q n E
   by_question p q (context E out) = p (context E out)

@@ -7,8 +7,7 @@ use native.Mathlib.Omega.{arith}
 use lib.ListN.{length, replicate}
 use Rattle.following.specs.First.{since_of, up_to}
 use Rattle.lent.specs.Lent.{fitted, kept}
-use Rattle.lent.specs.declared.Written.{Written}
-use Rattle.lent.specs.declared.Written.TheVariants.{Length, Refused}
+use Rattle.std.proofs.Common.{Result, Ok, Err}
 use Rattle.promises.proofs.Form.{form_a, form_m, form_said}
 use Rattle.promises.proofs.Right.{form_right}
 use Rattle.promises.specs.Calls.{Read, ours, stage_lines, written}
@@ -28,6 +27,7 @@ use Rattle.theory.specs.Lists.{all_of, choose, each, numbers_below, some_of, tho
 use Rattle.theory.specs.Places.{table}
 use Rattle.theory.specs.Sets.{among, digit, in_range}
 use Rattle.theory.specs.Stages.{Justification, follows, gives}
+use Rattle.replies.specs.declared.Reply.{Reply}
 
 abbrev lent : List ℕ
 lent = replicate 22 0
@@ -45,18 +45,18 @@ sizes : (length (word "0 1\n1 0 1 2\n2 0 1 2 3\n") ≡ 22) × (length (word "0 1
 unfolding word
 sizes = (refl, refl)
 
-cut_written : (fitted (word "0 1\n1 0 1 2\n") lent).answer ≡ Length 12
+cut_written : (fitted (word "0 1\n1 0 1 2\n") lent).answer ≡ Ok 12
 unfolding fitted word
 cut_written = refl
 
-abbrev reported : Written → ℕ
-reported (Length n) = n
-reported (Refused r) = 0
+abbrev reported : Result ℕ Reply → ℕ
+reported (Ok n) = n
+reported (Err r) = 0
 
 abbrev s : Store
 s = (ours.loading beyond_bytes).store
 
-said : (halted_lines s 1 lent).answer ≡ Length 12
+said : (halted_lines s 1 lent).answer ≡ Ok 12
 unfolding in_range
 said =
     let g = file_form beyond_bytes beyond spelled.0 (omega arith) in

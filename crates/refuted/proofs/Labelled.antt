@@ -1,8 +1,10 @@
 -- A plain question answered from the labels is right of every made store: the plain path does not tell it from ours. Assumes nothing.
+use Rattle.replies.specs.declared.Reply.{Reply}
+use Rattle.std.specs.Prelude.{Result}
 use mathlib.Core.List.{List}
 use mathlib.Core.Path.{◌∙◌, ◌≡◌, ap, refl, sym}
 use Prim.Native.Nat.{ℕ}
-use Rattle.bare.specs.Bare.{answered}
+use Rattle.bare.specs.Bare.{answered, said_as}
 use Rattle.bare.specs.declared.Told.TheVariants.{Word}
 use Rattle.plain.specs.declared.Plain.{Plain}
 use Rattle.promises.proofs.Keeping.{read_store}
@@ -51,7 +53,7 @@ plain_path_labelled = record {
   enough_held = plain_path.enough_held;
   enough_bare = plain_path.enough_bare;
   bare = plain_path.bare;
-  bare_question = λ m l d w n E out. plain_path.bare_question (made_ours m) l d w n E out ∙ ap (λ (x : Plain). answered (Word x) out) (plain_path.replies (made_ours m) n E);
+  bare_question = λ m l d w n E out. plain_path.bare_question (made_ours m) l d w n E out ∙ ap (λ (x : Result Plain Reply). answered (said_as Word x) out) (plain_path.replies (made_ours m) n E);
   bare_context = λ m l d w E out. plain_path.bare_context (made_ours m) l d w E out;
   bare_lines = λ m l d w E out. plain_path.bare_lines (made_ours m) l d w E out;
 }

@@ -1,9 +1,10 @@
 -- What the shared definitions give, as it is written out. Assumes nothing.
+use Rattle.std.specs.Prelude.{Some, None, Ok, Err}
 use mathlib.Core.Bool.{Bool, true}
 use mathlib.Core.List.{◌++◌, ◌∷◌, List, [], map}
 use mathlib.Core.Option.{some}
 use mathlib.Core.Path.{◌∙◌, ◌≡◌, ap, ap₂, refl}
-use Prim.Native.Nat.{◌+◌, ◌<◌, ◌≤◌, ℕ}
+use Prim.Native.Nat.{◌<◌, ◌≤◌, ℕ}
 use Prim.Native.String.{String}
 use native.Mathlib.Omega.{arith}
 use lib.Count.{ones}
@@ -19,13 +20,13 @@ use Rattle.following.specs.First.{since_of, up_to}
 use Rattle.handed.specs.Supplied.{supplied_by}
 use Rattle.items.specs.Items.{Item, header_from, numbers_from, record_from, unless}
 use Rattle.lent.specs.Lent.{fitted, kept, written_length}
-use Rattle.lent.specs.declared.Written.TheVariants.{Length, Refused as Unwritten}
+use Rattle.std.proofs.Common.{Ok, Err}
 use Rattle.lines.specs.Lines.{refusal_text}
 use Rattle.wording.specs.Wording.{word_of}
 use Rattle.numbers.specs.Numbers.{number_from, second_from}
 use Rattle.plain.specs.Plainly.{byte_of, plain_by}
 use Rattle.plain.specs.declared.Plain.{Plain}
-use Rattle.plain.specs.declared.Plain.TheVariants.{Inconsistent as Against, Refused as Unsaid, Supported as Plainly, Unsupported as Neither}
+use Rattle.plain.specs.declared.Plain.TheVariants.{Inconsistent as Against, Supported as Plainly, Unsupported as Neither}
 use Rattle.promises.proofs.Files.{files}
 use Rattle.promises.proofs.Form.{Form, form_said}
 use Rattle.promises.proofs.Plain.{plain_path}
@@ -154,12 +155,12 @@ named : (reasoned (first_in (3 ∷ 6 ∷ []) 5) (first_in (5 ∷ []) 5) ≡ Supp
 unfolding first_in within
 named = (refl, refl, refl)
 
-asked : (question_of s 6 5 ≡ Supported 5) × (question_of s 7 5 ≡ Unsupported) × (question_of s 7 6 ≡ Inconsistent 6)
+asked : (question_of s 6 5 ≡ Ok (Supported 5)) × (question_of s 7 5 ≡ Ok Unsupported) × (question_of s 7 6 ≡ Ok (Inconsistent 6))
 asked =
     let l = seven s.lists _ are.labels in (
-      answers form 6 5 (omega arith) (omega arith) _ _ are.nogoods l.5 ∙ named.0,
-      answers form 7 5 (omega arith) (omega arith) _ _ are.nogoods l.6 ∙ named.1,
-      answers form 7 6 (omega arith) (omega arith) _ _ are.nogoods l.6 ∙ named.2,
+      answers form 6 5 (omega arith) (omega arith) _ _ are.nogoods l.5 ∙ ap Ok named.0,
+      answers form 7 5 (omega arith) (omega arith) _ _ are.nogoods l.6 ∙ ap Ok named.1,
+      answers form 7 6 (omega arith) (omega arith) _ _ are.nogoods l.6 ∙ ap Ok named.2,
     )
 
 table_of : (table 8 (byte_by 3 (put_in sown) 5) ≡ 0 ∷ 1 ∷ 0 ∷ 1 ∷ 1 ∷ 0 ∷ 1 ∷ 3 ∷ []) × (table 8 (byte_by 3 (put_in sown) 6) ≡ 2 ∷ 2 ∷ 2 ∷ 2 ∷ 2 ∷ 2 ∷ 2 ∷ 2 ∷ [])
@@ -199,22 +200,22 @@ faultless = refl
 by_list : (w : What) (E : ℕ) (out : List ℕ) → E < 8 → ask_of (asking 3 4 w E) sowing_list out ≡ tell_of 7 (barely 7 sowing_list) E w out
 by_list w E out h = plain_path.bare (asking 3 4 w E) sowing_list out (omega arith) (omega arith) faultless h
 
-list_bytes : (out : List ℕ) → 8 ≤ length out → ask_of (asking 3 4 Context 5) sowing_list out ≡ answered (Filled Done) ((0 ∷ 1 ∷ 0 ∷ 1 ∷ 1 ∷ 0 ∷ 1 ∷ 0 ∷ []) ++ drop 8 out)
+list_bytes : (out : List ℕ) → 8 ≤ length out → ask_of (asking 3 4 Context 5) sowing_list out ≡ answered (Ok Filled) ((0 ∷ 1 ∷ 0 ∷ 1 ∷ 1 ∷ 0 ∷ 1 ∷ 0 ∷ []) ++ drop 8 out)
 list_bytes out h =
     by_list Context 5 out (omega arith)
-    ∙ ap (λ (b : Bool). choose b (answered (Filled Short) out) (answered (Filled Done) (table 8 (λ n. byte_of (plain_by (barely 7 sowing_list) 5 n)) ++ drop 8 out))) (le-ltb (length out) 8 h)
-    ∙ ap (λ (t : List ℕ). answered (Filled Done) (t ++ drop 8 out)) listed_bytes_lem
+    ∙ ap (λ (b : Bool). choose b (answered (Err Short) out) (answered (Ok Filled) (table 8 (λ n. byte_of (plain_by (barely 7 sowing_list) 5 n)) ++ drop 8 out))) (le-ltb (length out) 8 h)
+    ∙ ap (λ (t : List ℕ). answered (Ok Filled) (t ++ drop 8 out)) listed_bytes_lem
 
-list_lines : (out : List ℕ) → 28 ≤ length out → ask_of (asking 3 4 Stages 6) sowing_list out ≡ answered (Lines (Length 28)) (lines ++ drop 28 out)
+list_lines : (out : List ℕ) → 28 ≤ length out → ask_of (asking 3 4 Stages 6) sowing_list out ≡ answered (Ok (Lines 28)) (lines ++ drop 28 out)
 unfolding fitted
 list_lines out h =
     by_list Stages 6 out (omega arith) ∙ ap (λ (t : List ℕ). wrote_as (fitted t out)) staged.1
-    ∙ ap (λ (b : Bool). wrote_as (choose b (kept Short out) (record { answer = Length (length lines); bytes = lines ++ drop (length lines) out }))) (le-ltb (length out) (length lines) (omega (arith, lines_long)))
-    ∙ ap (λ (n : ℕ). answered (Lines (Length n)) (lines ++ drop n out)) lines_long
+    ∙ ap (λ (b : Bool). wrote_as (choose b (kept Short out) (record { answer = Ok (length lines); bytes = lines ++ drop (length lines) out }))) (le-ltb (length out) (length lines) (omega (arith, lines_long)))
+    ∙ ap (λ (n : ℕ). answered (Ok (Lines n)) (lines ++ drop n out)) lines_long
 
-list_refused : (out : List ℕ) → (ask_of (asking 3 4 (Of 6) 5) (own_item ∷ long_item ∷ []) out ≡ answered (Word (Unsaid Itself)) out)
-    × (ask_of (asking 3 4 Context 5) (long_item ∷ own_item ∷ []) out ≡ answered (Filled Supports) out) × (ask_of (asking 3 4 Stages 8) sowing_list out ≡ answered (Lines (Unwritten Number)) out)
-    × (ask_of (asking 3 4 (Of 8) 5) sowing_list out ≡ answered (Word (Unsaid Number)) out)
+list_refused : (out : List ℕ) → (ask_of (asking 3 4 (Of 6) 5) (own_item ∷ long_item ∷ []) out ≡ answered (Err Itself) out)
+    × (ask_of (asking 3 4 Context 5) (long_item ∷ own_item ∷ []) out ≡ answered (Err Supports) out) × (ask_of (asking 3 4 Stages 8) sowing_list out ≡ answered (Err Number) out)
+    × (ask_of (asking 3 4 (Of 8) 5) sowing_list out ≡ answered (Err Number) out)
 unfolding ask_of faults_of fault_of some_of supplied_by in_range
 list_refused out = (refl, refl, refl, refl)
 
@@ -266,9 +267,9 @@ pinned =
       sowing_context = λ out h. (demand_2.tells made).context 5 out (omega arith) (omega arith) ∙ ap (λ (t : List ℕ). reads (context 5 out) Done s (t ++ drop 8 out)) table_of.0;
       sowing_against = λ out h. (demand_2.tells made).context 6 out (omega arith) (omega arith) ∙ ap (λ (t : List ℕ). reads (context 6 out) Done s (t ++ drop 8 out)) table_of.1;
       sowing_plain = (
-        plain_path.says made 6 5 (omega arith) (omega arith) ∙ words.0,
-        plain_path.says made 7 5 (omega arith) (omega arith) ∙ words.1,
-        plain_path.says made 7 6 (omega arith) (omega arith) ∙ words.2,
+        plain_path.says made 6 5 (omega arith) (omega arith) ∙ ap Ok words.0,
+        plain_path.says made 7 5 (omega arith) (omega arith) ∙ ap Ok words.1,
+        plain_path.says made 7 6 (omega arith) (omega arith) ∙ ap Ok words.2,
       );
       sowing_bytes_lem = λ out h.
           let e : (ours.reading s (context 5 out)).bytes ≡ (0 ∷ 1 ∷ 0 ∷ 1 ∷ 1 ∷ 0 ∷ 1 ∷ 3 ∷ []) ++ drop 8 out =
@@ -277,7 +278,7 @@ pinned =
           ∙ ap (λ (b : List ℕ). reads (plain_context 5 out) Done s (table 8 (λ n. unthird (get_or b n 0)) ++ drop 8 out)) e
           ∙ ap (λ (t : List ℕ). reads (plain_context 5 out) Done s (t ++ drop 8 out)) (unthirded (drop 8 out));
       sowing_stages = λ out h. plain_path.lines made 6 out (omega arith) (omega (arith, ap length staged.0, lines_long)) ∙ ap (λ (t : List ℕ). reads (stage_lines 6 out) (written t) s (over t out)) staged.0;
-      bare_word = λ out. by_list (Of 6) 5 out (omega arith) ∙ ap (λ (x : Plain). answered (Word x) out) words.3;
+      bare_word = λ out. by_list (Of 6) 5 out (omega arith) ∙ ap (λ (x : Plain). answered (Ok (Word x)) out) words.3;
       bare_context = list_bytes;
       bare_stages = list_lines;
       bare_refused = list_refused;

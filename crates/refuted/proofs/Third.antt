@@ -12,8 +12,7 @@ use Rattle.casefile.specs.Case.{Case, case_of, records_from, whole}
 use Rattle.items.specs.Items.{Item, header_from, numbers_from, record_from, unless}
 use Rattle.lent.specs.Lent.{fitted}
 use Rattle.wording.specs.Wording.{line_with, word_of}
-use Rattle.lent.specs.declared.Written.{Written}
-use Rattle.lent.specs.declared.Written.TheVariants.{Length, Refused}
+use Rattle.std.proofs.Common.{Result, Ok, Err}
 use Rattle.numbers.specs.Numbers.{number_from, second_from}
 use Rattle.promises.proofs.Form.{Form, form_a, form_m, form_said}
 use Rattle.promises.proofs.Right.{form_right}
@@ -37,6 +36,7 @@ use Rattle.theory.specs.Limits.{limits}
 use Rattle.theory.specs.Lists.{alike, all_of, each, numbers_below, numbers_to, some_of, those}
 use Rattle.theory.specs.Sets.{among, by_size, digit, listing, together}
 use Rattle.theory.specs.Stages.{Justification, ahead, follows, gives, lesser}
+use Rattle.replies.specs.declared.Reply.{Reply}
 
 -- ---- a line with an empty label, by a program that judges following by f
 
@@ -68,9 +68,9 @@ right_line f {A} {M} {H} {s} d m i low none t u h =
     let x : text_of A H (suc i) r.0 ≡ t = ap (text_of A H (suc i)) (empty A (λ E. carries H E (suc i)) r.0 r.1 none) ∙ u in
     ap (λ (y : Read (line (suc i) lent)). y.said) (r.2 lent (omega (arith, ap length x))) ∙ ap written x
 
-abbrev reported : Written → ℕ
-reported (Length n) = n
-reported (Refused r) = 0
+abbrev reported : Result ℕ Reply → ℕ
+reported (Ok n) = n
+reported (Err r) = 0
 
 lengths : (a b : List ℕ) → written a ≡ written b → length a ≡ length b
 lengths a b e = ap reported e

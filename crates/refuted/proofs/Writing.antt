@@ -10,8 +10,7 @@ use Rattle.casefile.proofs.Cases.{empty_file}
 use Rattle.casefile.specs.Load.{load_of, loaded_of}
 use Rattle.casefile.specs.declared.Loaded.{Loaded}
 use Rattle.lent.specs.Lent.{Wrote, fitted, kept}
-use Rattle.lent.specs.declared.Written.{Written}
-use Rattle.lent.specs.declared.Written.TheVariants.{Length, Refused}
+use Rattle.std.proofs.Common.{Result, Ok, Err}
 use Rattle.promises.proofs.Form.{form_a, form_count, form_m, form_said, made_form}
 use Rattle.promises.proofs.Right.{made_right}
 use Rattle.promises.specs.Calls.{Read, file, over, written}
@@ -35,6 +34,7 @@ use Rattle.theory.specs.Limits.{limits}
 use Rattle.theory.specs.Lists.{alike, choose, each, numbers_below, numbers_to, some_of, those}
 use Rattle.theory.specs.Stages.{Justification, ahead, lesser}
 use Rattle.writing.specs.Writing.{bytes_of, file_of, record_for}
+use Rattle.replies.specs.declared.Reply.{Reply}
 
 -- a text that fits is written
 fits : (t out : List ℕ) → length t ≤ length out → fitted t out ≡ record { answer = written t; bytes = over t out }
@@ -76,9 +76,9 @@ forged_labels : labels_of forged ≡ 1 ∷ 1 ∷ []
 unfolding each
 forged_labels = ap (λ (n : ℕ). each (λ l. l) (map (label_held listed.lists) (numbers_to n))) two ∙ ap (each (λ l. l)) (made_are made_listed listed_verdict).labels
 
-abbrev length_of : Written → ℕ
-length_of (Length n) = n
-length_of (Refused r) = 0
+abbrev length_of : Result ℕ Reply → ℕ
+length_of (Ok n) = n
+length_of (Err r) = 0
 
 writes_labels : Files labelling → ⊥
 writes_labels f =

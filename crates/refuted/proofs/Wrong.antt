@@ -1,10 +1,12 @@
 -- A demand refutes each wrong program, by a small case. Assumes nothing.
+use Rattle.std.specs.Prelude.{Option, Some, None, Result, Ok, Err}
+use Rattle.promises.specs.Demand2.{QuestionSays}
+use Rattle.plain.specs.declared.Plain.{Plain}
 use mathlib.Core.Bool.{false, true}
 use mathlib.Core.List.Memᴰ
 use mathlib.Core.List.Memᴰ.{head as here}
 use mathlib.Core.List.{List, Memᴰ as Mem, [], ◌∷◌}
 use mathlib.Core.Logic.{inr, ⊎_elim}
-use mathlib.Core.Option.{Option, none, some}
 use mathlib.Core.Path.{◌∙◌, ◌≡◌, ap, ap₂, refl, subst, sym}
 use Prim.Native.Nat.{◌+◌, ◌<◌, ◌^◌, ◌≤◌, zero-le, ℕ}
 use native.Mathlib.Nat.{eq-or-lt_of_le}
@@ -14,7 +16,7 @@ use lib.Dec.{eqb}
 use lib.ListN.{length}
 use Rattle.asking.specs.Asking.{answer_number, byte_of, first_in, question_of, reasoned, standing}
 use Rattle.asking.specs.declared.Answer.{Answer}
-use Rattle.asking.specs.declared.Answer.TheVariants.{Inconsistent, Refused, Supported, Unsupported}
+use Rattle.asking.specs.declared.Answer.TheVariants.{Inconsistent, Supported, Unsupported}
 use Rattle.refuted.proofs.Arrival.{keeps_arrival}
 use Rattle.refuted.proofs.Cases.{p_cases}
 use Rattle.refuted.proofs.Deducing.{demand_2_too, demand_3_too, lists_again, one_by_one_too, plain_path_too, refusals_too, stores_too}
@@ -75,20 +77,25 @@ use Rattle.theory.specs.Stages.{Justification, ahead, follows, gives, lesser, mi
 -- ---- the bytes of two answers
 
 -- the answer to a question, as a byte without the third word
-abbrev plain : Answer → ℕ
-plain a = byte_of false a
+abbrev plain : Result Answer Reply → ℕ
+plain (Ok a) = byte_of false a
+plain (Err r) = 0
 
 abbrev plain_by : List Justification → ℕ → ℕ → ℕ
 plain_by H E n = choose (contradicts H E) 2 (choose (carries H E n) 1 0)
 
-not_both : (a : Answer) → plain a ≡ 1 → plain a ≡ 0 → ⊥
+not_both : (a : Result Answer Reply) → plain a ≡ 1 → plain a ≡ 0 → ⊥
 not_both a p q = let z : ◌≡◌ {A = ℕ} 1 0 = sym p ∙ q in omega arith
+
+answer_byte : (A : ℕ) (H : List Justification) (n E : ℕ) (a : Result Answer Reply) → QuestionSays A H n E a → plain a ≡ plain_by H E n
+answer_byte A H n E (Ok a) h = byte_says A H n E false a h
+answer_byte A H n E (Err r) h = absurd h
 
 -- demand 2 gives the byte of every answer
 told : {C : Calls} {A M : ℕ} {H : List Justification} {s : Store} → Demand2 C → Made C A M H s → (n E : ℕ) → n ≤ A + M → E < 2 ^ A → plain (C.reading s (question n E)).said ≡ plain_by H E n
-told {C} {A} {H = H} {s = s} d m n E l h = byte_says A H n E false (C.reading s (question n E)).said (((d.tells m).question n E l h (C.reading s (question n E)).said).0 refl)
+told {C} {A} {H = H} {s = s} d m n E l h = answer_byte A H n E (C.reading s (question n E)).said (((d.tells m).question n E l h (C.reading s (question n E)).said).0 refl)
 
-standing_plain : {A M : ℕ} {H : List Justification} {s : Store} → Form A M H s → (n E : ℕ) → n ≤ A + M → E < 2 ^ A → plain (standing s.lists n E) ≡ plain_by H E n
+standing_plain : {A M : ℕ} {H : List Justification} {s : Store} → Form A M H s → (n E : ℕ) → n ≤ A + M → E < 2 ^ A → plain (Ok (standing s.lists n E)) ≡ plain_by H E n
 standing_plain {A} {H = H} {s = s} f n E l h = byte_says A H n E false (standing s.lists n E) (standing_says f n E l h)
 
 module _ (H : List Justification) (E n : ℕ) where
@@ -129,7 +136,7 @@ one_carries = refl
 denies : Demand2 denying → ⊥
 denies d =
     let m : Made denying 1 0 [] (start_store 1 0) = opened (opens_at 1 0 (omega arith) (omega arith)) in
-    not_both Unsupported (told d m 1 1 (omega arith) (omega arith) ∙ carried [] 1 1 one_carries) refl
+    not_both (Ok Unsupported) (told d m 1 1 (omega arith) (omega arith) ∙ carried [] 1 1 one_carries) refl
 
 -- ---- claim 2 from assumption 1, claim 3 from claim 2; M claims
 abbrev pub first : ℕ → Justification
@@ -281,15 +288,15 @@ strikes_nothing d =
 
 -- .. {1} is called supported or unsupported, never inconsistent
 
-never_inconsistent : (l : Lists) (n E : ℕ) (a : Answer) → plain (forgetting l n E a) ≡ 2 → ⊥
-never_inconsistent l n E (Supported F) e = omega arith
-never_inconsistent l n E Unsupported e = omega arith
-never_inconsistent l n E (Refused r) e = omega arith
-never_inconsistent l n E (Inconsistent G) e = go (first_in (label_held l n) E) e
+never_inconsistent : (l : Lists) (n E : ℕ) (a : Result Answer Reply) → plain (forgetting l n E a) ≡ 2 → ⊥
+never_inconsistent l n E (Ok (Supported F)) e = omega arith
+never_inconsistent l n E (Ok Unsupported) e = omega arith
+never_inconsistent l n E (Err r) e = omega arith
+never_inconsistent l n E (Ok (Inconsistent G)) e = go (first_in (label_held l n) E) e
   where
-    go : (m : Option ℕ) → plain (reasoned none m) ≡ 2 → ⊥
-    go (some F) e = omega arith
-    go none e = omega arith
+    go : (m : Option ℕ) → plain (Ok (reasoned None m)) ≡ 2 → ⊥
+    go (Some F) e = omega arith
+    go None e = omega arith
 
 forgets_nogoods : Demand2 forgetful → ⊥
 forgets_nogoods d =
@@ -339,13 +346,13 @@ forged_right =
 unrefused : {H : List Justification} {s : Store} → Form 1 1 H s → ShapedRows s (question 2 1) 0
 unrefused {s = s} f = passes ℕ _ _ 0 _ (⊎_elim (λ (p : top s.held < 2). omega (arith, form_a f, form_m f)) (in_set f 1 (omega arith))) refl
 
-supported_as_listed : plain (standing listed.lists 2 1) ≡ 1
+supported_as_listed : plain (Ok (standing listed.lists 2 1)) ≡ 1
 supported_as_listed = standing_plain (made_form made_listed) 2 1 (omega arith) (omega arith) ∙ carried (first 1 ∷ []) 1 2 first_carries
 
-unsupported_anew : plain (worked_out bare.held 2 1) ≡ 0
+unsupported_anew : plain (Ok (worked_out bare.held 2 1)) ≡ 0
 unsupported_anew =
     let f = made_form made_bare in
-    ap (λ (l : Lists). plain (standing l 2 1)) (lists_again f) ∙ standing_plain f 2 1 (omega arith) (omega arith) ∙ none_byte
+    ap (λ (l : Lists). plain (Ok (standing l 2 1))) (lists_again f) ∙ standing_plain f 2 1 (omega arith) (omega arith) ∙ none_byte
 
 -- ---- withdraws the rule and keeps the lists, or the count
 
@@ -468,19 +475,24 @@ clears_a_consequent d =
 reads_no_list : AsTheyStand deducing → ⊥
 reads_no_list d =
     let w : ShapedRows forged (question 2 1) 0 = unrefused (made_form made_bare) in
-    let read : (ours.reading forged (question 2 1)).said ≡ standing listed.lists 2 1 = ap (λ (a : Read (question 2 1)). a.said) ((as_they_stand.stands forged forged_right).reading (question 2 1) w) in
-    let said : (deducing.reading forged (question 2 1)).said ≡ standing listed.lists 2 1 = ap (λ (a : Read (question 2 1)). a.said) ((d.stands forged forged_right).reading (question 2 1) w) in
-    let worked : (deducing.reading forged (question 2 1)).said ≡ worked_out bare.held 2 1 =
-    ap (λ (k : ℕ). choose (eqb k 0) (worked_out bare.held 2 1) (question_of forged 2 1)) (ap answer_number read ∙ standing_zero listed.lists 2 1) in
+    let read : (ours.reading forged (question 2 1)).said ≡ Ok (standing listed.lists 2 1) = ap (λ (a : Read (question 2 1)). a.said) ((as_they_stand.stands forged forged_right).reading (question 2 1) w) in
+    let said : (deducing.reading forged (question 2 1)).said ≡ Ok (standing listed.lists 2 1) = ap (λ (a : Read (question 2 1)). a.said) ((d.stands forged forged_right).reading (question 2 1) w) in
+    let worked : (deducing.reading forged (question 2 1)).said ≡ Ok (worked_out bare.held 2 1) =
+    ap (λ (k : ℕ). choose (eqb k 0) (Ok (worked_out bare.held 2 1)) (question_of forged 2 1)) (ap answer_number read ∙ standing_zero listed.lists 2 1) in
     not_both (deducing.reading forged (question 2 1)).said (ap plain said ∙ supported_as_listed) (ap plain worked ∙ unsupported_anew)
 
 -- ---- answers the plain question from the labels: of the same forged store
 
-word_byte : (a : Answer) → plain_byte (word_alone a) ≡ plain a
-word_byte (Inconsistent G) = refl
-word_byte (Supported F) = refl
-word_byte Unsupported = refl
-word_byte (Refused r) = refl
+-- the byte of a word, 0 of a refusal
+abbrev word_number : Result Plain Reply → ℕ
+word_number (Ok w) = plain_byte w
+word_number (Err r) = 0
+
+word_byte : (a : Result Answer Reply) → word_number (word_alone a) ≡ plain a
+word_byte (Ok (Inconsistent G)) = refl
+word_byte (Ok (Supported F)) = refl
+word_byte (Ok Unsupported) = refl
+word_byte (Err r) = refl
 
 nothing_follows : plain_byte (plainWord (in_order []) 1 2) ≡ 0
 unfolding plainWord carries contradicts follows among digit some_of in_order
@@ -490,10 +502,10 @@ reads_labels : AsTheyStand from_labels → ⊥
 reads_labels d =
     let f = made_form made_bare in
     let w : ShapedRows forged (question 2 1) 0 = unrefused f in
-    let read : question_of forged 2 1 ≡ standing listed.lists 2 1 = ap (λ (a : Read (question 2 1)). a.said) ((as_they_stand.stands forged forged_right).reading (question 2 1) w) in
-    let said : word_alone (question_of forged 2 1) ≡ plainWord (said_by bare.held) 1 2 = ap (λ (a : Read (plainly 2 1)). a.said) ((d.stands forged forged_right).reading (plainly 2 1) w) in
+    let read : question_of forged 2 1 ≡ Ok (standing listed.lists 2 1) = ap (λ (a : Read (question 2 1)). a.said) ((as_they_stand.stands forged forged_right).reading (question 2 1) w) in
+    let said : word_alone (question_of forged 2 1) ≡ Ok (plainWord (said_by bare.held) 1 2) = ap (λ (a : Read (plainly 2 1)). a.said) ((d.stands forged forged_right).reading (plainly 2 1) w) in
     not_both (question_of forged 2 1) (ap plain read ∙ supported_as_listed)
-    (sym (word_byte (question_of forged 2 1)) ∙ ap plain_byte said ∙ ap (λ (J : List Justification). plain_byte (plainWord J 1 2)) (form_said f) ∙ nothing_follows)
+    (sym (word_byte (question_of forged 2 1)) ∙ ap word_number said ∙ ap (λ (J : List Justification). plain_byte (plainWord J 1 2)) (form_said f) ∙ nothing_follows)
 
 -- ---- holds what names its own consequent as a support: claim 1 from itself
 

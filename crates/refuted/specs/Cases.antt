@@ -1,5 +1,5 @@
 -- The cases of document 01 that are proved (P), all eight in one table: over the calls, at the product's limits. Assumes nothing.
-use Rattle.std.specs.Prelude.{List, [], ◌∷◌, map, ◌≡◌, ◌+◌, ◌<◌, ◌≤◌, ℕ, length}
+use Rattle.std.specs.Prelude.{List, [], ◌∷◌, map, ◌≡◌, ◌+◌, ◌<◌, ◌≤◌, ℕ, length, Some, Ok}
 use Rattle.std.proofs.Math.Option.{some}
 use Prim.Native.String.{String}
 use Rattle.asking.specs.Asking.{member_number, member_set}
@@ -81,7 +81,7 @@ pub record PCases (C : Calls) : Type 0 where
   pub listed_lists : ListsAre (listed C) 2 (3 ∷ []) ((1 ∷ []) ∷ (2 ∷ []) ∷ (4 ∷ []) ∷ (1 ∷ 6 ∷ []) ∷ (6 ∷ []) ∷ [])
   -- {2,3} is 6
   pub listed_5 : label_held (listed C).lists 5 ≡ 6 ∷ []
-  pub listed_member : member_set (C.reading (listed C) (member 5 0)).said ≡ some 6
+  pub listed_member : member_set (C.reading (listed C) (member 5 0)).said ≡ Some 6
   pub listed_last : member_number (C.reading (listed C) (member 5 1)).said ≡ 16
   -- A=1, claims 2 and 3 supporting each other: both unsupported, depth 0
   pub one_way_done : (C.adding (C.opening 1 2).store 2 (3 ∷ [])).reply ≡ Done
@@ -89,7 +89,7 @@ pub record PCases (C : Calls) : Type 0 where
   pub each_other_done : (C.adding (one_way C) 3 (2 ∷ [])).reply ≡ Done
   pub each_other_made : Made C 1 2 (from 3 (2 ∷ []) ∷ from 2 (3 ∷ []) ∷ []) (each_other C)
   pub each_other_lists : ListsAre (each_other C) 0 [] ((1 ∷ []) ∷ [] ∷ [] ∷ [])
-  pub each_other_asked : (n E : ℕ) → 2 ≤ n → n ≤ 3 → E < 2 → (C.reading (each_other C) (question n E)).said ≡ Unsupported
+  pub each_other_asked : (n E : ℕ) → 2 ≤ n → n ≤ 3 → E < 2 → (C.reading (each_other C) (question n E)).said ≡ Ok Unsupported
   pub each_other_lines : Prints C (each_other C) 2 "2 unsupported\n" × Prints C (each_other C) 3 "3 unsupported\n"
   -- a premise for falsity, whatever A and M: one nogood, the empty set; all labels empty; depth 1. Not refused
   pub absurdity_done : (A M : ℕ) → A ≤ limits.assumptions → M ≤ limits.claims → (C.adding (C.opening A M).store 0 []).reply ≡ Done

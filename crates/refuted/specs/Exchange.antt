@@ -1,5 +1,5 @@
 -- A program with one of its calls exchanged for another. Assumes nothing.
-use Rattle.std.specs.Prelude.{not, List, [], ◌++◌, ℕ, ltb, drop, length}
+use Rattle.std.specs.Prelude.{not, List, [], ◌++◌, ℕ, ltb, drop, length, Result}
 use Rattle.asking.specs.Asking.{Left, left}
 use Rattle.asking.specs.declared.Answer.{Answer}
 use Rattle.casefile.specs.declared.Loaded.{Loaded}
@@ -68,7 +68,7 @@ abbrev pub with_reading : (Store → (a : Ask) → Read a) → Calls → Calls
 with_reading f C = exchanged C C.opening C.loading C.adding C.adding_all C.withdrawing f
 
 -- a question answered by f, what else is read by r
-abbrev pub answering : (Store → ℕ → ℕ → Answer) → (Store → (a : Ask) → Read a) → Store → (a : Ask) → Read a
+abbrev pub answering : (Store → ℕ → ℕ → Result Answer Reply) → (Store → (a : Ask) → Read a) → Store → (a : Ask) → Read a
 answering f r s (question n E) = reads (question n E) (f s n E) s []
 answering f r s (context E out) = r s (context E out)
 answering f r s (member n place) = r s (member n place)
@@ -107,7 +107,7 @@ staging f r s (plain_context E out) = r s (plain_context E out)
 staging f r s (stage_lines E out) = reads (stage_lines E out) (f s E out).answer s (f s E out).bytes
 
 -- a plain question answered by f, what else is read by r
-abbrev pub wording : (Store → ℕ → ℕ → Plain) → (Store → (a : Ask) → Read a) → Store → (a : Ask) → Read a
+abbrev pub wording : (Store → ℕ → ℕ → Result Plain Reply) → (Store → (a : Ask) → Read a) → Store → (a : Ask) → Read a
 wording f r s (question n E) = r s (question n E)
 wording f r s (context E out) = r s (context E out)
 wording f r s (member n place) = r s (member n place)
@@ -119,7 +119,7 @@ wording f r s (plainly n E) = reads (plainly n E) (f s n E) s []
 wording f r s (plain_context E out) = r s (plain_context E out)
 wording f r s (stage_lines E out) = r s (stage_lines E out)
 
-abbrev pub with_plainly : (Store → ℕ → ℕ → Plain) → Calls → Calls
+abbrev pub with_plainly : (Store → ℕ → ℕ → Result Plain Reply) → Calls → Calls
 with_plainly f C = with_reading (wording f C.reading) C
 
 abbrev pub with_stages : (Store → ℕ → List ℕ → Wrote) → Calls → Calls
@@ -128,7 +128,7 @@ with_stages f C = with_reading (staging f C.reading) C
 abbrev pub with_line : (Store → ℕ → List ℕ → Wrote) → Calls → Calls
 with_line f C = with_reading (lining f C.reading) C
 
-abbrev pub with_question : (Store → ℕ → ℕ → Answer) → Calls → Calls
+abbrev pub with_question : (Store → ℕ → ℕ → Result Answer Reply) → Calls → Calls
 with_question f C = with_reading (answering f C.reading) C
 
 -- a file written by f, what else is read by r

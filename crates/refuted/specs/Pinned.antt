@@ -1,6 +1,6 @@
 -- Definitions that code and promises share, said a second time by what they give: numbers, texts, bytes and orders, written out, through the calls. Assumes nothing.
-use Rattle.std.specs.Prelude.{◌++◌, ◌∷◌, List, [], map, ◌≡◌, ◌<◌, ◌≤◌, ℕ, drop, length}
-use Rattle.std.proofs.Math.Option.{none, some}
+use Rattle.std.specs.Prelude.{◌++◌, ◌∷◌, List, [], map, ◌≡◌, ◌<◌, ◌≤◌, ℕ, drop, length, Ok, Err, Some, None}
+use Rattle.std.proofs.Math.Option.{some}
 use Prim.Native.String.{String}
 use Rattle.asking.specs.Asking.{answer_set}
 use Rattle.asking.specs.declared.Answer.TheVariants.{Inconsistent, Supported, Unsupported}
@@ -9,8 +9,7 @@ use Rattle.bare.specs.declared.Told.TheVariants.{Filled, Lines, Word}
 use Rattle.bare.specs.declared.What.TheVariants.{Context, Number as Of, Stages}
 use Rattle.handed.specs.declared.Handed.{Handed}
 use Rattle.lent.specs.Lent.{written_length}
-use Rattle.lent.specs.declared.Written.TheVariants.{Length, Refused as Unwritten}
-use Rattle.plain.specs.declared.Plain.TheVariants.{Inconsistent as Against, Refused as Unsaid, Supported as Plainly, Unsupported as Neither}
+use Rattle.plain.specs.declared.Plain.TheVariants.{Inconsistent as Against, Supported as Plainly, Unsupported as Neither}
 use Rattle.promises.specs.Calls.{Calls, case_line, context, file, line, over, plain_context, plainly, question, reads, stage_lines, written}
 use Rattle.promises.specs.Plain.{asking}
 use Rattle.refuted.specs.Cases.{ListsAre, Prints, listed_bytes}
@@ -88,23 +87,23 @@ pub record Pinned (C : Calls) : Type 0 where
   -- the length that a line reports
   pub sowing_length : (out : List ℕ) → 18 ≤ length out → written_length (C.reading (sowing C) (line 6 out)).said ≡ some 18
   -- the three answers, of {1,3} and {2,3}; the sets that they name; the contexts of both
-  pub sowing_asked : ((C.reading (sowing C) (question 6 5)).said ≡ Supported 5) × ((C.reading (sowing C) (question 7 5)).said ≡ Unsupported) × ((C.reading (sowing C) (question 7 6)).said ≡ Inconsistent 6)
-  pub sowing_named : (answer_set (C.reading (sowing C) (question 6 5)).said ≡ some 5) × (answer_set (C.reading (sowing C) (question 7 5)).said ≡ none) × (answer_set (C.reading (sowing C) (question 7 6)).said ≡ some 6)
+  pub sowing_asked : ((C.reading (sowing C) (question 6 5)).said ≡ Ok (Supported 5)) × ((C.reading (sowing C) (question 7 5)).said ≡ Ok Unsupported) × ((C.reading (sowing C) (question 7 6)).said ≡ Ok (Inconsistent 6))
+  pub sowing_named : (answer_set (C.reading (sowing C) (question 6 5)).said ≡ Some 5) × (answer_set (C.reading (sowing C) (question 7 5)).said ≡ None) × (answer_set (C.reading (sowing C) (question 7 6)).said ≡ Some 6)
   pub sowing_context : (out : List ℕ) → 8 ≤ length out → C.reading (sowing C) (context 5 out) ≡ reads (context 5 out) Done (sowing C) ((0 ∷ 1 ∷ 0 ∷ 1 ∷ 1 ∷ 0 ∷ 1 ∷ 3 ∷ []) ++ drop 8 out)
   pub sowing_against : (out : List ℕ) → 8 ≤ length out → C.reading (sowing C) (context 6 out) ≡ reads (context 6 out) Done (sowing C) ((2 ∷ 2 ∷ 2 ∷ 2 ∷ 2 ∷ 2 ∷ 2 ∷ 2 ∷ []) ++ drop 8 out)
   -- the same without labels: the words alone, 0 in place of 3, and the lines of the stages of {2,3}
-  pub sowing_plain : ((C.reading (sowing C) (plainly 6 5)).said ≡ Plainly) × ((C.reading (sowing C) (plainly 7 5)).said ≡ Neither) × ((C.reading (sowing C) (plainly 7 6)).said ≡ Against)
+  pub sowing_plain : ((C.reading (sowing C) (plainly 6 5)).said ≡ Ok Plainly) × ((C.reading (sowing C) (plainly 7 5)).said ≡ Ok Neither) × ((C.reading (sowing C) (plainly 7 6)).said ≡ Ok Against)
   pub sowing_bytes_lem : (out : List ℕ) → 8 ≤ length out → C.reading (sowing C) (plain_context 5 out) ≡ reads (plain_context 5 out) Done (sowing C) ((0 ∷ 1 ∷ 0 ∷ 1 ∷ 1 ∷ 0 ∷ 1 ∷ 0 ∷ []) ++ drop 8 out)
   pub sowing_stages : (out : List ℕ) → 28 ≤ length out
       → C.reading (sowing C) (stage_lines 6 out) ≡ reads (stage_lines 6 out) (written (word "0 2 3\n1 0 2 3 5\n2 0 2 3 5 7\n")) (sowing C) (over (word "0 2 3\n1 0 2 3 5\n2 0 2 3 5 7\n") out)
   -- and from a bare list of its rules, supports in another order and twice: the word, the context, the lines
-  pub bare_word : (out : List ℕ) → C.bare (asking 3 4 (Of 6) 5) sowing_list out ≡ answered (Word Plainly) out
-  pub bare_context : (out : List ℕ) → 8 ≤ length out → C.bare (asking 3 4 Context 5) sowing_list out ≡ answered (Filled Done) ((0 ∷ 1 ∷ 0 ∷ 1 ∷ 1 ∷ 0 ∷ 1 ∷ 0 ∷ []) ++ drop 8 out)
-  pub bare_stages : (out : List ℕ) → 28 ≤ length out → C.bare (asking 3 4 Stages 6) sowing_list out ≡ answered (Lines (Length 28)) (word "0 2 3\n1 0 2 3 5\n2 0 2 3 5 7\n" ++ drop 28 out)
-  -- refused in the kind of each: an item that names its own consequent before one of five supports is 17; that one first is 6; a set with an assumption above A is 4, and so is a number above A + M
-  pub bare_refused : (out : List ℕ) → (C.bare (asking 3 4 (Of 6) 5) (own_item ∷ long_item ∷ []) out ≡ answered (Word (Unsaid Itself)) out)
-      × (C.bare (asking 3 4 Context 5) (long_item ∷ own_item ∷ []) out ≡ answered (Filled Supports) out) × (C.bare (asking 3 4 Stages 8) sowing_list out ≡ answered (Lines (Unwritten Number)) out)
-      × (C.bare (asking 3 4 (Of 8) 5) sowing_list out ≡ answered (Word (Unsaid Number)) out)
+  pub bare_word : (out : List ℕ) → C.bare (asking 3 4 (Of 6) 5) sowing_list out ≡ answered (Ok (Word Plainly)) out
+  pub bare_context : (out : List ℕ) → 8 ≤ length out → C.bare (asking 3 4 Context 5) sowing_list out ≡ answered (Ok Filled) ((0 ∷ 1 ∷ 0 ∷ 1 ∷ 1 ∷ 0 ∷ 1 ∷ 0 ∷ []) ++ drop 8 out)
+  pub bare_stages : (out : List ℕ) → 28 ≤ length out → C.bare (asking 3 4 Stages 6) sowing_list out ≡ answered (Ok (Lines 28)) (word "0 2 3\n1 0 2 3 5\n2 0 2 3 5 7\n" ++ drop 28 out)
+  -- refused whatever is asked: an item that names its own consequent before one of five supports is 17; that one first is 6; a set with an assumption above A is 4, and so is a number above A + M
+  pub bare_refused : (out : List ℕ) → (C.bare (asking 3 4 (Of 6) 5) (own_item ∷ long_item ∷ []) out ≡ answered (Err Itself) out)
+      × (C.bare (asking 3 4 Context 5) (long_item ∷ own_item ∷ []) out ≡ answered (Err Supports) out) × (C.bare (asking 3 4 Stages 8) sowing_list out ≡ answered (Err Number) out)
+      × (C.bare (asking 3 4 (Of 8) 5) sowing_list out ≡ answered (Err Number) out)
   -- the file that is written of it
   pub sowing_file_lem : (out : List ℕ) → 25 ≤ length out → C.reading (sowing C) (file out) ≡ reads (file out) (written sowing_file) (sowing C) (over sowing_file out)
   -- what is printed: the document's eighteen bytes; a record that stands twice, counted once; then no bytes, and more than 4,096

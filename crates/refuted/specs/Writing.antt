@@ -1,7 +1,6 @@
 -- Programs that write another file than ours, each refuted by what is promised of the files. Nothing else cites this file. Assumes nothing.
-use Rattle.std.specs.Prelude.{not, List, ◌++◌, ◌∷◌, map, reverse, ℕ}
+use Rattle.std.specs.Prelude.{not, List, ◌++◌, ◌∷◌, map, reverse, ℕ, Ok}
 use Rattle.lent.specs.Lent.{Wrote, fitted, kept}
-use Rattle.lent.specs.declared.Written.TheVariants.{Length}
 use Rattle.promises.specs.Calls.{Calls, ours}
 use Rattle.promises.specs.Files.{Files}
 use Rattle.refuted.specs.Exchange.{with_file}
@@ -20,7 +19,7 @@ texting t s out = choose (not (right_shape s)) (kept Shape out) (fitted (t s) ou
 
 -- writes nothing, and answers the length 0
 abbrev pub silent : Calls
-silent = with_file (λ s out. record { answer = Length 0; bytes = out }) ours
+silent = with_file (λ s out. record { answer = Ok 0; bytes = out }) ours
 
 -- writes the labels too, after the records
 abbrev pub labels_of : Store → List ℕ

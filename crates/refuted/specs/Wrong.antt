@@ -1,10 +1,9 @@
 -- Wrong programs, each as a value of the calls and refuted by a demand, by what a made store holds, or by what is said of forged stores: the five empty ones of document 01, then those that go wrong in one call. Nothing else cites this file. Assumes nothing.
-use Rattle.std.specs.Prelude.{Bool, ◌&&◌, not, true, List, [], ◌++◌, ◌∷◌, map, reverse, ◌≡◌, ◌+◌, ◌≤◌, suc, ℕ, eqb, ltb, drop, length}
-use Rattle.std.proofs.Math.Option.{none}
+use Rattle.replies.specs.declared.Reply.{Reply}
+use Rattle.std.specs.Prelude.{Bool, ◌&&◌, not, true, List, [], ◌++◌, ◌∷◌, map, reverse, ◌≡◌, ◌+◌, ◌≤◌, suc, ℕ, eqb, ltb, drop, length, Err, None, Result, Ok}
 use Rattle.asking.specs.Asking.{Left, answer_number, first_in, left, question_of, reasoned, standing}
 use Rattle.asking.specs.declared.Answer.{Answer}
-use Rattle.asking.specs.declared.Answer.TheVariants.{Inconsistent, Refused, Supported, Unsupported}
-use Rattle.asking.specs.declared.Found.TheVariants.{Not}
+use Rattle.asking.specs.declared.Answer.TheVariants.{Inconsistent, Supported, Unsupported}
 use Rattle.casefile.specs.Case.{Case, Reading, case_of, joined, refused, whole}
 use Rattle.casefile.specs.Load.{loaded_of, recorded}
 use Rattle.casefile.specs.declared.Loaded.{Loaded}
@@ -13,9 +12,7 @@ use Rattle.handed.specs.Supplied.{supplied_by}
 use Rattle.handed.specs.declared.Handed.{Handed}
 use Rattle.items.specs.Items.{Item}
 use Rattle.lent.specs.Lent.{Wrote, fitted, kept}
-use Rattle.lent.specs.declared.Written.TheVariants.{Refused as Unwritten}
 use Rattle.wording.specs.Wording.{line_with}
-use Rattle.plain.specs.declared.Plain.TheVariants.{Refused as Unsaid}
 use Rattle.promises.specs.Calls.{Ask, Calls, Read, case_line, context, file, line, list_all, member, ours, plain_context, plainly, question, reads, stage_lines}
 use Rattle.promises.specs.Demand1.{Refusals}
 use Rattle.promises.specs.Demand2.{Demand2, IsDepth}
@@ -49,23 +46,23 @@ use Rattle.theory.specs.Stages.{Justification, follows, minimal}
 
 -- refuses each call
 abbrev pub refusing_read : Store → (a : Ask) → Read a
-refusing_read s (question n E) = reads (question n E) (Refused Shape) s []
+refusing_read s (question n E) = reads (question n E) (Err Shape) s []
 refusing_read s (context E out) = reads (context E out) Shape s out
-refusing_read s (member n place) = reads (member n place) (Not Shape) s []
-refusing_read s (line n out) = reads (line n out) (Unwritten Shape) s out
-refusing_read s (case_line out) = reads (case_line out) (Unwritten Shape) s out
-refusing_read s (list_all out) = reads (list_all out) (Unwritten Shape) s out
-refusing_read s (file out) = reads (file out) (Unwritten Shape) s out
-refusing_read s (plainly n E) = reads (plainly n E) (Unsaid Shape) s []
+refusing_read s (member n place) = reads (member n place) (Err Shape) s []
+refusing_read s (line n out) = reads (line n out) (Err Shape) s out
+refusing_read s (case_line out) = reads (case_line out) (Err Shape) s out
+refusing_read s (list_all out) = reads (list_all out) (Err Shape) s out
+refusing_read s (file out) = reads (file out) (Err Shape) s out
+refusing_read s (plainly n E) = reads (plainly n E) (Err Shape) s []
 refusing_read s (plain_context E out) = reads (plain_context E out) Shape s out
-refusing_read s (stage_lines E out) = reads (stage_lines E out) (Unwritten Shape) s out
+refusing_read s (stage_lines E out) = reads (stage_lines E out) (Err Shape) s out
 
 abbrev pub refusing : Calls
 refusing = exchanged ours (λ A M. answer Counts no_store) (λ bytes. record { reply = Ends; «record» = 0; store = no_store }) (λ s c l. answer Shape s) (λ s l out. left (answer Shape s) out) (λ s c l. answer Shape s) refusing_read
 
 -- calls every set unsupported
 abbrev pub denying : Calls
-denying = with_question (λ s n E. Unsupported) ours
+denying = with_question (λ s n E. Ok Unsupported) ours
 
 -- adds nothing and reports 0
 abbrev pub idle : Calls
@@ -131,11 +128,11 @@ abbrev pub prefixed : Calls
 prefixed = with_loading (λ bytes. prefixes_of (case_of bytes)) ours
 
 -- a question that forgets the nogoods: supported by the first member of the label that the set contains, else unsupported
-abbrev pub forgetting : Lists → ℕ → ℕ → Answer → Answer
-forgetting l n E (Refused r) = Refused r
-forgetting l n E (Inconsistent G) = reasoned none (first_in (label_held l n) E)
-forgetting l n E (Supported F) = Supported F
-forgetting l n E Unsupported = Unsupported
+abbrev pub forgetting : Lists → ℕ → ℕ → Result Answer Reply → Result Answer Reply
+forgetting l n E (Err r) = Err r
+forgetting l n E (Ok (Inconsistent G)) = Ok (reasoned None (first_in (label_held l n) E))
+forgetting l n E (Ok (Supported F)) = Ok (Supported F)
+forgetting l n E (Ok Unsupported) = Ok Unsupported
 
 abbrev pub forgetful : Calls
 forgetful = with_question (λ s n E. forgetting s.lists n E (question_of s n E)) ours
@@ -207,18 +204,18 @@ abbrev pub worked_out : Held → ℕ → ℕ → Answer
 worked_out h n E = standing (store_of no_store h.assumptions h.claims (said_by h)).store.lists n E
 
 abbrev pub deducing : Calls
-deducing = with_question (λ s n E. choose (eqb (answer_number (question_of s n E)) 0) (worked_out s.held n E) (question_of s n E)) ours
+deducing = with_question (λ s n E. choose (eqb (answer_number (question_of s n E)) 0) (Ok (worked_out s.held n E)) (question_of s n E)) ours
 
 -- a plain question answered from the labels: right of every made store, wrong of a forged one
 abbrev pub from_labels : Calls
 from_labels = with_plainly (λ s n E. word_alone (question_of s n E)) ours
 
 -- names the set asked
-abbrev pub echo : ℕ → Answer → Answer
-echo E (Inconsistent G) = Inconsistent E
-echo E (Supported F) = Supported E
-echo E Unsupported = Unsupported
-echo E (Refused r) = Refused r
+abbrev pub echo : ℕ → Result Answer Reply → Result Answer Reply
+echo E (Ok (Inconsistent G)) = Ok (Inconsistent E)
+echo E (Ok (Supported F)) = Ok (Supported E)
+echo E (Ok Unsupported) = Ok Unsupported
+echo E (Err r) = Err r
 
 abbrev pub echoing : Calls
 echoing = with_question (λ s n E. echo E (question_of s n E)) ours
@@ -228,7 +225,7 @@ abbrev pub last_named : Lists → ℕ → ℕ → Answer
 last_named l n E = reasoned (first_in (reverse (nogoods_held l)) E) (first_in (reverse (label_held l n)) E)
 
 abbrev pub lasting : Calls
-lasting = with_question (λ s n E. choose (eqb (answer_number (question_of s n E)) 0) (last_named s.lists n E) (question_of s n E)) ours
+lasting = with_question (λ s n E. choose (eqb (answer_number (question_of s n E)) 0) (Ok (last_named s.lists n E)) (question_of s n E)) ours
 
 -- the line of n, f telling of an empty label whether its number follows from all assumptions together
 abbrev pub lined_by : (Store → ℕ → Bool) → Store → ℕ → List ℕ → Wrote

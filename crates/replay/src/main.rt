@@ -1,81 +1,79 @@
 // Calls from a script on standard input, their replies to standard output.
 #![tactic(auto)]
 
+mod command;
+
 ghost use Rattle.std.specs.Prelude.{◌≤◌, length};
 
 use calls::hands;
-use calls::hands::Hand;
+use command::Command;
+use handed::Handed;
 use printing::Console;
+use std::alloc::Global;
 use store::Store;
+use telling::{Fault, MOST, numbers, tell};
 
-// A call that leaves the list in hand as it is: the store after it. A blank line and a remark are none.
-fn command(
+// A line's call on the store and the list in hand, its answer printed. A blank line and a remark are none.
+fn obey(
     console: Console,
+    store: &mut Store,
+    hand: &mut Vec<Handed>,
     word: &[u8],
     rest: &[u8],
-    number: u32,
-    store: Store,
-    hand: Hand,
-) -> Store {
-    if word.len() == 0 {
-        return store;
+) -> Result<(), Fault> {
+    if let [] | [b'#', ..] = word {
+        return Ok(());
     }
-    if word[0] == b'#' {
-        return store;
+    let command = Command::try_from(word)?;
+    if let Command::Load = command {
+        return calls::load(console, store, rest);
     }
-    if script::same(word, b"season") {
-        return hands::season(console, rest, number, store, hand);
+    let mut room = [0u32; MOST];
+    match (command, numbers(rest, &mut room)?) {
+        (Command::Open, [a, m]) => calls::open(console, store, *a, *m),
+        (Command::Add, [c, supports @ ..]) => calls::add(console, store, *c, supports),
+        (Command::Withdraw, [c, supports @ ..]) => calls::withdraw(console, store, *c, supports),
+        (Command::Rule, [c, supports @ ..]) => hands::rule(hand, *c, supports),
+        (Command::Forget, []) => {
+            hand.clear();
+            Ok(())
+        }
+        (Command::Season, []) => hands::season(console, store, hand),
+        (Command::Ask, [n, set @ ..]) => reads::ask(console, store, *n, set),
+        (Command::Context, set) => reads::context(console, store, set),
+        (Command::Member, [n, place]) => reads::member(console, store, *n, *place),
+        (Command::Line, [n]) => reads::line(console, store, *n),
+        (Command::List, []) => reads::list(console, store),
+        (Command::Write, []) => reads::write(console, store),
+        (Command::Plain, [n, set @ ..]) => plains::ask(console, store, *n, set),
+        (Command::PlainContext, set) => plains::context(console, store, set),
+        (Command::Stages, set) => plains::stages(console, store, set),
+        (Command::BareAsk, [a, m, n, set @ ..]) => bares::ask(console, hand, *a, *m, *n, set),
+        (Command::BareContext, [a, m, set @ ..]) => bares::context(console, hand, *a, *m, set),
+        (Command::BareStages, [a, m, set @ ..]) => bares::stages(console, hand, *a, *m, set),
+        _ => Err(Fault::Bad),
     }
-    if bares::of_hand(word) {
-        bares::bare(console, word, rest, number, hand);
-        return store;
-    }
-    called(console, word, rest, number, store)
-}
-
-// A call on the store alone: the store after it.
-fn called(console: Console, word: &[u8], rest: &[u8], number: u32, store: Store) -> Store {
-    if script::same(word, b"open") {
-        return calls::open(console, rest, number, store);
-    }
-    if script::same(word, b"load") {
-        return calls::load(console, rest, number, store);
-    }
-    if script::same(word, b"add") {
-        return calls::add(console, rest, number, store);
-    }
-    if script::same(word, b"withdraw") {
-        return calls::withdraw(console, rest, number, store);
-    }
-    if plains::of_store(word) {
-        plains::read(console, word, rest, number, store);
-        return store;
-    }
-    reads::read(console, word, rest, number, store);
-    store
 }
 
 // The lines one after the other, from the store that holds nothing.
-fn replayed(console: Console, bytes: &[u8])
+// A line ends where `line_end` says, whose contract is what a line is; the library's `split` would tie it to none.
+fn replayed(console: Console, alloc: Global, bytes: &[u8])
     requires { length bytes.now ≤ 65536 }
 {
-    let opened = Store::open(0, 0);
-    let mut store = opened.store;
-    let mut hand = hands::empty();
+    let mut store = Store::open(0, 0).store;
+    let mut hand = Vec::new(alloc);
     let mut at = 0;
     let mut number = 1;
     while at < bytes.len() {
         let end = script::line_end(bytes, at);
         let line = &bytes[at..end];
         let first = script::field(line, 0);
-        let from = first.from;
-        let to = first.to;
-        let word = &line[from..to];
-        let rest = &line[to..];
-        if hands::changes(word) {
-            hand = hands::changed(console, word, rest, number, hand);
-        } else {
-            store = command(console, word, rest, number, store, hand);
+        let start = first.start;
+        let stop = first.end;
+        let word = &line[start..stop];
+        let rest = &line[stop..];
+        if let Err(fault) = obey(console, &mut store, &mut hand, word, rest) {
+            tell(console, number, fault);
         }
         at = end + 1;
         number += 1;
@@ -88,12 +86,12 @@ fn main(rt: HostRuntime) {
     let mut bytes = [0u8; 65537];
     let got = printing::read_full(&mut input, &mut bytes);
     if 65536 < got {
-        printing::say(console, b"too long\n");
+        console.say(b"too long\n");
         return;
     }
     if !printing::at_end(&mut input) {
-        printing::complain(console, b"replay: the input could not be read to its end\n");
+        console.complain(b"replay: the input could not be read to its end\n");
         return;
     }
-    replayed(console, &bytes[..got]);
+    replayed(console, rt.alloc(), &bytes[..got]);
 }

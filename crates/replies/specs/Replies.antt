@@ -1,5 +1,5 @@
--- The number of each reply, and the number that it names. Assumes nothing.
-use Rattle.std.specs.Prelude.{◌≡◌, ℕ}
+-- The number of each reply, the number that it names, and the answer of a call that only refuses. Assumes nothing.
+use Rattle.std.specs.Prelude.{◌≡◌, ℕ, eqb, Result, Ok, Err, if◌then◌else◌, ⊤}
 use Rattle.std.proofs.Math.Option.{Option, none, some}
 use Rattle.replies.specs.declared.Reply.{Reply}
 use Rattle.replies.specs.declared.Reply.TheVariants.{Done, Already, Shape, Counts, Number, Falsity, Supports, Full, Label, Nogoods, Ends, Form, After, Long, Short, Place, Itself, Unheld}
@@ -67,3 +67,7 @@ named_by Unheld = none
 -- r is the number of the reply
 abbrev pub Numbered : Reply → ℕ → Type 0
 Numbered reply r = r ≡ number_of reply
+
+-- what a call that only refuses answers: nothing where the reply is done, else the refusal
+unfoldable pub checked : Reply → Result ⊤ Reply
+checked reply = if eqb (number_of reply) 0 then Ok tt else Err reply

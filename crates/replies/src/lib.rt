@@ -3,6 +3,7 @@
 
 ghost use Rattle.replies.specs.Replies.{Numbered};
 
+// Done and Already are replies too, and no Ok: theorem ReplyTable and the C interface number them with the others.
 #[derive(Clone, Copy)]
 pub enum Reply {
     Done,
@@ -25,7 +26,7 @@ pub enum Reply {
     Unheld,
 }
 
-// The number of a reply.
+// The number of a reply; asked for by this name, and not by From, since a reply is no number until it is printed.
 pub fn number(reply: Reply) -> u8
     ensures { Numbered reply result }
 {

@@ -14,68 +14,79 @@ use Rattle.rules.proofs.Steps.{four}
 use Rattle.rules.specs.Held.{fitting, meaning, unused_entry}
 use Rattle.rules.specs.Placing.{Bytes, byte, bytes_in, key_of, value_from}
 use Rattle.rules.specs.declared.Entry.{Entry}
-use Rattle.slices.proofs.Laws.{none_of_both}
+use Rattle.std.specs.Int.{from_be_bytes, from_le_bytes}
+use Rattle.std.proofs.Common.{w64}
 use Rattle.theory.proofs.Lists.{and_intro, and_left, and_right, same_test}
 use Rattle.theory.specs.Limits.{limits}
 use Rattle.theory.specs.Lists.{all_of}
-use Rattle.theory.specs.Sets.{union}
 use Rattle.theory.specs.Stages.{ahead, lesser}
 
 -- ---- bytes as one number
 
--- four bytes
-module _ (a b c d : ℕ) where
-  pub value_four : 16777216 * a + 65536 * b + 256 * c + d ≡ value_from 0 (a ∷ b ∷ c ∷ d ∷ [])
-  unfolding value_from
-  value_four = omega arith
+module _ (a b c d x y : ℕ) where
+  lowest_first : from_le_bytes w64 (x ∷ y ∷ a ∷ b ∷ c ∷ d ∷ 0 ∷ 0 ∷ []) ≡ x + 256 * y + 65536 * a + 16777216 * b + 4294967296 * c + 1099511627776 * d
+  lowest_first = omega arith
 
-  pub bytes_four : a < 256 → b < 256 → c < 256 → d < 256 → all_of byte (a ∷ b ∷ c ∷ d ∷ []) ≡ true
-  unfolding all_of
-  bytes_four p q r s = and_intro (lt-ltb a 256 p) (and_intro (lt-ltb b 256 q) (and_intro (lt-ltb c 256 r) (and_intro (lt-ltb d 256 s) refl)))
+  highest_first : from_be_bytes w64 (0 ∷ 0 ∷ x ∷ y ∷ a ∷ b ∷ c ∷ d ∷ []) ≡ value_from 0 (x ∷ y ∷ a ∷ b ∷ c ∷ d ∷ [])
+  unfolding value_from
+  highest_first = omega arith
 
   -- all six are zero
-  pub bits_six : (x y : ℕ) → eqb 0 (union (x + 256 * y) (16777216 * a + 65536 * b + 256 * c + d)) ≡ eqb x 0 && (eqb y 0 && all_of (eqb 0) (d ∷ c ∷ b ∷ a ∷ []))
+  bits_six : (w : ℕ) → w ≡ x + 256 * y + 65536 * a + 16777216 * b + 4294967296 * c + 1099511627776 * d → eqb 0 w ≡ eqb x 0 && (eqb y 0 && all_of (eqb 0) (a ∷ b ∷ c ∷ d ∷ []))
   unfolding all_of
-  bits_six x y =
-      none_of_both (x + 256 * y) (16777216 * a + 65536 * b + 256 * c + d)
-      ∙ same_test (λ t.
-      let h : 0 ≡ x + 256 * y = eqb-true 0 _ (and_left (eqb 0 (x + 256 * y)) _ t) in
-      let w : 0 ≡ 16777216 * a + 65536 * b + 256 * c + d = eqb-true 0 _ (and_right (eqb 0 (x + 256 * y)) _ t) in
-      and_intro (eq-eqb x 0 (omega arith)) (and_intro (eq-eqb y 0 (omega arith)) (and_intro (eq-eqb 0 d (omega arith)) (and_intro (eq-eqb 0 c (omega arith)) (and_intro (eq-eqb 0 b (omega arith)) (and_intro (eq-eqb 0 a (omega arith)) refl))))))
+  bits_six w e =
+      same_test (λ t.
+      let h : 0 ≡ w = eqb-true 0 w t in
+      and_intro (eq-eqb x 0 (omega arith)) (and_intro (eq-eqb y 0 (omega arith)) (and_intro (eq-eqb 0 a (omega arith)) (and_intro (eq-eqb 0 b (omega arith)) (and_intro (eq-eqb 0 c (omega arith)) (and_intro (eq-eqb 0 d (omega arith)) refl))))))
       (λ t.
       let t₁ = and_right (eqb x 0) _ t in
       let t₂ = and_right (eqb y 0) _ t₁ in
-      let t₃ = and_right (eqb 0 d) _ t₂ in
-      let t₄ = and_right (eqb 0 c) _ t₃ in
-      let t₅ = and_right (eqb 0 b) _ t₄ in
-      and_intro (eq-eqb 0 (x + 256 * y) (omega (arith, eqb-true x 0 (and_left (eqb x 0) _ t), eqb-true y 0 (and_left (eqb y 0) _ t₁))))
-      (eq-eqb 0 (16777216 * a + 65536 * b + 256 * c + d) (omega (arith, eqb-true 0 d (and_left (eqb 0 d) _ t₂), eqb-true 0 c (and_left (eqb 0 c) _ t₃), eqb-true 0 b (and_left (eqb 0 b) _ t₄), eqb-true 0 a (and_left (eqb 0 a) _ t₅)))))
+      let t₃ = and_right (eqb 0 a) _ t₂ in
+      let t₄ = and_right (eqb 0 b) _ t₃ in
+      let t₅ = and_right (eqb 0 c) _ t₄ in
+      eq-eqb 0 w (omega (arith, eqb-true x 0 (and_left (eqb x 0) _ t), eqb-true y 0 (and_left (eqb y 0) _ t₁), eqb-true 0 a (and_left (eqb 0 a) _ t₂), eqb-true 0 b (and_left (eqb 0 b) _ t₃), eqb-true 0 c (and_left (eqb 0 c) _ t₄), eqb-true 0 d (and_left (eqb 0 d) _ t₅))))
+
+-- six bytes are less than 256 to the sixth
+pub key_small : (e : Entry) → Bytes e → key_of e < 281474976710656
+unfolding key_of all_of value_from
+key_small e b =
+    let q : e.consequent ∷ e.count ∷ e.supports ≡ e.consequent ∷ e.count ∷ get_or e.supports 0 0 ∷ get_or e.supports 1 0 ∷ get_or e.supports 2 0 ∷ get_or e.supports 3 0 ∷ [] = ap (λ (m : List ℕ). e.consequent ∷ e.count ∷ m) (four e.supports b.1) in
+    let t : all_of byte (e.consequent ∷ e.count ∷ get_or e.supports 0 0 ∷ get_or e.supports 1 0 ∷ get_or e.supports 2 0 ∷ get_or e.supports 3 0 ∷ []) ≡ true = ap (all_of byte) (sym q) ∙ b.0 in
+    rw q (six e.consequent e.count (get_or e.supports 0 0) (get_or e.supports 1 0) (get_or e.supports 2 0) (get_or e.supports 3 0) t)
+  where
+    six : (x y a b c d : ℕ) → all_of byte (x ∷ y ∷ a ∷ b ∷ c ∷ d ∷ []) ≡ true → value_from 0 (x ∷ y ∷ a ∷ b ∷ c ∷ d ∷ []) < 281474976710656
+    six x y a b c d t =
+        let t₁ = and_right (byte x) _ t in
+        let t₂ = and_right (byte y) _ t₁ in
+        let t₃ = and_right (byte a) _ t₂ in
+        let t₄ = and_right (byte b) _ t₃ in
+        let t₅ = and_right (byte c) _ t₄ in
+        omega (arith, ltb-true x 256 (and_left (byte x) _ t), ltb-true y 256 (and_left (byte y) _ t₁), ltb-true a 256 (and_left (byte a) _ t₂), ltb-true b 256 (and_left (byte b) _ t₃), ltb-true c 256 (and_left (byte c) _ t₄), ltb-true d 256 (and_left (byte d) _ t₅))
 
 module _ (e : Entry) (long : length e.supports ≡ limits.supports) where
   abbrev at : ℕ → ℕ
   at i = get_or e.supports i 0
 
   -- zero where the place is unused
-  pub bits_entry : (w : ℕ) → w ≡ value_from 0 (at 3 ∷ at 2 ∷ at 1 ∷ at 0 ∷ []) → eqb 0 (union (e.consequent + 256 * e.count) w) ≡ unused_entry e
+  pub bits_entry : (w : ℕ) → w ≡ from_le_bytes w64 (e.consequent ∷ e.count ∷ at 0 ∷ at 1 ∷ at 2 ∷ at 3 ∷ 0 ∷ 0 ∷ []) → eqb 0 w ≡ unused_entry e
   unfolding unused_entry
   bits_entry w h =
-      ap (λ (v : ℕ). eqb 0 (union (e.consequent + 256 * e.count) v)) (h ∙ sym (value_four (at 3) (at 2) (at 1) (at 0)))
-      ∙ bits_six (at 3) (at 2) (at 1) (at 0) e.consequent e.count
+      bits_six (at 0) (at 1) (at 2) (at 3) e.consequent e.count w (h ∙ lowest_first (at 0) (at 1) (at 2) (at 3) e.consequent e.count)
       ∙ ap (λ (m : List ℕ). eqb e.consequent 0 && (eqb e.count 0 && all_of (eqb 0) m)) (sym (four e.supports long))
       ∙ ap (λ (b : Bool). eqb e.consequent 0 && (eqb e.count 0 && (b && all_of (eqb 0) e.supports))) (sym (eq-eqb (length e.supports) limits.supports long))
 
-  key_sum : (w : ℕ) → w ≡ value_from 0 (at 0 ∷ at 1 ∷ at 2 ∷ at 3 ∷ []) → 1099511627776 * e.consequent + 4294967296 * e.count + w ≡ value_from (256 * (256 * 0 + e.consequent) + e.count) (at 0 ∷ at 1 ∷ at 2 ∷ at 3 ∷ [])
-  unfolding value_from
-  key_sum w h = omega (arith, h)
-
   -- the place as one number, and its bytes
-  pub key_entry : (w : ℕ) → w ≡ value_from 0 (at 0 ∷ at 1 ∷ at 2 ∷ at 3 ∷ []) → 1099511627776 * e.consequent + 4294967296 * e.count + w ≡ key_of e
-  unfolding key_of value_from
-  key_entry w h = key_sum w h ∙ ap (value_from (256 * (256 * 0 + e.consequent) + e.count)) (sym (four e.supports long))
+  pub key_entry : (w : ℕ) → w ≡ from_be_bytes w64 (0 ∷ 0 ∷ e.consequent ∷ e.count ∷ at 0 ∷ at 1 ∷ at 2 ∷ at 3 ∷ []) → w ≡ key_of e
+  unfolding key_of
+  key_entry w h = h ∙ highest_first (at 0) (at 1) (at 2) (at 3) e.consequent e.count ∙ ap (λ (m : List ℕ). value_from 0 (e.consequent ∷ e.count ∷ m)) (sym (four e.supports long))
 
-  pub bytes_entry : e.consequent < 256 → e.count < 256 → all_of byte (at 0 ∷ at 1 ∷ at 2 ∷ at 3 ∷ []) ≡ true → Bytes e
+  bytes_four : at 0 < 256 → at 1 < 256 → at 2 < 256 → at 3 < 256 → all_of byte (at 0 ∷ at 1 ∷ at 2 ∷ at 3 ∷ []) ≡ true
   unfolding all_of
-  bytes_entry p q b = (and_intro (lt-ltb e.consequent 256 p) (and_intro (lt-ltb e.count 256 q) (ap (all_of byte) (four e.supports long) ∙ b)), long)
+  bytes_four p q r s = and_intro (lt-ltb (at 0) 256 p) (and_intro (lt-ltb (at 1) 256 q) (and_intro (lt-ltb (at 2) 256 r) (and_intro (lt-ltb (at 3) 256 s) refl)))
+
+  pub bytes_entry : e.consequent < 256 → e.count < 256 → at 0 < 256 → at 1 < 256 → at 2 < 256 → at 3 < 256 → Bytes e
+  unfolding all_of
+  bytes_entry p q a₀ a₁ a₂ a₃ = (and_intro (lt-ltb e.consequent 256 p) (and_intro (lt-ltb e.count 256 q) (ap (all_of byte) (four e.supports long) ∙ bytes_four a₀ a₁ a₂ a₃)), long)
 
 -- the higher first number makes the higher value
 value_less : (v w : ℕ) (a b : List ℕ) → length a ≡ length b → all_of byte a ≡ true → all_of byte b ≡ true → v < w → value_from v a < value_from w b

@@ -1,5 +1,5 @@
 -- The order of held justifications: it is total, and a list in order is settled by its members. Assumes nothing.
-use mathlib.Core.Bool.{Bool, ◌&&◌, ◌||◌, false, true}
+use mathlib.Core.Bool.{Bool, ◌&&◌, ◌||◌, true}
 use mathlib.Core.List.Memᴰ
 use mathlib.Core.List.Memᴰ.{head as here}
 use mathlib.Core.List.Memᴰ.{tail as there}
@@ -11,7 +11,7 @@ use native.Mathlib.Decide.{dec_lt}
 use native.Mathlib.Omega.{arith}
 use lib.Dec.{eqb, ltb}
 use lib.ListN.{length}
-use borrow.Author.Tests.{eq-eqb, eqb-true, le-ltb, lt-ltb, ltb-true, ne_eqb}
+use borrow.Author.Tests.{eq-eqb, eqb-true, le-ltb, lt-ltb, ltb-true}
 use Rattle.rules.specs.Held.{ordered}
 use Rattle.rules.specs.Items.{same_justification}
 use Rattle.theory.proofs.Judgement.{same_elim, same_refl}
@@ -76,19 +76,10 @@ module _ (r t : Justification) where
   unfolding ahead
   ahead_yes h = rw (lt-ltb r.consequent t.consequent h)
 
-  pub ahead_no : t.consequent < r.consequent → false ≡ ahead r t
-  unfolding ahead
-  ahead_no h = rw (le-ltb r.consequent t.consequent (omega arith), ne_eqb r.consequent t.consequent (λ e. omega arith))
-
   module _ (e : r.consequent ≡ t.consequent) where
     pub ahead_fewer : length r.supports < length t.supports → true ≡ ahead r t
     unfolding ahead
     ahead_fewer h = rw (le-ltb r.consequent t.consequent (omega arith), eq-eqb r.consequent t.consequent e, lt-ltb (length r.supports) (length t.supports) h)
-
-    pub ahead_more : length t.supports < length r.supports → false ≡ ahead r t
-    unfolding ahead
-    ahead_more h =
-        rw (le-ltb r.consequent t.consequent (omega arith), eq-eqb r.consequent t.consequent e, le-ltb (length r.supports) (length t.supports) (omega arith), ne_eqb (length r.supports) (length t.supports) (λ q. omega arith))
 
     pub ahead_same : length r.supports ≡ length t.supports → (b : Bool) → b ≡ lesser r.supports t.supports → b ≡ ahead r t
     unfolding ahead

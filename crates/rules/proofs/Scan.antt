@@ -9,7 +9,7 @@ use lib.Dec.{eqb, leb}
 use lib.ListN.{get_or-map, drop, drop_of_length-le, get_or, length, length-map, take}
 use lib.Seq.{drop-cons, get_or-take, length-take-le}
 use borrow.Author.Tests.{eq-eqb, eqb-true, le-leb, leb-true, lt-leb}
-use Rattle.rules.proofs.Steps.{all_first, and_first, beyond, fitting_count}
+use Rattle.rules.proofs.Steps.{and_first, beyond}
 use Rattle.rules.specs.Held.{fitting, held_right, meaning, ordered, said_by, unused_entry}
 use Rattle.rules.specs.declared.Entry.{Entry}
 use Rattle.rules.specs.declared.Held.{Held}
@@ -119,9 +119,3 @@ right_intro h r = rw (le-leb h.count limits.held r.few, eq-eqb (length h.entries
 
 pub right_inside : (h : Held) → held_right h ≡ true → h.count ≤ length h.entries
 right_inside h r = let k = right_elim h r in omega (arith, k.few, k.long)
-
--- each place in use has no more supports than the limit
-pub right_count : (h : Held) → held_right h ≡ true → (j : ℕ) → j < h.count → (get_or h.entries j beyond).count ≤ limits.supports
-right_count h r j p =
-    let N : ℕ = h.assumptions + h.claims in
-    fitting_count N (get_or h.entries j beyond) (all_first (fitting N) h.entries h.count j beyond (right_inside h r) (right_elim h r).fits p)

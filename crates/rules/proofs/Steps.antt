@@ -11,6 +11,8 @@ use lib.Dec.{eqb, leb, ltb}
 use lib.ListN.{drop, drop_of_length-le, get_or, length, length-map, length-take, take}
 use lib.Seq.{drop-cons, get_or-take}
 use borrow.Author.Tests.{eq-eqb, eqb-true, le-leb, le-ltb, leb-true, lt-leb, lt-ltb, ltb-true, ne_eqb}
+use Rattle.std.specs.Int.{from_le_bytes}
+use Rattle.std.proofs.Common.{w32}
 use Rattle.rules.specs.Held.{climbs, fitting}
 use Rattle.rules.specs.declared.Entry.{Entry}
 use Rattle.slices.proofs.Laws.{any_hit, any_miss}
@@ -108,30 +110,30 @@ module _ (N p : ℕ) (l : List ℕ) (i : ℕ) where
   rises_end n h = ap (λ (b : Bool). leb p N && b) (climbs_end n h) ∙ and_all (leb p N)
 
 -- ---- four bytes as one number
-pub word_ends : (a b c d n : ℕ) → a < 256 → b < 256 → c < 256 → d < 256 → n ≤ 4
+four_end : (a b c d n : ℕ) → a < 256 → b < 256 → c < 256 → d < 256 → n ≤ 4
     → ltb (a + 256 * b + 65536 * c + 16777216 * d) (1 * 2 ^ (8 * n) % 2 ^ 64) ≡ all_of (eqb 0) (drop n (a ∷ b ∷ c ∷ d ∷ []))
 unfolding all_of
-word_ends a b c d zero p q r s h =
+four_end a b c d zero p q r s h =
     same_test (λ t. let w : a + 256 * b + 65536 * c + 16777216 * d < 1 = ltb-true (a + 256 * b + 65536 * c + 16777216 * d) 1 t in and_intro (eq-eqb 0 a (omega arith)) (and_intro (eq-eqb 0 b (omega arith)) (and_intro (eq-eqb 0 c (omega arith)) (and_intro (eq-eqb 0 d (omega arith)) refl))))
     (λ t.
     let x = and_right (eqb 0 a) _ t in
     let y = and_right (eqb 0 b) _ x in
     let z = and_right (eqb 0 c) _ y in
     lt-ltb (a + 256 * b + 65536 * c + 16777216 * d) 1 (omega (arith, eqb-true 0 a (and_left (eqb 0 a) _ t), eqb-true 0 b (and_left (eqb 0 b) _ x), eqb-true 0 c (and_left (eqb 0 c) _ y), eqb-true 0 d (and_left (eqb 0 d) _ z))))
-word_ends a b c d (suc zero) p q r s h =
+four_end a b c d (suc zero) p q r s h =
     same_test (λ t. let w : a + 256 * b + 65536 * c + 16777216 * d < 256 = ltb-true (a + 256 * b + 65536 * c + 16777216 * d) 256 t in and_intro (eq-eqb 0 b (omega arith)) (and_intro (eq-eqb 0 c (omega arith)) (and_intro (eq-eqb 0 d (omega arith)) refl)))
     (λ t.
     let y = and_right (eqb 0 b) _ t in
     let z = and_right (eqb 0 c) _ y in
     lt-ltb (a + 256 * b + 65536 * c + 16777216 * d) 256 (omega (arith, eqb-true 0 b (and_left (eqb 0 b) _ t), eqb-true 0 c (and_left (eqb 0 c) _ y), eqb-true 0 d (and_left (eqb 0 d) _ z))))
-word_ends a b c d (suc (suc zero)) p q r s h =
+four_end a b c d (suc (suc zero)) p q r s h =
     same_test (λ t. let w : a + 256 * b + 65536 * c + 16777216 * d < 65536 = ltb-true (a + 256 * b + 65536 * c + 16777216 * d) 65536 t in and_intro (eq-eqb 0 c (omega arith)) (and_intro (eq-eqb 0 d (omega arith)) refl))
     (λ t. let z = and_right (eqb 0 c) _ t in lt-ltb (a + 256 * b + 65536 * c + 16777216 * d) 65536 (omega (arith, eqb-true 0 c (and_left (eqb 0 c) _ t), eqb-true 0 d (and_left (eqb 0 d) _ z))))
-word_ends a b c d (suc (suc (suc zero))) p q r s h =
+four_end a b c d (suc (suc (suc zero))) p q r s h =
     same_test (λ t. let w : a + 256 * b + 65536 * c + 16777216 * d < 16777216 = ltb-true (a + 256 * b + 65536 * c + 16777216 * d) 16777216 t in and_intro (eq-eqb 0 d (omega arith)) refl)
     (λ t. lt-ltb (a + 256 * b + 65536 * c + 16777216 * d) 16777216 (omega (arith, eqb-true 0 d (and_left (eqb 0 d) _ t))))
-word_ends a b c d (suc (suc (suc (suc zero)))) p q r s h = lt-ltb (a + 256 * b + 65536 * c + 16777216 * d) 4294967296 (omega arith)
-word_ends a b c d (suc (suc (suc (suc (suc n))))) p q r s h = absurd (omega arith)
+four_end a b c d (suc (suc (suc (suc zero)))) p q r s h = lt-ltb (a + 256 * b + 65536 * c + 16777216 * d) 4294967296 (omega arith)
+four_end a b c d (suc (suc (suc (suc (suc n))))) p q r s h = absurd (omega arith)
 
 -- the places of a list of four
 pub four : (l : List ℕ) → length l ≡ 4 → l ≡ get_or l 0 0 ∷ get_or l 1 0 ∷ get_or l 2 0 ∷ get_or l 3 0 ∷ []
@@ -141,6 +143,12 @@ four (a ∷ b ∷ []) e = absurd (omega arith)
 four (a ∷ b ∷ c ∷ []) e = absurd (omega arith)
 four (a ∷ b ∷ c ∷ d ∷ []) e = refl
 four (a ∷ b ∷ c ∷ d ∷ x ∷ l) e = absurd (omega arith)
+
+pub word_ends : (l : List ℕ) (n w : ℕ) → length l ≡ 4 → w ≡ from_le_bytes w32 l → ((i : ℕ) → get_or l i 0 < 256) → n ≤ 4 → ltb w (1 * 2 ^ (8 * n) % 2 ^ 64) ≡ all_of (eqb 0) (drop n l)
+word_ends l n w e h b q =
+    let v : w ≡ get_or l 0 0 + 256 * get_or l 1 0 + 65536 * get_or l 2 0 + 16777216 * get_or l 3 0 = omega (arith, h) in
+    ap (λ (x : ℕ). ltb x (1 * 2 ^ (8 * n) % 2 ^ 64)) v ∙ four_end (get_or l 0 0) (get_or l 1 0) (get_or l 2 0) (get_or l 3 0) n (b 0) (b 1) (b 2) (b 3) q
+    ∙ ap (λ (m : List ℕ). all_of (eqb 0) (drop n m)) (sym (four l e))
 
 pub and_first : (a b c : Bool) → a && b ≡ false → a && (b && c) ≡ false
 and_first true true c e = clash refl e

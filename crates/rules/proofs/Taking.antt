@@ -152,7 +152,3 @@ partly_start c l = refl
 pub partly_end : (c : ℕ) (l : List ℕ) (N : ℕ) → partly c l (N + 1) ≡ entry_of (justification_of N c l)
 unfolding partly set_of
 partly_end c l N = ap (λ (m : ℕ). entry_of (record { consequent = c; supports = first_of l m })) (add-one N)
-
-pub partly_head : (c : ℕ) (l : List ℕ) (n : ℕ) (j : Entry) → j ≡ partly c l n → j.consequent ≡ c
-unfolding partly
-partly_head c l n j e = ap (λ (k : Entry). k.consequent) e

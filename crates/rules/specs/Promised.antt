@@ -1,5 +1,6 @@
 -- What each public function of this crate promises of its answer r. Assumes nothing.
-use Rattle.std.specs.Prelude.{Bool, List, [], ◌≡◌, ℕ}
+use Rattle.std.specs.Prelude.{Bool, List, [], ◌≡◌, ℕ, Result, ⊤}
+use Rattle.replies.specs.Replies.{checked}
 use Rattle.replies.specs.declared.Reply.{Reply}
 use Rattle.rules.specs.Held.{entry_of, held_of, held_right}
 use Rattle.rules.specs.Items.{fault_of, justification_of}
@@ -7,8 +8,8 @@ use Rattle.rules.specs.declared.Entry.{Entry}
 use Rattle.rules.specs.declared.Held.{Held}
 
 -- the first fault of consequent c and supports l, N being A + M
-abbrev pub Faulted : ℕ → ℕ → List ℕ → Reply → Type 0
-Faulted N c l r = r ≡ fault_of N c l
+abbrev pub Faulted : ℕ → ℕ → List ℕ → Result ⊤ Reply → Type 0
+Faulted N c l r = r ≡ checked (fault_of N c l)
 
 -- c and l in their canonical form
 abbrev pub Canonical : ℕ → ℕ → List ℕ → Entry → Type 0

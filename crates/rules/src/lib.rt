@@ -15,9 +15,6 @@ ghost use Rattle.rules.specs.Promised.{Canonical, Faulted, HoldingNothing, IsRig
 use replies::Reply;
 use theory::{HELD, SUPPORTS};
 
-// The most supports, as a place counts them.
-const MOST_SUPPORTS: u8 = SUPPORTS as u8;
-
 // A justification in its place: its supports rising, unused places zero.
 #[repr(C)]
 #[derive(Clone, Copy)]
@@ -28,6 +25,7 @@ pub struct Entry {
 }
 
 // The counts of assumptions and claims, and the justifications held, in their order; unused places zero.
+// An array with a count beside it, and no Vec: a store is a value of fixed size, which C copies.
 #[repr(C)]
 #[derive(Clone, Copy)]
 pub struct Held {
@@ -37,99 +35,82 @@ pub struct Held {
     pub entries: [Entry; HELD],
 }
 
-// The first fault of a justification as it is handed over, top being the highest number; else done.
-pub fn fault(top: u8, consequent: u32, supports: &[u32]) -> Reply
+// The first fault of a justification as it is handed over, top being the highest number.
+pub fn fault(top: u8, consequent: u32, supports: &[u32]) -> Result<(), Reply>
     ensures { Faulted top consequent supports.now result }
 {
     if SUPPORTS < supports.len() {
-        return Reply::Supports;
+        return Err(Reply::Supports);
     }
     let highest = top as u32;
     if highest < consequent {
-        return Reply::Number;
+        return Err(Reply::Number);
     }
     if slices::over(supports, highest) {
-        return Reply::Number;
+        return Err(Reply::Number);
     }
     if slices::has(supports, 0) {
-        return Reply::Falsity;
+        return Err(Reply::Falsity);
     }
     if slices::has(supports, consequent) {
-        return Reply::Itself;
+        return Err(Reply::Itself);
     }
-    Reply::Done
+    Ok(())
 }
 
-// A justification without fault in its place, its supports as a set.
+// A justification without fault in its place, its supports as a set. That a number is no higher than the highest is a clause, here and above: a type
+// round a byte would be made and taken off again at each call.
 pub fn canonical(top: u8, consequent: u32, supports: &[u32]) -> Entry
     requires { (top ≤ limits.numbers) × (fault_of top consequent supports.now ≡ Done) }
     ensures { Canonical top consequent supports.now result }
 {
     let mut entry = Entry {
         consequent: consequent as u8,
-        count: 0,
-        supports: [0u8; SUPPORTS],
+        ..Entry::VACANT
     };
-    let mut n = 0;
-    while n <= top {
-        entry = entry.taking(supports, n);
-        n += 1;
+    for n in 0..=top {
+        if slices::has(supports, n as u32) {
+            entry.supports[entry.count as usize] = n;
+            entry.count += 1;
+        }
     }
     entry
 }
 
 impl Entry {
-    // The number n taken in where the list has it; below n that is done.
-    fn taking(mut self, l: &[u32], n: u8) -> Entry
-        requires { (self ≡ partly self.consequent l.now n) × (length l.now ≤ limits.supports) × (n ≤ limits.numbers) }
-        ensures { result ≡ partly self.consequent l.now (n + 1) }
-    {
-        if slices::has(l, n as u32) {
-            let count = self.count;
-            let at = count as usize;
-            self.supports[at] = n;
-            self.count = count + 1;
-            return self;
-        }
-        self
-    }
+    // A place that holds no justification.
+    pub const VACANT: Entry = Entry {
+        consequent: 0,
+        count: 0,
+        supports: [0; SUPPORTS],
+    };
 
     // Whether it is in range, its supports rising, its consequent none of them, and its unused places zero.
     fn fits(self, top: u16) -> bool
         ensures { result ≡ fitting top self }
     {
-        if top < self.consequent as u16 {
+        let count = self.count as usize;
+        if top < self.consequent as u16 || SUPPORTS < count {
             return false;
         }
-        let count = self.count;
-        if MOST_SUPPORTS < count {
-            return false;
-        }
-        let n = count as usize;
-        let supports = self.supports;
-        if lists::rises(&supports[..n], top, self.consequent) {
-            return lists::ends(supports[0], supports[1], supports[2], supports[3], count);
-        }
-        false
+        lists::rises(&self.supports[..count], top, self.consequent)
+            && lists::ends(self.supports, count)
     }
 
     // A number that is zero where every field is.
     fn bits(self) -> u64
         ensures { eqb 0 result ≡ unused_entry self }
     {
-        let s = self.supports;
-        let word = lists::value(s[3], s[2], s[1], s[0]);
-        let head = self.consequent as u64 + 256 * (self.count as u64);
-        head | word
+        let [a, b, c, d] = self.supports;
+        u64::from_le_bytes([self.consequent, self.count, a, b, c, d, 0, 0])
     }
 
     // The six bytes as one number, the consequent first: of two in range the one with the lesser number stands before the other.
     fn key(self) -> u64
         ensures { (result ≡ key_of self) × Bytes self }
     {
-        let s = self.supports;
-        let word = lists::value(s[0], s[1], s[2], s[3]);
-        1099511627776 * (self.consequent as u64) + 4294967296 * (self.count as u64) + word
+        let [a, b, c, d] = self.supports;
+        u64::from_be_bytes([0, 0, self.consequent, self.count, a, b, c, d])
     }
 }
 
@@ -138,17 +119,11 @@ impl Held {
     pub fn nothing(assumptions: u8, claims: u8) -> Held
         ensures { HoldingNothing assumptions claims result }
     {
-        let vacant = Entry {
-            consequent: 0,
-            count: 0,
-            supports: [0u8; SUPPORTS],
-        };
-        let entries = [vacant; HELD];
         Held {
             assumptions,
             claims,
             count: 0,
-            entries,
+            entries: [Entry::VACANT; HELD],
         }
     }
 
@@ -160,10 +135,7 @@ impl Held {
             return false;
         }
         let top = self.assumptions as u16 + self.claims as u16;
-        if self.inplace(top) {
-            return self.spare();
-        }
-        false
+        self.inplace(top) && self.spare()
     }
 
     // Whether the places in use are in range, and each stands before the next.
@@ -171,27 +143,13 @@ impl Held {
         requires { self.count ≤ limits.held }
         ensures { result ≡ all_of (fitting top) (take self.count self.entries) && ordered (said_by self) }
     {
-        let count = self.count;
-        if count == 0 {
-            return true;
-        }
-        let first = self.entries[0];
-        if !first.fits(top) {
-            return false;
-        }
-        let mut last = first.key();
-        let mut j = 1;
-        while j < count {
-            let entry = self.entries[j];
-            if !entry.fits(top) {
-                return false;
-            }
+        let mut least = 0;
+        for entry in &self.entries[..self.count] {
             let key = entry.key();
-            if key <= last {
+            if !entry.fits(top) || key < least {
                 return false;
             }
-            last = key;
-            j += 1;
+            least = key + 1;
         }
         true
     }
@@ -202,11 +160,8 @@ impl Held {
         ensures { result ≡ all_of unused_entry (drop self.count self.entries) }
     {
         let mut seen = 0;
-        let mut j = self.count;
-        while j < HELD {
-            let entry = self.entries[j];
+        for entry in &self.entries[self.count..] {
             seen |= entry.bits();
-            j += 1;
         }
         seen == 0
     }

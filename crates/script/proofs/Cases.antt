@@ -1,12 +1,11 @@
 -- Scripts of a few bytes: what each definition makes of them, computed. Assumes nothing.
 use mathlib.Core.List.{List, [], ◌∷◌}
-use mathlib.Core.Option.{none, some}
+use Rattle.std.specs.Prelude.{None, Some}
 use mathlib.Core.Path.{◌≡◌, refl}
 use Prim.Native.Char.{code}
 use Prim.Native.Nat.{ℕ}
 use Prim.Native.String.{String, [] as empty, ◌∷◌ as ◌then◌}
 use Rattle.script.specs.Script.{decimals, field_at, fields_of, hex_byte, hex_digit, leading, line_end, lines_of, numeral, parts_of, past, read_into, values_of, written}
-use Rattle.script.specs.declared.Read.TheVariants.{Bad, Count}
 use Rattle.theory.specs.Lists.{all_of, those}
 
 -- the bytes of a text
@@ -22,28 +21,28 @@ pub record Cases : Type 0 where
   pub past_the_end : line_end (text "list\n\nline 0") 20 ≡ 12
   -- one or more spaces separate fields, and spaces at either end do not matter
   pub fields : fields_of (text "  add 4  1 2 ") ≡ text "add" ∷ text "4" ∷ text "1" ∷ text "2" ∷ []
-  pub first_field : field_at (text "  add 4  1 2 ") 0 ≡ record { from = 2; to = 5 }
-  pub next_field : field_at (text "  add 4  1 2 ") 7 ≡ record { from = 9; to = 10 }
-  pub no_field : field_at (text "  add 4  1 2 ") 12 ≡ record { from = 13; to = 13 }
+  pub first_field : field_at (text "  add 4  1 2 ") 0 ≡ record { start = 2; end = 5 }
+  pub next_field : field_at (text "  add 4  1 2 ") 7 ≡ record { start = 9; end = 10 }
+  pub no_field : field_at (text "  add 4  1 2 ") 12 ≡ record { start = 13; end = 13 }
   pub blank : fields_of (text "   ") ≡ []
   -- any other byte is part of a field
   pub tab : fields_of (text "add\t4\r") ≡ text "add\t4\r" ∷ []
   -- leading zeros allowed, at most 4294967295
-  pub zeros : numeral (text "007") ≡ some 7
-  pub largest : numeral (text "4294967295") ≡ some 4294967295
-  pub too_large : numeral (text "4294967296") ≡ none
-  pub no_digit : numeral (text "1x") ≡ none
-  pub no_number : numeral [] ≡ none
+  pub zeros : numeral (text "007") ≡ Some 7
+  pub largest : numeral (text "4294967295") ≡ Some 4294967295
+  pub too_large : numeral (text "4294967296") ≡ None
+  pub no_digit : numeral (text "1x") ≡ None
+  pub no_number : numeral [] ≡ None
   -- exactly two hex digits, either case
-  pub both_cases : hex_byte (text "fF") ≡ some 255
-  pub no_hex : hex_byte (text "0g") ≡ none
-  pub one_digit : hex_byte (text "1") ≡ none
-  pub three_digits : hex_byte (text "123") ≡ none
+  pub both_cases : hex_byte (text "fF") ≡ Some 255
+  pub no_hex : hex_byte (text "0g") ≡ None
+  pub one_digit : hex_byte (text "1") ≡ None
+  pub three_digits : hex_byte (text "123") ≡ None
   -- later places are kept
-  pub all_good : read_into numeral (fields_of (text " 4 05")) (9 ∷ 9 ∷ 9 ∷ []) ≡ (Count 2, 4 ∷ 5 ∷ 9 ∷ [])
-  pub second_bad : read_into numeral (fields_of (text "4 x 5")) (9 ∷ 9 ∷ 9 ∷ []) ≡ (Bad, 4 ∷ 9 ∷ 9 ∷ [])
-  pub no_room : read_into numeral (fields_of (text "4 5 6")) (9 ∷ 9 ∷ []) ≡ (Bad, 4 ∷ 5 ∷ [])
-  pub hex_bytes : read_into hex_byte (fields_of (text "0a Ff")) (9 ∷ 9 ∷ []) ≡ (Count 2, 10 ∷ 255 ∷ [])
+  pub all_good : read_into numeral (fields_of (text " 4 05")) (9 ∷ 9 ∷ 9 ∷ []) ≡ (Some 2, 4 ∷ 5 ∷ 9 ∷ [])
+  pub second_bad : read_into numeral (fields_of (text "4 x 5")) (9 ∷ 9 ∷ 9 ∷ []) ≡ (None, 4 ∷ 9 ∷ 9 ∷ [])
+  pub no_room : read_into numeral (fields_of (text "4 5 6")) (9 ∷ 9 ∷ []) ≡ (None, 4 ∷ 5 ∷ [])
+  pub hex_bytes : read_into hex_byte (fields_of (text "0a Ff")) (9 ∷ 9 ∷ []) ≡ (Some 2, 10 ∷ 255 ∷ [])
 
 pub cases : Cases
 unfolding text lines_of line_end fields_of field_at parts_of past leading those all_of numeral decimals hex_byte hex_digit read_into values_of written

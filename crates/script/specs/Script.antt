@@ -1,15 +1,10 @@
 -- The lines of a script, the fields of a line, and the numbers that fields are, over lists of bytes. Assumes nothing.
 use Rattle.std.specs.Prelude.{Bool, ◌&&◌, not, List, [], ◌++◌, ◌∷◌, ◌*◌, ◌+◌, ◌-◌, min, suc, ℕ, eqb, leb, ltb, drop, length, take}
-use Rattle.std.proofs.Math.Option.{Option, none, some}
-use Rattle.script.specs.declared.Numeral.{Numeral}
-use Rattle.script.specs.declared.Numeral.TheVariants.{Bad as BadNumeral, Value}
-use Rattle.script.specs.declared.Read.{Read}
-use Rattle.script.specs.declared.Read.TheVariants.{Bad, Count}
-use Rattle.script.specs.declared.Span.{Span}
+use Rattle.std.specs.Prelude.{None, Option, Some}
+use Rattle.std.specs.declared.ops.Range.{Range}
 use Rattle.theory.specs.Limits.{limits}
 use Rattle.theory.specs.Lists.{all_of, choose, those}
 use Rattle.theory.specs.Sets.{alone, union}
-use Rattle.theory.specs.Step.{more}
 
 -- ---- places
 
@@ -31,8 +26,8 @@ unfoldable pub line_end : List ℕ → ℕ → ℕ
 line_end script from = past (other 10) script from
 
 -- the first field from `from` on: after spaces, up to the next space or the line's end; both places are the length where there is none
-unfoldable pub field_at : List ℕ → ℕ → Span
-field_at line from = let start : ℕ = past (eqb 32) line from in record { from = start; to = past (other 32) line start }
+unfoldable pub field_at : List ℕ → ℕ → Range ℕ
+field_at line from = let start : ℕ = past (eqb 32) line from in record { start = start; end = past (other 32) line start }
 
 -- ---- lists
 
@@ -69,51 +64,52 @@ decimals v (b ∷ l) = decimals (v * 10 + (b - 48)) l
 unfoldable pub numeral : List ℕ → Option ℕ
 numeral f =
     choose (ltb 0 (length f) && (all_of (between 48 57) f && leb (decimals 0 f) 4294967295))
-    (some (decimals 0 f))
-    none
+    (Some (decimals 0 f))
+    None
 
 -- a hex digit, either case
 unfoldable pub hex_digit : ℕ → Option ℕ
 hex_digit b =
-    choose (between 48 57 b) (some (b - 48))
-    (choose (between 65 70 b) (some (b - 65 + 10))
-    (choose (between 97 102 b) (some (b - 97 + 10))
-    none))
+    choose (between 48 57 b) (Some (b - 48))
+    (choose (between 65 70 b) (Some (b - 65 + 10))
+    (choose (between 97 102 b) (Some (b - 97 + 10))
+    None))
 
 -- two digits, both of them good
 abbrev pub paired : Option ℕ → Option ℕ → Option ℕ
-paired (some high) (some low) = some (high * 16 + low)
-paired (some high) none = none
-paired none low = none
+paired (Some high) (Some low) = Some (high * 16 + low)
+paired (Some high) None = None
+paired None low = None
 
 -- exactly two hex digits
 unfoldable pub hex_byte : List ℕ → Option ℕ
-hex_byte [] = none
-hex_byte (h ∷ []) = none
+hex_byte [] = None
+hex_byte (h ∷ []) = None
 hex_byte (h ∷ l ∷ []) = paired (hex_digit h) (hex_digit l)
-hex_byte (h ∷ l ∷ b ∷ f) = none
-
--- a field that is no number is bad
-abbrev pub numeral_of : Option ℕ → Numeral
-numeral_of (some n) = Value n
-numeral_of none = BadNumeral
+hex_byte (h ∷ l ∷ b ∷ f) = None
 
 -- ---- all fields of a line
 
--- the values of the fields, up to the first bad one
-unfoldable pub values_of : (List ℕ → Option ℕ) → List (List ℕ) → List ℕ
-values_of reading [] = []
-values_of reading (f ∷ fs) = let later : List ℕ = values_of reading fs in more (reading f) (λ n. later)
+module _ {X : Type 0} where
+  -- a value in front of later ones; no value ends the list
+  abbrev pub onward : Option X → List X → List X
+  onward None later = []
+  onward (Some x) later = x ∷ later
 
--- the list over the front of out, as far as out goes; later places are kept
-unfoldable pub written : List ℕ → List ℕ → List ℕ
-written l out = take (length out) l ++ drop (length l) out
+  -- the values of the fields, up to the first bad one
+  unfoldable pub values_of : (List ℕ → Option X) → List (List ℕ) → List X
+  values_of reading [] = []
+  values_of reading (f ∷ fs) = let later : List X = values_of reading fs in onward (reading f) later
 
--- the count of the fields, or bad where one is bad or out has no room for all; and what out is then
-unfoldable pub read_into : (List ℕ → Option ℕ) → List (List ℕ) → List ℕ → Read × List ℕ
-read_into reading fs out =
-    let values : List ℕ = values_of reading fs in
-    (choose (eqb (length values) (length fs) && leb (length fs) (length out)) (Count (length fs)) Bad, written values out)
+  -- the list over the front of out, as far as out goes; later places are kept
+  unfoldable pub written : List X → List X → List X
+  written l out = take (length out) l ++ drop (length l) out
+
+  -- the count of the fields, or none where one is bad or out has no room for all; and what out is then
+  unfoldable pub read_into : (List ℕ → Option X) → List (List ℕ) → List X → Option ℕ × List X
+  read_into reading fs out =
+      let values : List X = values_of reading fs in
+      (choose (eqb (length values) (length fs) && leb (length fs) (length out)) (Some (length fs)) None, written values out)
 
 -- ---- a set by its assumptions
 

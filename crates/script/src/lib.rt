@@ -1,58 +1,68 @@
 // Scripts of commands: the lines of a script, the fields of a line, the numbers that fields are, and the set that numbers make.
 #![tactic(auto)]
 
-ghost use Rattle.std.specs.Prelude.{◌≡◌, eqb};
-ghost use Rattle.script.specs.Promised.{AreBytes, AreNumbers, HasAbove, HasZero, IsField, IsHex, IsLineEnd, IsNumber, IsSame, IsSetOf};
-ghost use Rattle.script.specs.Script.{hex_digit, numeral_of, other, past, taken};
+ghost use Rattle.std.specs.Prelude.{◌≡◌, ℕ, Bool, List};
+ghost use Rattle.std.specs.Prelude.{Option};
+ghost use Rattle.script.specs.Promised.{AreBytes, AreNumbers, AreRead, HasAbove, HasZero, IsField, IsHex, IsLineEnd, IsNumber, IsSame, IsSetOf};
+ghost use Rattle.script.specs.Script.{hex_byte, numeral, past, taken};
 
 use sets::Set;
+use std::ops::Range;
 use theory::ASSUMPTIONS;
 
-// The place of a field's first byte, and the place after its last.
-#[derive(Clone, Copy)]
-pub struct Span {
-    pub from: usize,
-    pub to: usize,
+// What a field of a line may say: `reading` is how it is read.
+trait FromField: Copy {
+    ghost reading: { List ℕ → Option Self };
+
+    // What the field says; none where it is bad.
+    fn from_field(field: &[u8]) -> Option<Self>
+        ensures { result ≡ reading field.now };
 }
 
-// The number that a field is.
-#[derive(Clone, Copy)]
-pub enum Numeral {
-    Value(u32),
-    Bad,
-}
+// A decimal number of at most 4294967295.
+impl FromField for u32 {
+    ghost reading = { numeral };
 
-// How many fields were read.
-#[derive(Clone, Copy)]
-pub enum Read {
-    Count(usize),
-    Bad,
-}
-
-// The first place from `from` on that has another byte than b, or the length.
-fn after(bytes: &[u8], from: usize, b: u8) -> usize
-    ensures { result ≡ past (eqb b) bytes.now from }
-{
-    let mut i = from;
-    while i < bytes.len() {
-        if bytes[i] != b {
-            return i;
+    fn from_field(field: &[u8]) -> Option<u32>
+        ensures { IsNumber field.now result }
+    {
+        if field.is_empty() {
+            return None;
         }
-        i += 1;
+        let mut value = 0u32;
+        for b in field {
+            let digit = char::from(*b).to_digit(10)?;
+            value = value.checked_mul(10)?.checked_add(digit)?;
+        }
+        Some(value)
     }
-    bytes.len()
 }
 
-// The first place from `from` on that has the byte b, or the length.
-fn until(bytes: &[u8], from: usize, b: u8) -> usize
-    ensures { result ≡ past (other b) bytes.now from }
+// A byte as two hex digits.
+impl FromField for u8 {
+    ghost reading = { hex_byte };
+
+    fn from_field(field: &[u8]) -> Option<u8>
+        ensures { IsHex field.now result }
+    {
+        let [high, low] = field else {
+            return None;
+        };
+        let high = char::from(*high).to_digit(16)?;
+        let low = char::from(*low).to_digit(16)?;
+        Some((high * 16 + low) as u8)
+    }
+}
+
+// The first place from `from` on whose byte does not pass, or the length. Over the places, since `from` may lie past the end.
+fn past<F: Fn(u8) -> bool>(bytes: &[u8], from: usize, passes: F) -> usize
+    requires { F.IsAlwaysCallable passes }
+    ensures { (p : ℕ → Bool) → ((b : ℕ) (r : Bool) → F.post passes b r → r ≡ p b) → result ≡ past p bytes.now from }
 {
-    let mut i = from;
-    while i < bytes.len() {
-        if bytes[i] == b {
+    for i in from..bytes.len() {
+        if !passes(bytes[i]) {
             return i;
         }
-        i += 1;
     }
     bytes.len()
 }
@@ -61,127 +71,58 @@ fn until(bytes: &[u8], from: usize, b: u8) -> usize
 pub fn line_end(script: &[u8], from: usize) -> usize
     ensures { IsLineEnd script.now from result }
 {
-    until(script, from, b'\n')
+    past(script, from, |b| b != b'\n')
 }
 
 // The first field from `from` on; both places are the length of the line where there is none.
-pub fn field(line: &[u8], from: usize) -> Span
+pub fn field(line: &[u8], from: usize) -> Range<usize>
     ensures { IsField line.now from result }
 {
-    let start = after(line, from, b' ');
-    let end = until(line, start, b' ');
-    Span {
-        from: start,
-        to: end,
-    }
+    let start = past(line, from, |b| b == b' ');
+    let end = past(line, start, |b| b != b' ');
+    start..end
 }
 
-// A decimal number of at most 4294967295.
-fn number(field: &[u8]) -> Numeral
-    ensures { IsNumber field.now result }
+// What all fields from `from` on say, into out: how many there are; none where one is bad or out has no room.
+// A loop, and no `split`: where a field begins and ends is what `field` promises, and out is lent, with what it had left after the last.
+fn read_all<T: FromField>(line: &[u8], from: usize, out: &mut [T]) -> Option<usize>
+    ensures { AreRead T.reading line.now from out.old out.new result }
 {
-    if field.len() == 0 {
-        return Numeral::Bad;
-    }
-    let mut value: u64 = 0;
-    let mut i = 0;
-    while i < field.len() {
-        let b = field[i];
-        if b < b'0' {
-            return Numeral::Bad;
+    let mut at = from;
+    let mut count = 0;
+    loop {
+        let span = field(line, at);
+        let start = span.start;
+        let end = span.end;
+        if start == end {
+            return Some(count);
         }
-        if b'9' < b {
-            return Numeral::Bad;
+        let said = T::from_field(&line[start..end])?;
+        if count == out.len() {
+            return None;
         }
-        let next = value * 10 + (b - b'0') as u64;
-        if 4294967295 < next {
-            return Numeral::Bad;
-        }
-        value = next;
-        i += 1;
-    }
-    Numeral::Value(value as u32)
-}
-
-// A hex digit of either case.
-fn digit(b: u8) -> Numeral
-    ensures { result ≡ numeral_of (hex_digit b) }
-{
-    match b {
-        b'0'..=b'9' => Numeral::Value((b - b'0') as u32),
-        b'A'..=b'F' => Numeral::Value((b - b'A' + 10) as u32),
-        b'a'..=b'f' => Numeral::Value((b - b'a' + 10) as u32),
-        _ => Numeral::Bad,
+        out[count] = said;
+        count += 1;
+        at = end;
     }
 }
 
-// The byte that two hex digits are.
-fn hex(field: &[u8]) -> Numeral
-    ensures { IsHex field.now result }
-{
-    if field.len() != 2 {
-        return Numeral::Bad;
-    }
-    let Numeral::Value(high) = digit(field[0]) else {
-        return Numeral::Bad;
-    };
-    let Numeral::Value(low) = digit(field[1]) else {
-        return Numeral::Bad;
-    };
-    Numeral::Value(high * 16 + low)
-}
-
-// The fields from `from` on as decimal numbers, into out; bad where one is bad or out has no room.
-pub fn numbers(line: &[u8], from: usize, out: &mut [u32]) -> Read
+// The fields from `from` on as decimal numbers, into out; none where one is bad or out has no room.
+// This and `bytes` are names of their own: the theorem OnceEach is about the contract of each.
+pub fn numbers(line: &[u8], from: usize, out: &mut [u32]) -> Option<usize>
     ensures { AreNumbers line.now from out.old out.new result }
 {
-    let mut at = from;
-    let mut count = 0;
-    loop {
-        let span = field(line, at);
-        let start = span.from;
-        let end = span.to;
-        if start == end {
-            return Read::Count(count);
-        }
-        let Numeral::Value(n) = number(&line[start..end]) else {
-            return Read::Bad;
-        };
-        if count == out.len() {
-            return Read::Bad;
-        }
-        out[count] = n;
-        count += 1;
-        at = end;
-    }
+    read_all(line, from, out)
 }
 
-// The fields from `from` on as hex bytes, into out; bad where one is bad or out has no room.
-pub fn bytes(line: &[u8], from: usize, out: &mut [u8]) -> Read
+// The fields from `from` on as hex bytes, into out; none where one is bad or out has no room.
+pub fn bytes(line: &[u8], from: usize, out: &mut [u8]) -> Option<usize>
     ensures { AreBytes line.now from out.old out.new result }
 {
-    let mut at = from;
-    let mut count = 0;
-    loop {
-        let span = field(line, at);
-        let start = span.from;
-        let end = span.to;
-        if start == end {
-            return Read::Count(count);
-        }
-        let Numeral::Value(n) = hex(&line[start..end]) else {
-            return Read::Bad;
-        };
-        if count == out.len() {
-            return Read::Bad;
-        }
-        out[count] = n as u8;
-        count += 1;
-        at = end;
-    }
+    read_all(line, from, out)
 }
 
-// Whether a field is a word.
+// Whether a field is a word. Programs match on the words; this stands for its row in the theorem OnceEach.
 pub fn same(field: &[u8], word: &[u8]) -> bool
     ensures { IsSame field.now word.now result }
 {
@@ -206,24 +147,15 @@ pub fn has_above(values: &[u32]) -> bool
 fn with(set: Set, k: u32) -> Set
     ensures { result ≡ taken set k }
 {
-    if k < 1 {
-        return set;
+    match k {
+        1..=ASSUMPTIONS => sets::union(set, sets::only(k as u8)),
+        _ => set,
     }
-    if ASSUMPTIONS < k {
-        return set;
-    }
-    sets::union(set, sets::only(k as u8))
 }
 
 // The set of the assumptions among the numbers.
 pub fn set_of(values: &[u32]) -> Set
     ensures { IsSetOf values.now result }
 {
-    let mut set = 0;
-    let mut i = 0;
-    while i < values.len() {
-        set = with(set, values[i]);
-        i += 1;
-    }
-    set
+    values.iter().copied().fold(0, with)
 }

@@ -4,8 +4,6 @@ use Rattle.handed.specs.Supplied.{supplied_by}
 use Rattle.handed.specs.declared.Handed.{Handed}
 use Rattle.replies.specs.Replies.{number_of}
 use Rattle.replies.specs.declared.Reply.TheVariants.{Done, Shape, Short}
-use Rattle.season.specs.declared.Begun.{Begun}
-use Rattle.season.specs.declared.Numbered.{Numbered}
 use Rattle.store.specs.Calls.{add_of, answer}
 use Rattle.store.specs.Shape.{right_shape}
 use Rattle.store.specs.declared.Outcome.{Outcome}
@@ -16,9 +14,6 @@ use Rattle.theory.specs.Lists.{choose}
 abbrev pub give_of : Store → Handed → Outcome
 give_of s h = add_of s h.consequent (supplied_by h)
 
-abbrev pub numbered_by : Outcome → Numbered
-numbered_by o = record { number = number_of o.reply; store = o.store }
-
 -- the store after all the items, one after another; a refused one hands back the store that it was given
 unfoldable pub added_all : Store → List Handed → Store
 added_all s [] = s
@@ -28,13 +23,6 @@ added_all s (h ∷ l) = added_all (give_of s h).store l
 unfoldable pub replies_of : Store → List Handed → List ℕ
 replies_of s [] = []
 replies_of s (h ∷ l) = number_of (give_of s h).reply ∷ replies_of (give_of s h).store l
-
--- before the first item: 2, then 15; and how many items are given
-unfoldable pub begun_of : Store → ℕ → ℕ → Begun
-begun_of s items bytes =
-    choose (not (right_shape s)) (record { reply = Shape; turns = 0 })
-    (choose (ltb bytes items) (record { reply = Short; turns = 0 })
-    (record { reply = Done; turns = items }))
 
 -- the whole call: 2; 15 where there are fewer bytes than items; else done, and the store after all the items
 unfoldable pub add_all_of : Store → List Handed → List ℕ → Outcome

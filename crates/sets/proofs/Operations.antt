@@ -1,5 +1,6 @@
 -- What the machine's operations compute is what the definitions say. Assumes nothing.
-use mathlib.Core.Bool.{true}
+use Rattle.std.proofs.Common.{Bool, ◌&&◌, ◌||◌, cond, false, true, Some, refl, Less, Equal, Greater}
+use Rattle.std.specs.Ordering.{is_lt, is_some_and, nat_cmp, partial_ordering_then}
 use mathlib.Core.Path.{◌∙◌, ◌≡◌, ap, ap₂, subst, sym}
 use Prim.Native.Nat.{◌%◌, ◌*◌, ◌+◌, ◌-◌, ◌/◌, ◌<◌, ◌^◌, ◌≤◌, min, suc, zero, ℕ}
 use native.Mathlib.Decide.{dec_lt}
@@ -57,15 +58,14 @@ range_test e a = elim (dec_lt e (2 ^ a)) [
   | no h ↦ ne_eqb (e / 2 ^ a) 0 (λ z. h (omega (arith, (div-lt_iff_lt-mul {k = 2 ^ a} {x = e} {y = 1} (pow_pos a)).0 (omega arith)))) ∙ sym (le-ltb e (2 ^ a) (omega arith))
 ]
 
--- the order, test by test
-pub before_fewer : (f e : ℕ) → ones f < ones e → ltb (ones f) (ones e) ≡ before f e
-unfolding before
-before_fewer f e h = rw (lt-ltb (ones f) (ones e) h)
+-- a pair before a pair, as the library compares them, for any tests of the first and of the second
+pair_before : (p q r s : Bool) → is_some_and is_lt (partial_ordering_then (Some (cond p Less (cond q Equal Greater))) (Some (cond r Less (cond s Equal Greater)))) ≡ p || (q && r)
+pair_before true q r s = refl
+pair_before false true true s = refl
+pair_before false true false true = refl
+pair_before false true false false = refl
+pair_before false false r s = refl
 
-pub before_equal : (f e : ℕ) → ones e ≤ ones f → ones f ≡ ones e → ltb f e ≡ before f e
+pub before_pairs : (f e : ℕ) → is_some_and is_lt (partial_ordering_then (Some (nat_cmp (ones f) (ones e))) (Some (nat_cmp f e))) ≡ before f e
 unfolding before
-before_equal f e h k = rw (le-ltb (ones f) (ones e) h, eq-eqb (ones f) (ones e) k)
-
-pub before_more : (f e : ℕ) → ones e ≤ ones f → (ones f ≡ ones e → ⊥) → eqb (ones f) (ones e) ≡ before f e
-unfolding before
-before_more f e h k = rw (le-ltb (ones f) (ones e) h, ne_eqb (ones f) (ones e) k)
+before_pairs f e = pair_before (ltb (ones f) (ones e)) (eqb (ones f) (ones e)) (ltb f e) (eqb f e)

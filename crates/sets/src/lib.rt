@@ -7,9 +7,10 @@ ghost use Rattle.sets.specs.Promised.{Before, Has, Low, Meet, Only, Union, Withi
 
 use theory::ASSUMPTIONS;
 
+// The number itself and no type round it: a store crosses the C interface with its sets as such numbers.
 pub type Set = u32;
 
-// How many assumptions a set can have.
+// How many assumptions a set can have, once more as a byte: so an assumption is counted, in `has`, `only` and every loop over them.
 pub const WIDTH: u8 = ASSUMPTIONS as u8;
 
 // The assumptions in a or in b.
@@ -60,18 +61,13 @@ pub fn has(e: Set, k: u8) -> bool
 pub fn before(a: Set, b: Set) -> bool
     ensures { Before a b result }
 {
-    let m = u32::count_ones(a);
-    let n = u32::count_ones(b);
-    m < n || (m == n && a < b)
+    (a.count_ones(), a) < (b.count_ones(), b)
 }
 
-// Whether e has no assumption above a. A shift by the whole width is undefined, so that width is asked first.
+// Whether e has no assumption above a. A shift by the whole width is undefined, so the number is widened first.
 pub fn low(e: Set, a: u8) -> bool
     requires { a ≤ limits.assumptions }
     ensures { Low e a result }
 {
-    if a == WIDTH {
-        return true;
-    }
-    e >> a == 0
+    u64::from(e) >> a == 0
 }

@@ -1,47 +1,37 @@
 -- The parts of the test: all sets in one, unused places in one pass, and each label in its places. Assumes nothing.
-use mathlib.Core.Bool.{Bool, ◌&&◌, false, true}
+use mathlib.Core.Bool.{Bool, ◌&&◌, true}
 use mathlib.Core.List.{List, [], ◌∷◌}
-use mathlib.Core.Path.{◌∙◌, ◌≡◌, ap, ap₂, refl, subst, sym}
+use mathlib.Core.Path.{◌∙◌, ◌≡◌, ap, refl, subst, sym}
 use Prim.Native.Nat.{◌*◌, ◌+◌, ◌-◌, ◌%◌, ◌/◌, ◌<◌, ◌^◌, ◌≤◌, ℕ}
 use native.Mathlib.Decide.{dec_lt}
-use native.Mathlib.Numerals.{add-one}
 use native.Mathlib.Omega.{arith}
 use lib.Bits.{or_lt, or_zero_l, or_zero_r}
 use lib.Dec.{eqb, leb}
-use lib.ListN.{drop, drop_of_length-le, get_or, length, length-drop, length-take, take}
+use lib.ListN.{drop, get_or, length, length-drop, length-take, take}
 use lib.Pow.{pow_pos}
-use lib.Seq.{drop-cons, get_or-drop, get_or-take, length-take-le}
-use borrow.Author.Tests.{eqb-true, le-leb, leb-true, lt-leb, lt-ltb, ltb-true}
+use lib.Seq.{get_or-drop, get_or-take, length-take-le}
+use borrow.Author.Tests.{eqb-true, le-leb, leb-true, lt-ltb, ltb-true}
 use Rattle.members.proofs.First.{at_mem}
+use Rattle.std.specs.List.{fold}
 use Rattle.shape.proofs.Elim.{Listed, listed_elim, listed_intro}
 use Rattle.shape.proofs.Runs.{mem_place}
-use Rattle.shape.specs.Shape.{apart, label_right, labels_right, listed, lists_right, row_right, standing, union_of}
+use Rattle.shape.specs.Shape.{apart, label_right, labels_right, listed, row_right, standing, union_of}
 use Rattle.slices.proofs.Laws.{none_of_both}
-use Rattle.stages.specs.declared.Lists.{Lists}
-use Rattle.theory.proofs.Depth.{length_below}
-use Rattle.theory.proofs.Judgement.{at_below}
 use Rattle.theory.proofs.Listing.{below_elim, below_intro, within_below}
 use Rattle.theory.proofs.Lists.{all_elim, all_intro, and_intro, and_left, and_right, same_test}
-use Rattle.theory.proofs.Places.{all_end, all_hit, all_miss}
 use Rattle.theory.proofs.Sets.{or_assoc, within_left, within_right}
 use Rattle.theory.specs.Limits.{limits}
 use Rattle.theory.specs.Lists.{all_of, numbers_below, sorted_by}
 use Rattle.theory.specs.Sets.{in_range, union}
 
 -- ---- the assumptions of all the sets
-module _ (l : List ℕ) (i : ℕ) where
-  pub union_on : (seen : ℕ) → union seen (union_of (drop i l)) ≡ union_of l → i < length l → union (union seen (get_or l i 0)) (union_of (drop (i + 1) l)) ≡ union_of l
-  unfolding union_of
-  union_on seen inv h =
-      or_assoc seen (get_or l i 0) (union_of (drop (i + 1) l))
-      ∙ ap (λ (m : List ℕ). union seen (union_of m)) (ap (λ (j : ℕ). get_or l i 0 ∷ drop j l) (add-one i) ∙ sym (drop-cons l i 0 h)) ∙ inv
+union_from : (a : ℕ) (l : List ℕ) → fold union a l ≡ union a (union_of l)
+unfolding union_of
+union_from a [] = sym (or_zero_r a)
+union_from a (E ∷ l) = union_from (union a E) l ∙ or_assoc a E (union_of l)
 
-  pub union_end : (seen : ℕ) → union seen (union_of (drop i l)) ≡ union_of l → length l ≤ i → seen ≡ union_of l
-  unfolding union_of
-  union_end seen inv h = sym (or_zero_r seen) ∙ ap (λ (m : List ℕ). union seen (union_of m)) (sym (drop_of_length-le l {i = i} h)) ∙ inv
-
-pub union_start : (l : List ℕ) → union 0 (union_of l) ≡ union_of l
-union_start l = or_zero_l (union_of l)
+pub union_folded : (l : List ℕ) → fold union 0 l ≡ union_of l
+union_folded l = union_from 0 l ∙ or_zero_l (union_of l)
 
 low_both : (A x y : ℕ) → in_range A (union x y) ≡ in_range A x && in_range A y
 unfolding in_range
@@ -74,21 +64,7 @@ module _ (p : ℕ → Bool) (l : List ℕ) where
   by_place : ((k : ℕ) → k < length l → p (get_or l k 0) ≡ true) → all_of p l ≡ true
   by_place f = all_intro p l (λ x m. let q = mem_place l m in subst (λ (v : ℕ). p v ≡ true) q.2 (f q.0 q.1))
 
--- ---- a list in its places
-module _ (n : ℕ) (l : List ℕ) where
-  pub standing_long : length l < n → false ≡ standing n l
-  unfolding standing
-  standing_long h = rw (lt-leb n (length l) h)
-
-  pub standing_mixed : n ≤ length l → sorted_by apart (take n l) ≡ false → false ≡ standing n l
-  unfolding standing
-  standing_mixed h s = rw (le-leb n (length l) h, s)
-
-  pub standing_rest : n ≤ length l → sorted_by apart (take n l) ≡ true → eqb 0 (union_of (drop n l)) ≡ standing n l
-  unfolding standing
-  standing_rest h s = rw (le-leb n (length l) h, s) (all_zero (drop n l))
-
--- with its assumptions in range it stands rightly
+-- ---- a list in its places, with its assumptions in range
 module _ (A n : ℕ) (l : List ℕ) where
   stands : all_of (in_range A) l ≡ true → standing n l ≡ true → Listed A n l
   unfolding standing
@@ -176,7 +152,7 @@ module _ (A N : ℕ) (sizes members : List ℕ) (top : N ≤ limits.numbers) (wi
       let e : N + (i - N) ≡ i = omega arith in
       sym (eqb-true 0 (get_or sizes i 0) (ap (λ (v : ℕ). eqb 0 (get_or sizes v 0)) (sym e) ∙ ap (eqb 0) (sym (get_or-drop N sizes (i - N) 0)) ∙ at_place (eqb 0) (drop N sizes) t (i - N) (omega (arith, length-drop N sizes))))
 
-  abbrev parts : Bool
+  abbrev pub parts : Bool
   parts = all_of (eqb 0) (drop N sizes) && (all_of (eqb 0) (drop (limits.label * N) members) && (all_of (in_range A) (take (limits.label * N) members) && all_of (row_right sizes members) (numbers_below N)))
 
   from_parts : parts ≡ true → (i : ℕ) → i < limits.numbers → label_right A sizes members i ≡ true
@@ -203,7 +179,7 @@ module _ (A N : ℕ) (sizes members : List ℕ) (top : N ≤ limits.numbers) (wi
       (and_intro (rows_before (in_range A) (λ i h. low_all A (get_or sizes i 0) (row i) (g i (omega arith))))
       (all_intro (row_right sizes members) (numbers_below N) (λ i m. stood A (get_or sizes i 0) (row i) (g i (omega (arith, below_elim N m)))))))
 
-  labels_by : parts ≡ labels_right A N sizes members
+  pub labels_by : parts ≡ labels_right A N sizes members
   unfolding labels_right
   labels_by =
       let q : Bool = all_of (label_right A sizes members) (numbers_below limits.numbers) in
@@ -212,65 +188,6 @@ module _ (A N : ℕ) (sizes members : List ℕ) (top : N ≤ limits.numbers) (wi
       (λ t. and_intro (all_intro (label_right A sizes members) (numbers_below limits.numbers) (λ i m. from_parts t i (below_elim limits.numbers m))) (and_left z _ t))
       (λ t. to_parts (λ i o. all_elim (label_right A sizes members) (and_left q z t) (below_intro limits.numbers o)) (and_right q z t))
 
-  abbrev low_part : Bool
-  low_part = all_of (in_range A) (take (limits.label * N) members)
-
-  abbrev rows_part : Bool
-  rows_part = all_of (row_right sizes members) (numbers_below N)
-
-  pub labels_spare : all_of (eqb 0) (drop N sizes) ≡ false → false ≡ labels_right A N sizes members
-  labels_spare h = ap (λ (u : Bool). u && (all_of (eqb 0) (drop (limits.label * N) members) && (low_part && rows_part))) (sym h) ∙ labels_by
-
-  module _ (z : all_of (eqb 0) (drop N sizes) ≡ true) where
-    pub labels_blank : all_of (eqb 0) (drop (limits.label * N) members) ≡ false → false ≡ labels_right A N sizes members
-    labels_blank h = ap₂ (λ (u v : Bool). u && (v && (low_part && rows_part))) (sym z) (sym h) ∙ labels_by
-
-    module _ (b : all_of (eqb 0) (drop (limits.label * N) members) ≡ true) where
-      labels_rest : low_part && rows_part ≡ labels_right A N sizes members
-      labels_rest = ap₂ (λ (u v : Bool). u && (v && (low_part && rows_part))) (sym z) (sym b) ∙ labels_by
-
-      pub labels_high : low_part ≡ false → false ≡ labels_right A N sizes members
-      labels_high h = ap (λ (u : Bool). u && rows_part) (sym h) ∙ labels_rest
-
-      pub labels_low : low_part ≡ true → (r : Bool) → r ≡ rows_part → r ≡ labels_right A N sizes members
-      labels_low h r e = e ∙ ap (λ (u : Bool). u && rows_part) (sym h) ∙ labels_rest
-
 -- what the call says of the label's own places
 pub row_places : (sizes members : List ℕ) (i : ℕ) (r : Bool) → r ≡ standing (get_or sizes i 0) (take (limits.label * i + limits.label - limits.label * i) (drop (limits.label * i) members)) → r ≡ row_right sizes members i
 row_places sizes members i r p = let e : limits.label * i + limits.label - limits.label * i ≡ limits.label = omega arith in p ∙ ap (λ (n : ℕ). standing (get_or sizes i 0) (take n (drop (limits.label * i) members))) e
-
--- label by label
-module _ (p : ℕ → Bool) (N i : ℕ) where
-  abbrev rest : ℕ → Bool
-  rest j = all_of p (drop j (numbers_below N))
-
-  pub label_hit : i < N → p i ≡ true → rest i ≡ rest (i + 1)
-  label_hit h t = all_hit p (numbers_below N) i 0 (omega (arith, length_below N)) (ap p (at_below N i h) ∙ t)
-
-  pub label_miss : i < N → p i ≡ false → rest i ≡ false
-  label_miss h t = all_miss p (numbers_below N) i 0 (omega (arith, length_below N)) (ap p (at_below N i h) ∙ t)
-
-  pub label_end : N ≤ i → rest i ≡ true
-  label_end h = all_end p (numbers_below N) i (omega (arith, length_below N))
-
--- ---- the whole shape
-module _ (l : Lists) (A N : ℕ) where
-  pub shape_depth : limits.numbers + 1 < l.depth → false ≡ lists_right l A N
-  unfolding lists_right
-  shape_depth h = rw (lt-leb l.depth (limits.numbers + 1) h)
-
-  and_none : (a : Bool) → false ≡ a && false
-  and_none true = refl
-  and_none false = refl
-
-  pub shape_nogoods : l.depth ≤ limits.numbers + 1 → listed A l.count l.nogoods ≡ false → false ≡ lists_right l A N
-  unfolding lists_right
-  shape_nogoods d q = rw (le-leb l.depth (limits.numbers + 1) d, q) (and_none (labels_right A N l.sizes l.members))
-
-  and_all : (a : Bool) → a ≡ a && true
-  and_all true = refl
-  and_all false = refl
-
-  pub shape_rest : l.depth ≤ limits.numbers + 1 → listed A l.count l.nogoods ≡ true → (r : Bool) → r ≡ labels_right A N l.sizes l.members → r ≡ lists_right l A N
-  unfolding lists_right
-  shape_rest d q r e = rw (le-leb l.depth (limits.numbers + 1) d, q) (e ∙ and_all (labels_right A N l.sizes l.members))

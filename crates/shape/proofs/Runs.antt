@@ -1,8 +1,9 @@
 -- A list looked at from its beginning, each set against the one before it and against those of fewer assumptions. Assumes nothing.
+use Rattle.std.specs.Prelude.{Option, is_some}
 use mathlib.Core.Bool.{Bool, ◌&&◌, false, not, true}
 use mathlib.Core.List.Memᴰ
 use mathlib.Core.List.{List, Memᴰ as Mem, [], ◌∷◌}
-use mathlib.Core.Logic.{⊎_elim}
+use mathlib.Core.Logic.{◌⊎◌, ⊎_elim}
 use mathlib.Core.Path.{◌∙◌, ◌≡◌, ap, refl, subst, sym}
 use Prim.Native.Nat.{◌+◌, ◌-◌, ◌<◌, ◌≤◌, suc, zero, ℕ}
 use native.Mathlib.Decide.{dec_lt}
@@ -10,7 +11,6 @@ use native.Mathlib.Omega.{arith}
 use lib.Count.{ones}
 use lib.ListN.{get_or, length, take}
 use lib.Seq.{get_or-take, length-take-le}
-use borrow.Author.Tests.{le-ltb, lt-ltb}
 use Rattle.members.proofs.First.{at_mem, contains_first}
 use Rattle.members.specs.Promised.{first_within}
 use Rattle.shape.specs.Shape.{apart}
@@ -20,9 +20,6 @@ use Rattle.theory.proofs.Order.{before_asym, before_elim, before_fewer, before_i
 use Rattle.theory.proofs.Select.{within_before, within_ones}
 use Rattle.theory.specs.Lists.{sorted_by}
 use Rattle.theory.specs.Sets.{before, contains, within}
-
-pub more : (n m k : ℕ) → m ≡ k → m ≤ n → (n ≡ m → ⊥) → k < n
-more n m k e h d = elim (dec_lt m n) [ yes q ↦ omega arith | no q ↦ absurd (d (omega arith)) ]
 
 -- ---- a sorted list by its places
 pub mem_place : (l : List ℕ) {x : ℕ} → Mem x l → (k : ℕ) × (k < length l) × (get_or l k 0 ≡ x)
@@ -66,9 +63,6 @@ pub record Run (l : List ℕ) (i from last : ℕ) : Type 0 where
   pub top : (k : ℕ) → suc k ≡ i → get_or l k 0 ≡ last
 
 module _ (l : List ℕ) where
-  pub run_short : length l < 2 → true ≡ sorted_by apart l
-  run_short h = sym (places_sorted apart l (λ j k p q. absurd (omega arith)))
-
   pub run_one : Run l 1 0 (get_or l 0 0)
   run_one = record {
     clear = λ j k h q. absurd (omega arith);
@@ -83,18 +77,12 @@ module _ (l : List ℕ) where
 
     module _ (one : 1 ≤ i) (h : i < length l) where
       -- the next is not after the last
-      late : before last (get_or l i 0) ≡ false → false ≡ sorted_by apart l
-      late b =
+      pub run_late : before last (get_or l i 0) ≡ false → false ≡ sorted_by apart l
+      run_late b =
           sym (not_so (sorted_by apart l)
           (λ s.
           let a : apart (get_or l (i - 1) 0) (get_or l i 0) ≡ true = sorted_places apart l s (i - 1) i (omega arith) h in
           clash (apart_before last (get_or l i 0) (subst (λ (v : ℕ). apart v (get_or l i 0) ≡ true) (run.top (i - 1) (omega arith)) a)) b))
-
-      pub run_fewer : ones (get_or l i 0) < ones last → false ≡ sorted_by apart l
-      run_fewer q = late (not_so (before last (get_or l i 0)) (λ b. ⊎_elim (λ c. omega arith) (λ c. omega arith) (before_elim last (get_or l i 0) b)))
-
-      pub run_low : ones (get_or l i 0) ≡ ones last → get_or l i 0 ≤ last → false ≡ sorted_by apart l
-      run_low e q = late (not_so (before last (get_or l i 0)) (λ b. ⊎_elim (λ c. omega arith) (λ c. omega arith) (before_elim last (get_or l i 0) b)))
 
       later : before last (get_or l i 0) ≡ true → (k : ℕ) → k < i → before (get_or l k 0) (get_or l i 0) ≡ true
       later b k p = elim (dec_lt (suc k) i) [
@@ -103,29 +91,29 @@ module _ (l : List ℕ) where
         | no q ↦ subst (λ (v : ℕ). before v (get_or l i 0) ≡ true) (sym (run.top k (omega arith))) b
       ]
 
-      module _ (to r : ℕ) (low : to ≤ i) (found : r ≡ first_within (take to l) (get_or l i 0)) where
+      module _ (to : ℕ) (r : Option ℕ) (low : to ≤ i) (found : r ≡ first_within (take to l) (get_or l i 0)) where
         size : length (take to l) ≡ to
         size = length-take-le to l (omega arith)
 
         -- an earlier one lies within the next
-        pub run_in : r < to → false ≡ sorted_by apart l
+        pub run_in : is_some r ≡ true → false ≡ sorted_by apart l
         unfolding contains
         run_in q =
             sym (not_so (sorted_by apart l)
             (λ s.
-            let c : contains (take to l) (get_or l i 0) ≡ true = contains_first (take to l) (get_or l i 0) ∙ lt-ltb (first_within (take to l) (get_or l i 0)) (length (take to l)) (omega (arith, size)) in
+            let c : contains (take to l) (get_or l i 0) ≡ true = contains_first (take to l) (get_or l i 0) ∙ ap is_some (sym found) ∙ q in
             let m = some_elim (λ F. within F (get_or l i 0)) (take to l) c in
             let p = mem_place (take to l) m.1 in
             let w : within (get_or l p.0 0) (get_or l i 0) ≡ true = subst (λ (v : ℕ). within v (get_or l i 0) ≡ true) (sym p.2 ∙ get_or-take to l p.0 0 (omega (arith, p.1, size))) m.2 in
             clash (apart_out (get_or l p.0 0) (get_or l i 0) (sorted_places apart l s p.0 i (omega (arith, p.1, size)) h) w) refl))
 
-        none : to ≤ r → (k : ℕ) → k < to → within (get_or l k 0) (get_or l i 0) ≡ false
+        none : is_some r ≡ false → (k : ℕ) → k < to → within (get_or l k 0) (get_or l i 0) ≡ false
         none q k p =
-            let c : contains (take to l) (get_or l i 0) ≡ false = contains_first (take to l) (get_or l i 0) ∙ le-ltb (first_within (take to l) (get_or l i 0)) (length (take to l)) (omega (arith, size)) in
+            let c : contains (take to l) (get_or l i 0) ≡ false = contains_first (take to l) (get_or l i 0) ∙ ap is_some (sym found) ∙ q in
             not_so (within (get_or l k 0) (get_or l i 0))
             (λ w. clash (contains_intro (get_or l i 0) (at_mem (take to l) k (omega (arith, size))) (subst (λ (v : ℕ). within v (get_or l i 0) ≡ true) (sym (get_or-take to l k 0 p)) w)) c)
 
-        run_next : before last (get_or l i 0) ≡ true → to ≤ r → ((k : ℕ) → k < to → ones (get_or l k 0) < ones (get_or l i 0))
+        run_next : before last (get_or l i 0) ≡ true → is_some r ≡ false → ((k : ℕ) → k < to → ones (get_or l k 0) < ones (get_or l i 0))
             → ((k : ℕ) → to ≤ k → k < i + 1 → ones (get_or l k 0) ≡ ones (get_or l i 0)) → Run l (i + 1) to (get_or l i 0)
         run_next b q less equal = record {
           clear = λ j k p o. elim (dec_lt k i) [
@@ -145,14 +133,24 @@ module _ (l : List ℕ) where
         }
 
       -- the next has as many assumptions as the last, and is a greater number
-      pub run_same : from ≤ i → ones (get_or l i 0) ≡ ones last → last < get_or l i 0 → (r : ℕ) → r ≡ first_within (take from l) (get_or l i 0) → from ≤ r → Run l (i + 1) from (get_or l i 0)
+      run_same : from ≤ i → ones (get_or l i 0) ≡ ones last → last < get_or l i 0 → (r : Option ℕ) → r ≡ first_within (take from l) (get_or l i 0) → is_some r ≡ false → Run l (i + 1) from (get_or l i 0)
       run_same low e g r found q =
           run_next from r low found (before_less last (get_or l i 0) (sym e) g) q (λ k p. omega (arith, run.fewer k p, e))
           (λ k p o. elim (dec_lt k i) [ yes y ↦ run.same k p y ∙ sym e | no y ↦ (let z : k ≡ i = omega arith in ap (λ (v : ℕ). ones (get_or l v 0)) z) ])
 
       -- the next has more
-      pub run_more : ones last < ones (get_or l i 0) → (r : ℕ) → r ≡ first_within (take i l) (get_or l i 0) → i ≤ r → Run l (i + 1) i (get_or l i 0)
+      run_more : ones last < ones (get_or l i 0) → (r : Option ℕ) → r ≡ first_within (take i l) (get_or l i 0) → is_some r ≡ false → Run l (i + 1) i (get_or l i 0)
       run_more g r found q =
           run_next i r (omega arith) found (before_fewer last (get_or l i 0) g) q
           (λ k p. elim (dec_lt k from) [ yes y ↦ omega (arith, run.fewer k y) | no y ↦ omega (arith, run.same k (omega arith) p) ])
           (λ k p o. let z : k ≡ i = omega arith in ap (λ (v : ℕ). ones (get_or l v 0)) z)
+
+      -- the next stands after the last; from then on those with as many assumptions begin with it, or where they began before
+      pub run_on : from ≤ i → before last (get_or l i 0) ≡ true → (to : ℕ) → ((ones last < ones (get_or l i 0)) × (to ≡ i)) ⊎ ((ones (get_or l i 0) ≤ ones last) × (to ≡ from)) → (r : Option ℕ) → r ≡ first_within (take to l) (get_or l i 0) → is_some r ≡ false → Run l (i + 1) to (get_or l i 0)
+      run_on low b to by r found q =
+          ⊎_elim
+          (λ m. subst (λ (k : ℕ). Run l (i + 1) k (get_or l i 0)) (sym m.1) (run_more m.0 r (found ∙ ap (λ (k : ℕ). first_within (take k l) (get_or l i 0)) m.1) q))
+          (λ m. let g : last < get_or l i 0 = ⊎_elim (λ c. absurd (omega (arith, m.0))) (λ c. c.1) (before_elim last (get_or l i 0) b) in
+          let e : ones (get_or l i 0) ≡ ones last = ⊎_elim (λ c. absurd (omega (arith, m.0))) (λ c. sym c.0) (before_elim last (get_or l i 0) b) in
+          subst (λ (k : ℕ). Run l (i + 1) k (get_or l i 0)) (sym m.1) (run_same low e g r (found ∙ ap (λ (k : ℕ). first_within (take k l) (get_or l i 0)) m.1) q))
+          by

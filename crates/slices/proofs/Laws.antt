@@ -1,20 +1,18 @@
--- The steps of a loop over a list: some pass, all are zero, two lists are the same. Assumes nothing.
+-- The steps of a loop over a list: some pass, all are zero. Assumes nothing.
 use mathlib.Core.Bool.{Bool, ◌&&◌, ◌||◌, false, true}
 use mathlib.Core.List.{List, [], ◌∷◌}
 use mathlib.Core.Path.{◌∙◌, ◌≡◌, ap, ap₂, refl, sym}
-use Prim.Native.Nat.{◌+◌, ◌<◌, ◌≤◌, suc, ℕ}
-use native.Mathlib.Numerals.{add-one}
+use Prim.Native.Nat.{◌+◌, ◌<◌, ◌≤◌, ℕ}
 use native.Mathlib.Omega.{arith}
 use lib.Bits.{or_zero_l}
 use lib.Dec.{eqb}
-use lib.ListN.{drop, drop_of_length-le, get_or, length}
-use lib.Seq.{drop-cons}
-use borrow.Author.Tests.{eq-eqb, eqb-true, ne_eqb}
+use lib.ListN.{drop, get_or, length}
+use borrow.Author.Tests.{eq-eqb, eqb-true}
 use Rattle.theory.proofs.Lists.{and_intro, and_left, and_right, same_test}
 use Rattle.theory.proofs.Places.{all_end, all_step, any_step}
 use Rattle.theory.proofs.Sets.{within_le, within_left, within_right}
-use Rattle.theory.specs.Judge.{same_sets}
-use Rattle.theory.specs.Lists.{alike, all_of, some_of}
+use Rattle.std.specs.List.{fold}
+use Rattle.theory.specs.Lists.{all_of, some_of}
 use Rattle.theory.specs.Sets.{union}
 
 -- ---- some pass
@@ -27,8 +25,16 @@ module _ {X : Type 0} (p : X → Bool) (l : List X) (i : ℕ) (z : X) (h : i < l
 
 -- ---- all are zero
 -- the test written the other way round
-pub turned : (x : ℕ) → eqb x 0 ≡ eqb 0 x
-turned x = same_test (λ t. eq-eqb 0 x (sym (eqb-true x 0 t))) (λ t. eq-eqb x 0 (sym (eqb-true 0 x t)))
+pub turned : (x y : ℕ) → eqb x y ≡ eqb y x
+turned x y = same_test (λ t. eq-eqb y x (sym (eqb-true x y t))) (λ t. eq-eqb x y (sym (eqb-true y x t)))
+
+and_true : (a : Bool) → a ≡ a && true
+and_true true = refl
+and_true false = refl
+
+and_three : (a b c : Bool) → (a && b) && c ≡ a && (b && c)
+and_three true b c = refl
+and_three false b c = refl
 
 -- no bit in either
 pub none_of_both : (x y : ℕ) → eqb 0 (union x y) ≡ eqb 0 x && eqb 0 y
@@ -39,6 +45,15 @@ none_of_both x y =
     and_intro (eq-eqb 0 x (omega (arith, within_le x (union x y) (within_left x y)))) (eq-eqb 0 y (omega (arith, within_le y (union x y) (within_right x y)))))
     (λ t. eq-eqb 0 (union x y) (sym (or_zero_l 0) ∙ ap₂ union (eqb-true 0 x (and_left (eqb 0 x) (eqb 0 y) t)) (eqb-true 0 y (and_right (eqb 0 x) (eqb 0 y) t))))
 
+-- all of them joined
+joined_from : (seen : ℕ) (l : List ℕ) → eqb 0 (fold union seen l) ≡ eqb 0 seen && all_of (eqb 0) l
+unfolding all_of
+joined_from seen [] = and_true (eqb 0 seen)
+joined_from seen (x ∷ l) = joined_from (union seen x) l ∙ ap (λ (t : Bool). t && all_of (eqb 0) l) (none_of_both seen x) ∙ and_three (eqb 0 seen) (eqb 0 x) (all_of (eqb 0) l)
+
+pub joined_none : (l : List ℕ) → eqb (fold union 0 l) 0 ≡ all_of (eqb 0) l
+joined_none l = turned (fold union 0 l) 0 ∙ joined_from 0 l
+
 -- a pass that joins a number of each, zero where the test holds
 module _ {X : Type 0} (p : X → Bool) (l : List X) (i seen : ℕ) (all : Bool) (inv : eqb 0 seen && all_of p (drop i l) ≡ all) where
   pub zero_on : (z : X) (b : ℕ) → i < length l → eqb 0 b ≡ p (get_or l i z) → eqb 0 (union seen b) && all_of p (drop (i + 1) l) ≡ all
@@ -47,44 +62,6 @@ module _ {X : Type 0} (p : X → Bool) (l : List X) (i seen : ℕ) (all : Bool) 
       ∙ and_three (eqb 0 seen) (eqb 0 b) (all_of p (drop (i + 1) l))
       ∙ ap (λ (t : Bool). eqb 0 seen && (t && all_of p (drop (i + 1) l))) e
       ∙ ap (λ (t : Bool). eqb 0 seen && t) (sym (all_step p l i z h)) ∙ inv
-    where
-      and_three : (a b c : Bool) → (a && b) && c ≡ a && (b && c)
-      and_three true b c = refl
-      and_three false b c = refl
 
   pub zero_end : length l ≤ i → eqb seen 0 ≡ all
-  zero_end h = turned seen ∙ and_true (eqb 0 seen) ∙ ap (λ (b : Bool). eqb 0 seen && b) (sym (all_end p l i h)) ∙ inv
-    where
-      and_true : (a : Bool) → a ≡ a && true
-      and_true true = refl
-      and_true false = refl
-
--- ---- two lists are the same
-module _ (a b : List ℕ) (i : ℕ) where
-  same_step : i < length a → i < length b → same_sets (drop i a) (drop i b) ≡ eqb (get_or a i 0) (get_or b i 0) && same_sets (drop (i + 1) a) (drop (i + 1) b)
-  unfolding same_sets alike
-  same_step h k =
-      ap₂ same_sets (drop-cons a i 0 h) (drop-cons b i 0 k)
-      ∙ ap (λ (j : ℕ). eqb (get_or a i 0) (get_or b i 0) && same_sets (drop j a) (drop j b)) (sym (add-one i))
-
-  pub same_miss : i < length a → i < length b → (get_or a i 0 ≡ get_or b i 0 → ⊥) → same_sets (drop i a) (drop i b) ≡ false
-  same_miss h k n = same_step h k ∙ rw (ne_eqb (get_or a i 0) (get_or b i 0) n)
-
-  pub same_hit : i < length a → i < length b → get_or a i 0 ≡ get_or b i 0 → same_sets (drop i a) (drop i b) ≡ same_sets (drop (i + 1) a) (drop (i + 1) b)
-  same_hit h k e = same_step h k ∙ ap (λ (t : Bool). t && same_sets (drop (i + 1) a) (drop (i + 1) b)) (eq-eqb (get_or a i 0) (get_or b i 0) e)
-
-  pub same_end : length a ≤ i → length b ≤ i → same_sets (drop i a) (drop i b) ≡ true
-  unfolding same_sets alike
-  same_end h k = ap₂ same_sets (drop_of_length-le a {i = i} h) (drop_of_length-le b {i = i} k)
-
--- lists of different lengths differ
-pub same_length : (a b : List ℕ) → (length a ≡ length b → ⊥) → same_sets a b ≡ false
-unfolding same_sets alike
-same_length [] [] h = absurd (h refl)
-same_length [] (y ∷ b) h = refl
-same_length (x ∷ a) [] h = refl
-same_length (x ∷ a) (y ∷ b) h = go (eqb x y) (same_length a b (λ e. h (ap suc e)))
-  where
-    go : (t : Bool) → same_sets a b ≡ false → t && same_sets a b ≡ false
-    go true e = e
-    go false e = refl
+  zero_end h = turned seen 0 ∙ and_true (eqb 0 seen) ∙ ap (λ (b : Bool). eqb 0 seen && b) (sym (all_end p l i h)) ∙ inv

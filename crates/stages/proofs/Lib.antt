@@ -1,12 +1,11 @@
 pub mod Tables
-pub mod Parts
 pub mod Writing
+pub mod Parts
 pub mod Stages
-pub mod Nexts
 pub mod Keeps
+pub mod Marks
 pub mod Spared
 pub mod Compares
-pub mod Marks
+pub mod Nexts
 pub mod Relabels
 pub mod Walk
-pub mod Sixes

@@ -6,13 +6,14 @@ use mathlib.Core.List.Memᴰ.{tail as there}
 use mathlib.Core.List.{List, Memᴰ as Mem, [], ◌∷◌, map}
 use mathlib.Core.Logic.{◌⊎◌, inl, inr, ⊎_elim}
 use mathlib.Core.Path.{◌∙◌, ◌≡◌, ap, ap₂, refl, subst, sym}
-use Prim.Native.Nat.{◌+◌, ◌<◌, ◌≤◌, suc, zero, ℕ}
+use Prim.Native.Nat.{◌+◌, ◌-◌, ◌<◌, ◌≤◌, suc, zero, ℕ}
 use native.Mathlib.Nat.{le_of_suc-le-suc, not-suc-le-zero}
 use native.Mathlib.Numerals.{add-one}
 use native.Mathlib.Omega.{arith}
 use lib.Dec.{eqb}
 use lib.ListN.{get_or, get_or-replicate, length, replicate, set, take}
-use lib.Seq.{ext_get_or, get_or-set_other, get_or-set_same}
+use lib.Seq.{ext_get_or, get_or-set_other, get_or-set_same, take_all}
+use Rattle.std.proofs.lemmas.List.{set-get_or}
 use borrow.Author.Tests.{eq-eqb, eqb-false, eqb-true, not-false, not-true}
 use Rattle.joining.specs.Layout.{lying}
 use Rattle.labels.specs.Moved.{Quiet, Still, marked, stirs}
@@ -72,7 +73,7 @@ module _ (moved : List ℕ) where
   pub touched_none : (v : ℕ) → v ≡ get_or moved 0 0 → Touched moved [] (replicate (limits.numbers + 1) v)
   touched_none v e = λ n low z. (sym e ∙ sym (get_or-replicate (limits.numbers + 1) n v 0 (omega arith)) ∙ z, λ r m. elim m [ ])
 
-  pub touched_turn : (entries : List Entry) (j : ℕ) (z : Entry) → j < length entries → (marks : List ℕ) → Touched moved (map meaning (take j entries)) marks
+  touched_turn : (entries : List Entry) (j : ℕ) (z : Entry) → j < length entries → (marks : List ℕ) → Touched moved (map meaning (take j entries)) marks
       → (get_or entries j z).consequent < length marks → (v : ℕ) → v ≡ choose (stirs moved (meaning (get_or entries j z)).supports) 1 (get_or marks (get_or entries j z).consequent 0)
       → Touched moved (map meaning (take (j + 1) entries)) (set marks (get_or entries j z).consequent v)
   touched_turn entries j z h marks inv low v e = λ n top o. go n top o (eqb n c) refl
@@ -102,8 +103,30 @@ module _ (moved : List ℕ) where
           let u = inv n top (sym (get_or-set_other marks c n v 0 d) ∙ o) in
           (u.0, λ r m q. ⊎_elim (λ a. u.1 r a q) (λ a. absurd (d (sym q ∙ ap (λ (x : Justification). x.consequent) a))) (cases r m))
 
-  pub touched_end : (entries : List Entry) (count j : ℕ) → j ≤ count → count ≤ j → (marks : List ℕ) → Touched moved (map meaning (take j entries)) marks → Touched moved (map meaning (take count entries)) marks
-  touched_end entries count j a b marks u = let e : j ≡ count = omega arith in subst (λ (i : ℕ). Touched moved (map meaning (take i entries)) marks) e u
+  module _ (entries : List Entry) (j : ℕ) (z : Entry) (h : j < length entries) (marks : List ℕ) (inv : Touched moved (map meaning (take j entries)) marks) (low : (get_or entries j z).consequent < length marks) where
+    pub touched_stirred : stirs moved (meaning (get_or entries j z)).supports ≡ true → (marks' : List ℕ) → marks' ≡ set marks (get_or entries j z).consequent 1 → Touched moved (map meaning (take (j + 1) entries)) marks'
+    touched_stirred s marks' e =
+        subst (Touched moved (map meaning (take (j + 1) entries))) (sym e)
+        (touched_turn entries j z h marks inv low 1 (sym (ap (λ (b : Bool). choose b 1 (get_or marks (get_or entries j z).consequent 0)) s)))
+
+    pub touched_passed : stirs moved (meaning (get_or entries j z)).supports ≡ false → (marks' : List ℕ) → marks' ≡ marks → Touched moved (map meaning (take (j + 1) entries)) marks'
+    touched_passed s marks' e =
+        subst (Touched moved (map meaning (take (j + 1) entries))) (set-get_or marks (get_or entries j z).consequent 0 ∙ sym e)
+        (touched_turn entries j z h marks inv low (get_or marks (get_or entries j z).consequent 0) (sym (ap (λ (b : Bool). choose b 1 (get_or marks (get_or entries j z).consequent 0)) s)))
+
+  pub touched_end : (entries : List Entry) (j : ℕ) → length entries ≤ j → (marks : List ℕ) → Touched moved (map meaning (take j entries)) marks → Touched moved (map meaning entries) marks
+  touched_end entries j a marks u = subst (λ (l : List Entry). Touched moved (map meaning l) marks) (take_all j entries a) u
+
+-- ---- the stage before
+record Before (h : Held) (k : ℕ) (moved : List ℕ) : Type 0 where
+  before : ℕ
+  next : k ≡ suc before
+  same : (s : ℕ) → s ≤ limits.numbers → get_or moved s 0 ≡ 0 → label_in (stage_by h (suc before)).labels s ≡ label_in (stage_by h before).labels s
+
+told_before : {h : Held} {k : ℕ} {moved : List ℕ} → Since h k moved → Before h k moved
+told_before {h} {k} {moved} t =
+    let q : k ≡ suc (k - 1) = omega (arith, t.later) in
+    record { before = k - 1; next = q; same = λ s low e. ap (λ (m : ℕ). label_in (stage_by h m).labels s) (sym q) ∙ t.same s low e }
 
 -- ---- from the marks of a step
 module _ (h : Held) where
@@ -116,8 +139,8 @@ module _ (h : Held) where
   abbrev J : List Justification
   J = said_by h
 
-  pub fresh_start : (k : ℕ) (moved : List ℕ) → length moved ≡ limits.numbers + 1 → (get_or moved 0 0 ≡ 0 → ⊥) → Fresh h k moved
-  fresh_start k moved long n = record { long = long; since = λ z. absurd (n z) }
+  pub fresh_start : (k : ℕ) (moved : List ℕ) → (get_or moved 0 0 ≡ 0 → ⊥) → Fresh h k moved
+  fresh_start k moved n = record { since = λ z. absurd (n z) }
 
   mark_same : (b : Bool) → ◌≡◌ {A = ℕ} (choose b 0 1) 0 → b ≡ true
   mark_same true e = refl
@@ -133,8 +156,7 @@ module _ (h : Held) where
 
     pub fresh_on : Fresh h (k + 1) marks
     fresh_on = record {
-      long = ap length are ∙ length_table (limits.numbers + 1) (mark_of (stage_by h k).labels (stage_by h (k + 1)).labels);
-      since = λ z. record { before = k; next = add-one k; same = λ s low e. ap (λ (m : ℕ). label_in (stage_by h m).labels s) (sym (add-one k)) ∙ unmoved s low e };
+      since = λ z. record { later = omega arith; same = λ s low e. let q : k + 1 - 1 ≡ k = omega arith in unmoved s low e ∙ ap (λ (m : ℕ). label_in (stage_by h m).labels s) (sym q) };
     }
 
     -- no news and no mark: the stages agree
@@ -185,7 +207,7 @@ module _ (h : Held) where
   pub stale_from : (k : ℕ) (moved : List ℕ) → Fresh h k moved → (N ≤ limits.numbers) → ((r : Justification) → Mem r (said_by h) → (s : ℕ) → Mem s r.supports → s ≤ h.assumptions + h.claims) → (stale : List ℕ) → Touched moved (said_by h) stale → Stale h k stale
   stale_from k moved f few range stale u = λ n low z.
       let t = u n low z in
-      let i = f.since t.0 in
+      let i = told_before (f.since t.0) in
       record {
         before = i.before;
         next = i.next;
@@ -213,8 +235,8 @@ module _ (h : Held) (l : Lists) (re : Reached h l) (moved : List ℕ) (f : Fresh
   lying_is s low = lies K (stage_by h K) re.room l re.is s (omega (arith, wide h re.judgeable)) ∙ stage_label_in A' N' J' K s low
 
   module _ (r : Justification) (m : Mem r (said_by h)) (u : stirs moved r.supports ≡ false) where
-    abbrev since : Since h K moved
-    since = f.since (not_stirred moved r.supports u).0
+    abbrev since : Before h K moved
+    since = told_before (f.since (not_stirred moved r.supports u).0)
 
     abbrev b : ℕ
     b = since.before
@@ -244,7 +266,6 @@ module _ (h : Held) (l : Lists) (re : Reached h l) (moved : List ℕ) (f : Fresh
   pub label_still : (n : ℕ) → n ≤ h.assumptions + h.claims → (part : List Justification) → part ≡ those (λ j. eqb j.consequent n) (said_by h) → (struck old : List ℕ) → struck ≡ (stage_by h (l.depth + 1)).nogoods → old ≡ lying l.members l.sizes n
       → Still (lying l.members l.sizes) part n old struck moved
   label_still n low part is struck old se oe = record {
-    long = f.long;
     quiet = λ r m e u.
         let i = those_elim (λ (j : Justification). eqb j.consequent n) J' (subst (λ (x : List Justification). Mem r x) is m) in
         let d = since r i.0 u in
@@ -257,7 +278,6 @@ module _ (h : Held) (l : Lists) (re : Reached h l) (moved : List ℕ) (f : Fresh
 
   pub nogood_still : (part : List Justification) → part ≡ those (λ j. eqb j.consequent 0) (said_by h) → Still (lying l.members l.sizes) part 0 (take l.count l.nogoods) [] moved
   nogood_still part is = record {
-    long = f.long;
     quiet = λ r m e u.
         let i = those_elim (λ (j : Justification). eqb j.consequent 0) J' (subst (λ (x : List Justification). Mem r x) is m) in
         let d = since r i.0 u in

@@ -11,11 +11,11 @@ use native.Mathlib.Numerals.{add-one}
 use native.Mathlib.Omega.{arith}
 use lib.Dec.{eqb, ltb}
 use lib.ListN.{get_or-map, drop, drop_of_length-le, get_or, get_or-replicate, length, length-drop, length-map, length-take, replicate, set, take}
-use lib.Seq.{drop-cons, ext_get_or, get_or-drop, get_or-set_other, get_or-set_same, get_or-take}
+use lib.Seq.{drop-cons, ext_get_or, get_or-drop, get_or-set_other, get_or-set_same, get_or-take, length-take-le}
 use borrow.Author.Tests.{eq-eqb, eqb-false, eqb-true, le-ltb, lt-ltb, ltb-true, ne_eqb}
 use Rattle.joining.specs.Layout.{Ranged}
-use Rattle.labels.proofs.Ranges.{held_joinable, held_low, joinable_part, part_few, part_ranged}
-use Rattle.labels.specs.Entries.{Few, Joinable, between, entries_of}
+use Rattle.labels.proofs.Ranges.{held_few, held_joinable, held_low, held_ranged, joinable_part}
+use Rattle.labels.specs.Entries.{Few, Joinable, between}
 use Rattle.rules.proofs.Order.{ordered_head, ordered_tail}
 use Rattle.rules.proofs.Scan.{right_elim, right_inside, said_length}
 use Rattle.rules.specs.Held.{meaning, ordered, said_by, top, vacant}
@@ -124,15 +124,22 @@ module _ (h : Held) (ok : Judgeable limits.assumptions h) where
   pub part_joinable : (lo hi : ℕ) → hi ≤ h.count → Joinable (between h.entries lo hi)
   part_joinable lo hi p = joinable_part h.entries h.count lo hi p (held_joinable h ok.right wide)
 
+  -- each that is held
   module _ (j : ℕ) (z : Entry) (low : j < h.count) where
-    pub entry_few : Few (get_or h.entries j z)
-    entry_few = part_few h.entries 0 h.count j z (part_joinable 0 h.count (omega arith)) (omega arith) low (right_inside h ok.right)
+    placed_at : get_or (take h.count h.entries) j z ≡ get_or h.entries j z
+    placed_at = get_or-take h.count h.entries j z low
 
-    pub entry_ranged : Ranged (meaning (get_or h.entries j z)).supports
-    entry_ranged = part_ranged h.entries 0 h.count j z (part_joinable 0 h.count (omega arith)) (omega arith) low (right_inside h ok.right)
+    pub entry_few : Few (get_or (take h.count h.entries) j z)
+    entry_few = subst Few (sym placed_at) (held_few h ok.right wide j z low)
 
-    pub entry_low : (get_or h.entries j z).consequent ≤ limits.numbers
-    entry_low = held_low h ok.right wide j z low
+    pub entry_ranged : Ranged (meaning (get_or (take h.count h.entries) j z)).supports
+    entry_ranged = subst (λ (e : Entry). Ranged (meaning e).supports) (sym placed_at) (held_ranged h ok.right wide j z low)
+
+    pub entry_low : (get_or (take h.count h.entries) j z).consequent ≤ limits.numbers
+    entry_low = subst (λ (e : Entry). e.consequent ≤ limits.numbers) (sym placed_at) (held_low h ok.right wide j z low)
+
+  pub held_many : length (take h.count h.entries) ≡ h.count
+  held_many = length-take-le h.count h.entries (right_inside h ok.right)
 
   held_long : length J ≡ h.count
   held_long = said_length h.entries h.count (right_inside h ok.right)
@@ -184,14 +191,22 @@ module _ (h : Held) (ok : Judgeable limits.assumptions h) where
     pub first_inside : get_or t 0 0 ≤ h.count
     first_inside = omega (arith, tally_inside t e 0 0 (omega arith) (sym (below_none J)))
 
-    pub first_low : get_or t 0 0 ≤ limits.held
-    first_low = omega (arith, tally_low t e 0 0 (omega arith) (sym (below_none J)))
+  -- those of falsity, as a slice
+  module _ (end : ℕ) (e : end ≡ get_or (tallied h) 0 0) where
+    front : take end h.entries ≡ between h.entries 0 (get_or (tallied h) 0 0)
+    front = let q : end ≡ get_or (tallied h) 0 0 - 0 = omega arith in ap (λ (n : ℕ). take n h.entries) q
 
-    pub first_is : map meaning (between h.entries 0 (get_or t 0 0)) ≡ those (λ j. eqb j.consequent 0) (said_by h)
-    first_is = part_is 0 0 (get_or t 0 0) (sym (below_none J)) (sym first_end ∙ tally_end t e 0 0 (omega arith) (sym (below_none J)))
+    pub first_joinable : Joinable (take end h.entries)
+    first_joinable = subst Joinable (sym front) (part_joinable 0 (get_or (tallied h) 0 0) (first_inside (tallied h) refl))
 
-    pub first_candidates : (L : ℕ → List ℕ) (old : List ℕ) → candidates L old (map meaning (between h.entries 0 (get_or t 0 0))) 0 ≡ candidates L old J 0
-    first_candidates = part_candidates 0 0 (get_or t 0 0) (sym (below_none J)) (sym first_end ∙ tally_end t e 0 0 (omega arith) (sym (below_none J)))
+    ends : get_or (tallied h) 0 0 ≡ 0 + many_of J 0
+    ends = sym (first_end (tallied h) refl) ∙ tally_end (tallied h) refl 0 0 (omega arith) (sym (below_none J))
+
+    pub first_is : map meaning (take end h.entries) ≡ those (λ j. eqb j.consequent 0) (said_by h)
+    first_is = ap (map meaning) front ∙ part_is 0 0 (get_or (tallied h) 0 0) (sym (below_none J)) ends
+
+    pub first_candidates : (L : ℕ → List ℕ) (old : List ℕ) → candidates L old (map meaning (take end h.entries)) 0 ≡ candidates L old (said_by h) 0
+    first_candidates L old = ap (λ (l : List Entry). candidates L old (map meaning l) 0) front ∙ part_candidates 0 0 (get_or (tallied h) 0 0) (sym (below_none J)) ends L old
 
 -- ---- the tally, justification by justification: what is counted and what is left make up the whole
 abbrev pub Counted : List Justification → ℕ → List ℕ → Type 0
@@ -201,22 +216,22 @@ pub count_none : (J : List Justification) → Counted J 0 (replicate (limits.num
 count_none J n low = omega (arith, get_or-replicate {A = ℕ} (limits.numbers + 1) n 0 0 (omega arith))
 
 module _ (h : Held) (ok : Judgeable limits.assumptions h) where
-  pub count_turn : (j : ℕ) (z : Entry) → j < h.count → (t : List ℕ) → length t ≡ limits.numbers + 1 → (get_or h.entries j z).consequent ≤ limits.numbers → Counted (said_by h) j t
-      → Counted (said_by h) (j + 1) (set t (get_or h.entries j z).consequent (get_or t (get_or h.entries j z).consequent 0 + 1))
+  pub count_turn : (j : ℕ) (z : Entry) → j < h.count → (t : List ℕ) → length t ≡ limits.numbers + 1 → (get_or (take h.count h.entries) j z).consequent ≤ limits.numbers → Counted (said_by h) j t
+      → Counted (said_by h) (j + 1) (set t (get_or (take h.count h.entries) j z).consequent (get_or t (get_or (take h.count h.entries) j z).consequent 0 + 1))
   unfolding those
   count_turn j z p t long low inv n top =
       let K : List Justification = said_by h in
-      let c : ℕ = (get_or h.entries j z).consequent in
-      let x : get_or K j (meaning z) ≡ meaning (get_or h.entries j z) = get_or-map meaning (take h.count h.entries) j z ∙ ap meaning (get_or-take h.count h.entries j z p) in
-      let s : drop j K ≡ meaning (get_or h.entries j z) ∷ drop (j + 1) K = drop-cons K j (meaning z) (omega (arith, held_long h ok)) ∙ ap₂ (λ (y : Justification) (i : ℕ). y ∷ drop i K) x (sym (add-one j)) in
-      let m : many_of (drop j K) n ≡ length (keep (eqb c n) (meaning (get_or h.entries j z)) (those (λ i. eqb i.consequent n) (drop (j + 1) K))) = ap (λ (l : List Justification). many_of l n) s in
+      let c : ℕ = (get_or (take h.count h.entries) j z).consequent in
+      let x : get_or K j (meaning z) ≡ meaning (get_or (take h.count h.entries) j z) = get_or-map meaning (take h.count h.entries) j z in
+      let s : drop j K ≡ meaning (get_or (take h.count h.entries) j z) ∷ drop (j + 1) K = drop-cons K j (meaning z) (omega (arith, held_long h ok)) ∙ ap₂ (λ (y : Justification) (i : ℕ). y ∷ drop i K) x (sym (add-one j)) in
+      let m : many_of (drop j K) n ≡ length (keep (eqb c n) (meaning (get_or (take h.count h.entries) j z)) (those (λ i. eqb i.consequent n) (drop (j + 1) K))) = ap (λ (l : List Justification). many_of l n) s in
       ⊎_elim (λ e.
       let q : c ≡ n = eqb-true c n e in
-      let w : many_of (drop j K) n ≡ suc (many_of (drop (j + 1) K) n) = m ∙ ap (λ (b : Bool). length (keep b (meaning (get_or h.entries j z)) (those (λ i. eqb i.consequent n) (drop (j + 1) K)))) e in
+      let w : many_of (drop j K) n ≡ suc (many_of (drop (j + 1) K) n) = m ∙ ap (λ (b : Bool). length (keep b (meaning (get_or (take h.count h.entries) j z)) (those (λ i. eqb i.consequent n) (drop (j + 1) K)))) e in
       let v : get_or (set t c (get_or t c 0 + 1)) n 0 ≡ get_or t n 0 + 1 = ap (λ (i : ℕ). get_or (set t c (get_or t c 0 + 1)) i 0) (sym q) ∙ get_or-set_same t c (get_or t c 0 + 1) 0 (omega arith) ∙ ap (λ (i : ℕ). get_or t i 0 + 1) q in
       omega (arith, inv n top))
       (λ e.
-      let w : many_of (drop j K) n ≡ many_of (drop (j + 1) K) n = m ∙ ap (λ (b : Bool). length (keep b (meaning (get_or h.entries j z)) (those (λ i. eqb i.consequent n) (drop (j + 1) K)))) e in
+      let w : many_of (drop j K) n ≡ many_of (drop (j + 1) K) n = m ∙ ap (λ (b : Bool). length (keep b (meaning (get_or (take h.count h.entries) j z)) (those (λ i. eqb i.consequent n) (drop (j + 1) K)))) e in
       let v : get_or (set t c (get_or t c 0 + 1)) n 0 ≡ get_or t n 0 = get_or-set_other t c n (get_or t c 0 + 1) 0 (λ q. eqb-false c n e (sym q)) in
       omega (arith, inv n top))
       (either (eqb c n))
@@ -230,11 +245,3 @@ module _ (h : Held) (ok : Judgeable limits.assumptions h) where
       is_table t (limits.numbers + 1) (many_of (said_by h)) 0 long (λ n q.
       let z : many_of (drop j (said_by h)) n ≡ 0 = ap (λ (l : List Justification). many_of l n) (drop_of_length-le (said_by h) {i = j} (omega (arith, held_long h ok))) in
       omega (arith, inv n (omega arith)))
-
--- ---- justifications that lie in six bytes each
-module _ (rules : List ℕ) (h : Held) (e : entries_of rules ≡ h.entries) where
-  pub part_laid : Judgeable limits.assumptions h → (lo hi : ℕ) → hi ≤ h.count → Joinable (between (entries_of rules) lo hi)
-  part_laid ok lo hi p = subst (λ (l : List Entry). Joinable (between l lo hi)) (sym e) (part_joinable h ok lo hi p)
-
-  pub meant_laid : (lo hi : ℕ) → map meaning (between (entries_of rules) lo hi) ≡ map meaning (between h.entries lo hi)
-  meant_laid lo hi = ap (λ (l : List Entry). map meaning (between l lo hi)) e

@@ -1,14 +1,15 @@
 -- The labels of the next stage put over the old ones, label by label, with their marks. Assumes nothing.
+use Rattle.std.specs.Prelude.{None}
 use mathlib.Core.Bool.{Bool, false, true}
 use mathlib.Core.List.{List, []}
 use mathlib.Core.Path.{◌∙◌, ◌≡◌, ap, ap₂, refl, sym}
 use Prim.Native.Nat.{◌*◌, ◌+◌, ◌<◌, ◌≤◌, ℕ}
 use native.Mathlib.Numerals.{add-one}
 use native.Mathlib.Omega.{arith}
-use lib.Dec.{eqb}
 use lib.ListN.{get_or, get_or-replicate, length, length-replicate, replicate, set, take}
 use lib.Seq.{paste}
 use Rattle.joining.specs.Layout.{lying}
+use Rattle.labels.specs.Promised.{placed_list}
 use Rattle.labels.specs.declared.Built.{Built}
 use Rattle.rules.specs.Held.{said_by}
 use Rattle.rules.specs.declared.Held.{Held}
@@ -16,14 +17,7 @@ use Rattle.stages.proofs.Nexts.{over_none, short_on}
 use Rattle.stages.proofs.Parts.{below, wide}
 use Rattle.stages.proofs.Stages.{lies, listed_taken}
 use Rattle.stages.proofs.Writing.{marks_kept, marks_written, member, members_kept, members_placed, members_written, mixed, mixed_all, size, sizes_kept, sizes_placed, sizes_written}
-use Rattle.stages.specs.Steps.{Put, Reached, Relabelled, Step, Stepped, fitted, lists, mark_of, stage_by, step_of}
-use Rattle.stages.specs.declared.Turn.{Turn}
-use Rattle.replies.specs.Replies.{number_of}
-use Rattle.replies.specs.declared.Reply.{Reply}
-use Rattle.replies.specs.declared.Reply.TheVariants.{Done, Label, Nogoods}
-use Rattle.stages.specs.Judged.{refusal}
-use Rattle.stages.specs.Lists.{no_lists}
-use Rattle.stages.specs.declared.Judged.{Judged}
+use Rattle.stages.specs.Steps.{Put, Reached, Relabelled, mark_of, stage_by}
 use Rattle.stages.specs.declared.Lists.{Lists}
 use Rattle.theory.proofs.Judgement.{same_elim, same_refl, stage_length}
 use Rattle.theory.proofs.Places.{is_table, length_table}
@@ -78,15 +72,22 @@ module _ (h : Held) (k : ℕ) where
       short = short_on (stage_by h (k + 1)) i (omega (arith, ap length e)) inv.short;
     }
 
-    pub relabelling_put : (label : Built) → label.count ≡ length (get_or (stage_by h (k + 1)).labels i []) → label.sets ≡ padded 0 limits.nogoods (get_or (stage_by h (k + 1)).labels i []) → length (get_or (stage_by h (k + 1)).labels i []) ≤ limits.label
+    pub relabelling_put : (label : Built) → label ≡ placed_list (get_or (stage_by h (k + 1)).labels i []) → length (get_or (stage_by h (k + 1)).labels i []) ≤ limits.label
         → (o : List ℕ) → o ≡ get_or (stage_by h k).labels i [] → (later' counts' marks' : List ℕ) → Put (same_sets (take label.count label.sets) o) i label later counts marks later' counts' marks' → Relabelling later' counts' marks' hi' (i + 1)
-    relabelling_put label c s few' o oe later' counts' marks' p = go (same_sets X (get_or old i [])) refl
+    unfolding placed_list
+    relabelling_put label is few' o oe later' counts' marks' p = go (same_sets X (get_or old i [])) refl
       where
         X : List ℕ
         X = get_or new i []
 
+        c : label.count ≡ length X
+        c = ap (λ (b : Built). b.count) is
+
+        s : label.sets ≡ padded 0 limits.nogoods X
+        s = ap (λ (b : Built). b.sets) is
+
         taken : take label.count label.sets ≡ X
-        taken = listed_taken X label.count label.sets (record { counted = c; few = omega arith; lie = s })
+        taken = listed_taken X label.count label.sets (record { counted = c; few = omega (arith, c, few'); lie = s })
 
         test : same_sets (take label.count label.sets) o ≡ same_sets X (get_or old i [])
         test = ap₂ same_sets taken oe
@@ -117,7 +118,7 @@ module _ (h : Held) (k : ℕ) where
   pub relabelling_lengths : (later counts marks : List ℕ) (hi i : ℕ) → Relabelling later counts marks hi i → (length later ≡ limits.numbers * limits.label) × (length counts ≡ limits.numbers) × (length marks ≡ limits.numbers + 1)
   relabelling_lengths later counts marks hi i inv = (ap length inv.members ∙ length_table (limits.numbers * limits.label) _, ap length inv.sizes ∙ length_table limits.numbers _, ap length inv.marked ∙ length_table (limits.numbers + 1) _)
 
-  pub relabelling_end : (later counts marks : List ℕ) (hi i : ℕ) → Relabelling later counts marks hi i → h.assumptions + h.claims ≤ i → Relabelled h k later counts marks 0
+  pub relabelling_end : (later counts marks : List ℕ) (hi i : ℕ) → Relabelling later counts marks hi i → h.assumptions + h.claims ≤ i → Relabelled h k later counts marks None
   relabelling_end later counts marks hi i inv p =
       let a = stage_length h.assumptions N (said_by h) k in
       let b = stage_length h.assumptions N (said_by h) (k + 1) in
@@ -134,25 +135,3 @@ pub old_is : (h : Held) (l : Lists) → Reached h l → (i : ℕ) → i < h.assu
 unfolding label_in
 old_is h l re i low o e =
     e ∙ lies l.depth (stage_by h l.depth) re.room l re.is (i + 1) (omega (arith, wide h re.judgeable)) ∙ ap (label_in (stage_by h l.depth).labels) (add-one i)
-
--- ---- a step
-module _ (h : Held) (k : ℕ) (r : Step) where
-  made : Reply → Lists → Judged
-  made x l = record { reply = x; lists = l }
-
-  pub step_stopped : (reply : Reply) → (reply ≡ Done → ⊥) → refusal reply ≡ fitted (k + 1) (stage_by h (k + 1)) → (r.reply ≡ reply) × (r.lists ≡ no_lists) → Stepped h k r
-  unfolding made
-  step_stopped reply n e p = record { answer = ap₂ made p.0 p.1 ∙ e; fresh = λ z. absurd (n (sym p.0 ∙ z)); agrees = λ z. absurd (n (sym p.0 ∙ z)) }
-
--- a refusal that is handed back
-pub turn_stopped : (h : Held) (k : ℕ) (t : Turn) (members sizes marks : List ℕ) (reply : Reply) → (reply ≡ Done → ⊥) → eqb (number_of reply) 0 ≡ false → refusal reply ≡ fitted (k + 1) (stage_by h (k + 1))
-    → t.reply ≡ reply → Stepped h k (step_of t members sizes marks k)
-turn_stopped h k t members sizes marks reply n z e q =
-    let l : Lists = lists members sizes t.count t.nogoods (k + 1) in
-    step_stopped h k (step_of t members sizes marks k) reply n e (q, ap (λ (x : Reply). choose (eqb (number_of x) 0) l no_lists) q ∙ ap (λ (b : Bool). choose b l no_lists) z)
-
-pub over_not_done : Nogoods ≡ Done → ⊥
-over_not_done e = let z : ◌≡◌ {A = ℕ} 0 1 = cc in omega arith
-
-pub label_not_done : (n : ℕ) → Label n ≡ Done → ⊥
-label_not_done n e = let z : ◌≡◌ {A = ℕ} 0 1 = cc in omega arith

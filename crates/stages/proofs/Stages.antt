@@ -1,23 +1,19 @@
 -- The lists of a stage with room, read back: each label as it lies, and the nogoods. And stage 0. Assumes nothing.
 use mathlib.Core.List.{List, [], ◌∷◌}
 use mathlib.Core.Path.{◌∙◌, ◌≡◌, ap, ap₂, refl, sym}
-use Prim.Native.Nat.{◌%◌, ◌*◌, ◌+◌, ◌-◌, ◌/◌, ◌<◌, ◌≤◌, suc, zero, ℕ}
+use Prim.Native.Nat.{◌%◌, ◌*◌, ◌+◌, ◌/◌, ◌<◌, ◌≤◌, suc, zero, ℕ}
 use native.Mathlib.Decide.{dec_lt}
 use native.Mathlib.Numerals.{add-one}
 use native.Mathlib.Omega.{arith}
-use lib.ListN.{get_or-eq_default, drop, get_or, length, replicate, set, take}
-use lib.Seq.{ext_get_or}
+use lib.ListN.{get_or-eq_default, drop, get_or, length, length-drop, length-take, replicate, set, take}
+use lib.Seq.{ext_get_or, get_or-drop, get_or-take}
 use borrow.Author.Tests.{ltb-false}
-use Rattle.joining.proofs.Lying.{lying_at, lying_length}
 use Rattle.joining.specs.Layout.{Layout, lying}
-use Rattle.replies.specs.declared.Reply.{Reply}
 use Rattle.rules.proofs.Entries.{length_padded, unpadded}
 use Rattle.stages.proofs.Tables.{replicate_table}
 use Rattle.stages.proofs.Writing.{lists_same, member, size, write_one, write_size}
-use Rattle.stages.specs.Judged.{refusal}
-use Rattle.stages.specs.Lists.{first_stage, lists_of, no_lists}
+use Rattle.stages.specs.Lists.{first_stage, lists_of}
 use Rattle.stages.specs.Steps.{Listed, Room}
-use Rattle.stages.specs.declared.Judged.{Judged}
 use Rattle.stages.specs.declared.Lists.{Lists}
 use Rattle.theory.proofs.Judgement.{long_none, stage_label, stage_label_none, stage_nogoods}
 use Rattle.theory.proofs.Places.{get_d_table, length_table}
@@ -69,18 +65,17 @@ module _ (d : ℕ) (s : Stage) (room : Room s) (l : Lists) (is : l ≡ lists_of 
   }
 
   label_lies : (i : ℕ) → i < limits.numbers → lying l.members l.sizes (suc i) ≡ get_or s.labels i []
+  unfolding lying
   label_lies i h =
-      let c : List ℕ = lying l.members l.sizes (suc i) in
       let X : List ℕ = get_or s.labels i [] in
-      let p : suc i - 1 ≡ i = omega arith in
-      let lc : length c ≡ get_or l.sizes i 0 = lying_length l.members l.sizes layout (suc i) (omega arith) (omega arith) ∙ ap (λ (x : ℕ). get_or l.sizes x 0) p in
-      ext_get_or 0 c X (lc ∙ sizes_at i h)
+      let lc : length (take (get_or l.sizes i 0) (drop (limits.label * i) l.members)) ≡ get_or l.sizes i 0 =
+      omega (arith, length-take (get_or l.sizes i 0) (drop (limits.label * i) l.members), length-drop (limits.label * i) l.members, members_long, layout.sizes_small i) in
+      ext_get_or 0 (take (get_or l.sizes i 0) (drop (limits.label * i) l.members)) X (lc ∙ sizes_at i h)
       (λ k q.
       let b : k < limits.label = omega (arith, sizes_at i h, room_short s room i) in
       let dv : (limits.label * i + k) / limits.label ≡ i = omega arith in
       let rm : (limits.label * i + k) % limits.label ≡ k = omega arith in
-      let small : k < get_or l.sizes (suc i - 1) 0 = omega (arith, ap (λ (x : ℕ). get_or l.sizes x 0) p) in
-      lying_at l.members l.sizes layout (suc i) k (omega arith) small ∙ ap (λ (x : ℕ). get_or l.members (limits.label * x + k) 0) p
+      get_or-take (get_or l.sizes i 0) (drop (limits.label * i) l.members) k 0 (omega arith) ∙ get_or-drop (limits.label * i) l.members k 0
       ∙ members_at (limits.label * i + k) (omega arith) ∙ ap₂ (λ (x y : ℕ). get_or (get_or s.labels x []) y 0) dv rm)
 
   -- each label as it lies is that of the stage
@@ -114,23 +109,6 @@ listed_few X count places n = omega (arith, n.counted, n.few)
 
 pub listed_taken : (X : List ℕ) (count : ℕ) (places : List ℕ) → Listed X count places → take count places ≡ X
 listed_taken X count places n = ap₂ (λ (c : ℕ) (l : List ℕ). take c l) n.counted n.lie ∙ unpadded 0 limits.nogoods X (omega (arith, n.counted, n.few))
-
--- the part of the members that label i + 1 takes
-pub olds_lie : (olds members sizes : List ℕ) (i : ℕ) → olds ≡ members → take (limits.label * i + get_or sizes i 0 - limits.label * i) (drop (limits.label * i) olds) ≡ lying members sizes (i + 1)
-unfolding lying
-olds_lie olds members sizes i same =
-    let e : limits.label * i + get_or sizes i 0 - limits.label * i ≡ get_or sizes i 0 = omega arith in
-    ap₂ (λ (n : ℕ) (l : List ℕ). take n (drop (limits.label * i) l)) e same ∙ ap (lying members sizes) (sym (add-one i))
-
--- ---- no lists
-
-pub no_lists_lem : (reply : Reply) → ◌≡◌ {A = Judged} (record { reply = reply; lists = record { sizes = replicate limits.numbers 0; members = replicate (limits.numbers * limits.label) 0; count = 0; nogoods = replicate limits.nogoods 0; depth = 0 } }) (refusal reply)
-unfolding no_lists
-no_lists_lem reply =
-    ap₂ (λ (z m : List ℕ). filled z m (replicate limits.nogoods 0)) (replicate_table limits.numbers 0) (replicate_table (limits.numbers * limits.label) 0) ∙ ap (filled (table limits.numbers (λ i. 0)) (table (limits.numbers * limits.label) (λ i. 0))) (replicate_table limits.nogoods 0)
-  where
-    filled : List ℕ → List ℕ → List ℕ → Judged
-    filled z m n = record { reply = reply; lists = record { sizes = z; members = m; count = 0; nogoods = n; depth = 0 } }
 
 -- ---- stage 0, assumption by assumption
 

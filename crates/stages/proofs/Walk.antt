@@ -1,4 +1,5 @@
 -- The walk over the stages, turn by turn, over plain variables. Assumes nothing.
+use Rattle.std.specs.Prelude.{Result, Ok, Err}
 use mathlib.Core.Bool.{Bool, false, true}
 use mathlib.Core.List.{List, []}
 use mathlib.Core.Logic.{⊎_elim}
@@ -8,68 +9,43 @@ use native.Mathlib.Decide.{dec_lt}
 use native.Mathlib.Numerals.{add-one}
 use native.Mathlib.Omega.{arith}
 use lib.ListN.{get_or, length}
-use borrow.Author.Tests.{eq-eqb, le-ltb}
-use Rattle.replies.specs.Replies.{number_of}
-use Rattle.replies.specs.declared.Reply.TheVariants.{Done}
+use borrow.Author.Tests.{le-ltb}
+use Rattle.replies.specs.declared.Reply.{Reply}
 use Rattle.rules.proofs.Laws.{right_range}
 use Rattle.rules.specs.Held.{said_by}
 use Rattle.rules.specs.declared.Held.{Held}
 use Rattle.stages.proofs.Nexts.{lowest_none}
 use Rattle.stages.proofs.Parts.{wide}
 use Rattle.stages.proofs.Stages.{start_is}
-use Rattle.stages.specs.Judged.{Judgeable, judged_by, refusal}
-use Rattle.stages.specs.Lists.{first_stage, lists_of, no_lists}
-use Rattle.stages.specs.Steps.{Fresh, Reached, Room, Stepped, fitted, fitted_by, lists, stage_by, step_of}
-use Rattle.stages.specs.declared.Judged.{Judged}
+use Rattle.stages.specs.Judged.{Judgeable, judged_by}
+use Rattle.stages.specs.Lists.{first_stage, lists_of}
+use Rattle.stages.specs.Steps.{Fresh, Reached, Room, Stepped, fitted, fitted_by, stage_by}
 use Rattle.stages.specs.declared.Lists.{Lists}
-use Rattle.stages.specs.declared.Turn.{Turn}
 use Rattle.theory.proofs.Depth.{consequents_few}
 use Rattle.theory.proofs.Judgement.{agree_at_last, agree_elim, course_turn, stage_label, stage_length, stage_nogoods}
 use Rattle.theory.proofs.Lists.{clash, either}
 use Rattle.theory.proofs.Start.{label_zero, label_zero_above, nogoods_zero}
 use Rattle.theory.specs.Judge.{Stage, Verdict, agree, consequents, course, judge, label_long, label_over, nogoods_long, nogoods_over, settled}
 use Rattle.theory.specs.Limits.{limits}
-use Rattle.theory.specs.Lists.{choose}
 use Rattle.theory.specs.Stages.{label_at}
 
--- what the next stage answers: done, with its lists, exactly when it has room
-module _ (k : ℕ) (s : Stage) (r : Judged) (is : r ≡ fitted k s) (n : ℕ) (number : n ≡ number_of r.reply) where
-  step_room : n ≡ 0 → Room s
+-- what the next stage answers: its lists exactly when it has room
+module _ (k : ℕ) (s : Stage) where
+  step_room : (l : Lists) → Ok l ≡ fitted k s → Room s × (l ≡ lists_of k s)
   unfolding fitted
-  step_room z = go (nogoods_long limits s) (label_long limits s) refl refl is
+  step_room l is = go (nogoods_long limits s) (label_long limits s) refl refl is
     where
-      go : (b : Bool) (m : ℕ) → nogoods_long limits s ≡ b → label_long limits s ≡ m → r ≡ fitted_by b m (lists_of k s) → Room s
-      go true m p q e = absurd (omega (arith, ap (λ (x : Judged). number_of x.reply) e))
-      go false (suc m) p q e = absurd (omega (arith, ap (λ (x : Judged). number_of x.reply) e))
-      go false zero p q e = record { few = p; short = q }
+      go : (b : Bool) (m : ℕ) → nogoods_long limits s ≡ b → label_long limits s ≡ m → Ok l ≡ fitted_by b m (lists_of k s) → Room s × (l ≡ lists_of k s)
+      go true m p q e = cc
+      go false (suc m) p q e = cc
+      go false zero p q e = (record { few = p; short = q }, cc)
 
-  step_lists : n ≡ 0 → r.lists ≡ lists_of k s
+  step_none : (r : Reply) → Err r ≡ fitted k s → Room s → ⊥
   unfolding fitted
-  step_lists z = let o = step_room z in ap (λ (x : Judged). x.lists) (is ∙ ap₂ (λ (b : Bool) (m : ℕ). fitted_by b m (lists_of k s)) o.few o.short)
-
-  step_none : (n ≡ 0 → ⊥) → Room s → ⊥
-  unfolding fitted
-  step_none z o = z (number ∙ ap (λ (x : Judged). number_of x.reply) (is ∙ ap₂ (λ (b : Bool) (m : ℕ). fitted_by b m (lists_of k s)) o.few o.short))
-
--- a refusal has no lists, and what is no refusal is done
-module _ (k : ℕ) (s : Stage) (r : Judged) (is : r ≡ fitted k s) where
-  refused_is : (number_of r.reply ≡ 0 → ⊥) → refusal r.reply ≡ r
-  unfolding fitted
-  refused_is n = go (nogoods_long limits s) (label_long limits s) is
+  step_none r is o = clear (is ∙ ap₂ (λ (b : Bool) (m : ℕ). fitted_by b m (lists_of k s)) o.few o.short)
     where
-      go : (b : Bool) (m : ℕ) → r ≡ fitted_by b m (lists_of k s) → refusal r.reply ≡ r
-      go true m e = ap (λ (x : Judged). refusal x.reply) e ∙ sym e
-      go false (suc m) e = ap (λ (x : Judged). refusal x.reply) e ∙ sym e
-      go false zero e = absurd (n (ap (λ (x : Judged). number_of x.reply) e))
-
-  done_is : number_of r.reply ≡ 0 → r.reply ≡ Done
-  unfolding fitted
-  done_is z = go (nogoods_long limits s) (label_long limits s) is
-    where
-      go : (b : Bool) (m : ℕ) → r ≡ fitted_by b m (lists_of k s) → r.reply ≡ Done
-      go true m e = absurd (omega (arith, z, ap (λ (x : Judged). number_of x.reply) e))
-      go false (suc m) e = absurd (omega (arith, z, ap (λ (x : Judged). number_of x.reply) e))
-      go false zero e = ap (λ (x : Judged). x.reply) e
+      clear : {l : Lists} → ◌≡◌ {A = Result Lists Reply} (Err r) (Ok l) → ⊥
+      clear e = let z : ◌≡◌ {A = ℕ} 0 1 = cc in omega arith
 
 -- ---- the stages T, each with N labels, which agree from stage e on
 module _ (T : ℕ → Stage) (N : ℕ) (wide : N ≤ limits.numbers) (long : (k : ℕ) → length (T k).labels ≡ N) (e : ℕ) (last : (k : ℕ) → e ≤ k → agree (T k) (T (suc k)) ≡ true) where
@@ -94,25 +70,23 @@ module _ (T : ℕ → Stage) (N : ℕ) (wide : N ≤ limits.numbers) (long : (k 
   from_on k o a = course_turn limits T e last k ∙ rw (o.few, o.short, a)
 
   -- a stage over its limit ends the walk with the refusal that it answers
-  from_over : (k : ℕ) → (r : Judged) → r ≡ fitted k (T k) → (Room (T k) → ⊥) → r ≡ judged_by (from k)
+  from_over : (k : ℕ) → (r : Reply) → Err r ≡ fitted k (T k) → Err r ≡ judged_by (from k)
   unfolding fitted
-  from_over k r is none = go (nogoods_long limits (T k)) (label_long limits (T k)) refl refl is
+  from_over k r is = go (nogoods_long limits (T k)) (label_long limits (T k)) refl refl is
     where
-      go : (b : Bool) (m : ℕ) → nogoods_long limits (T k) ≡ b → label_long limits (T k) ≡ m → r ≡ fitted_by b m (lists_of k (T k)) → r ≡ judged_by (from k)
+      go : (b : Bool) (m : ℕ) → nogoods_long limits (T k) ≡ b → label_long limits (T k) ≡ m → Err r ≡ fitted_by b m (lists_of k (T k)) → Err r ≡ judged_by (from k)
       go true m p q w = let v : from k ≡ nogoods_over = course_turn limits T e last k ∙ rw p in w ∙ sym (ap judged_by v)
       go false (suc m) p q w = let v : from k ≡ label_over (suc m) = course_turn limits T e last k ∙ rw (p, q) in w ∙ sym (ap judged_by v)
-      go false zero p q w = absurd (none (record { few = p; short = q }))
+      go false zero p q w = cc
 
   -- ---- stage k, with its lists, and what the next one answers
-  module _ (k : ℕ) (l : Lists) (is : l ≡ lists_of k (T k)) (room : Room (T k)) (v : Verdict) (so : v ≡ from k) (r : Judged) (made : r ≡ fitted (k + 1) (T (k + 1))) (n : ℕ) (number : n ≡ number_of r.reply) where
-    turn_refused : (n ≡ 0 → ⊥) → r ≡ judged_by v
-    turn_refused z =
-        let none : Room (T (k + 1)) → ⊥ = step_none (k + 1) (T (k + 1)) r made n number z in
-        from_over (k + 1) r made none ∙ sym (ap judged_by (so ∙ from_on k room (agree_not k room none)))
+  module _ (k : ℕ) (l : Lists) (is : l ≡ lists_of k (T k)) (room : Room (T k)) (v : Verdict) (so : v ≡ from k) where
+    turn_refused : (r : Reply) → Err r ≡ fitted (k + 1) (T (k + 1)) → Err r ≡ judged_by v
+    turn_refused r made = from_over (k + 1) r made ∙ sym (ap judged_by (so ∙ from_on k room (agree_not k room (step_none (k + 1) (T (k + 1)) r made))))
 
-    module _ (z : n ≡ 0) (b : Bool) (agreed : b ≡ agree (T k) (T (k + 1))) where
-      turn_settled : b ≡ true → ◌≡◌ {A = Judged} (record { reply = Done; lists = l }) (judged_by v)
-      turn_settled a = ap (λ (x : Lists). record { reply = Done; lists = x }) is ∙ sym (ap judged_by (so ∙ from_here k room (sym agreed ∙ a)))
+    module _ (b : Bool) (agreed : b ≡ agree (T k) (T (k + 1))) where
+      turn_settled : b ≡ true → Ok l ≡ judged_by v
+      turn_settled a = ap (λ (x : Lists). Ok x) is ∙ sym (ap judged_by (so ∙ from_here k room (sym agreed ∙ a)))
 
       turn_on : b ≡ false → v ≡ from (k + 1)
       turn_on a = so ∙ from_on k room (sym agreed ∙ a)
@@ -168,7 +142,8 @@ module _ (h : Held) (ok : Judgeable limits.assumptions h) where
     unfolding judge
     judge_from = ap (from_stage h) (sym depth_zero)
 
-module _ (h : Held) (l : Lists) (re : Reached h l) (v : Verdict) (so : v ≡ from_stage h l.depth) (r : Judged) (made : r ≡ fitted (l.depth + 1) (stage_by h (l.depth + 1))) (n : ℕ) (number : n ≡ number_of r.reply) where
+-- ---- one step, from the lists l
+module _ (h : Held) (l : Lists) (re : Reached h l) (v : Verdict) (so : v ≡ from_stage h l.depth) where
   abbrev N : ℕ
   N = h.assumptions + h.claims
 
@@ -178,66 +153,36 @@ module _ (h : Held) (l : Lists) (re : Reached h l) (v : Verdict) (so : v ≡ fro
   last : (k : ℕ) → most h ≤ k → agree (stage_by h k) (stage_by h (suc k)) ≡ true
   last k = agree_at_last h.assumptions N (said_by h) k
 
-  judge_refused : (n ≡ 0 → ⊥) → r ≡ judged_by v
-  judge_refused = turn_refused (stage_by h) N (wide h re.judgeable) long (most h) last l.depth l re.is re.room v so r made n number
+  pub walk_refused : (r : Reply) → Err r ≡ fitted (l.depth + 1) (stage_by h (l.depth + 1)) → Err r ≡ judged_by v
+  walk_refused = turn_refused (stage_by h) N (wide h re.judgeable) long (most h) last l.depth l re.is re.room v so
 
-  module _ (z : n ≡ 0) where
-    lists_is : r.lists ≡ lists_of (l.depth + 1) (stage_by h (l.depth + 1))
-    lists_is = step_lists (l.depth + 1) (stage_by h (l.depth + 1)) r made n number z
+  module _ (later : Lists) (moved : List ℕ) (same : Bool) (st : Stepped h l.depth later moved (Ok same)) where
+    pub walk_settled : same ≡ true → Ok l ≡ judged_by v
+    walk_settled = turn_settled (stage_by h) N (wide h re.judgeable) long (most h) last l.depth l re.is re.room v so same st.2
 
-    depth_is : r.lists.depth ≡ l.depth + 1
+    depth_is : later.depth ≡ l.depth + 1
     unfolding lists_of
-    depth_is = ap (λ (x : Lists). x.depth) lists_is
+    depth_is = ap (λ (x : Lists). x.depth) (step_room (l.depth + 1) (stage_by h (l.depth + 1)) later st.0).1
 
-    module _ (b : Bool) (same : b ≡ agree (stage_by h l.depth) (stage_by h (l.depth + 1))) where
-      judge_settled : b ≡ true → ◌≡◌ {A = Judged} (record { reply = Done; lists = l }) (judged_by v)
-      judge_settled = turn_settled (stage_by h) N (wide h re.judgeable) long (most h) last l.depth l re.is re.room v so r made n number z b same
+    pub walk_fresh : Fresh h later.depth moved
+    walk_fresh = subst (λ (k : ℕ). Fresh h k moved) (sym depth_is) st.1
 
-      module _ (differs : b ≡ false) where
-        low : l.depth < most h
-        low = turn_low (stage_by h) N (wide h re.judgeable) long (most h) last l.depth l re.is re.room v so r made n number z b same differs
+    module _ (differs : same ≡ false) where
+      low : l.depth < most h
+      low = turn_low (stage_by h) N (wide h re.judgeable) long (most h) last l.depth l re.is re.room v so same st.2 differs
 
-        judge_less : most h - r.lists.depth < most h - l.depth
-        judge_less = omega (arith, depth_is, low)
+      pub walk_less : most h - later.depth < most h - l.depth
+      walk_less = omega (arith, depth_is, low)
 
-        judge_next : Reached h r.lists
-        judge_next = record {
-          judgeable = re.judgeable;
-          is = lists_is ∙ ap (λ (k : ℕ). lists_of k (stage_by h k)) (sym depth_is);
-          room = subst (λ (k : ℕ). Room (stage_by h k)) (sym depth_is) (step_room (l.depth + 1) (stage_by h (l.depth + 1)) r made n number z);
-          low = omega (arith, depth_is, low, most_few h re.judgeable);
-        }
+      pub walk_next : Reached h later
+      walk_next =
+          let made = step_room (l.depth + 1) (stage_by h (l.depth + 1)) later st.0 in
+          record {
+            judgeable = re.judgeable;
+            is = made.1 ∙ ap (λ (k : ℕ). lists_of k (stage_by h k)) (sym depth_is);
+            room = subst (λ (k : ℕ). Room (stage_by h k)) (sym depth_is) made.0;
+            low = omega (arith, depth_is, low, most_few h re.judgeable);
+          }
 
-        judge_on : v ≡ from_stage h r.lists.depth
-        judge_on = turn_on (stage_by h) N (wide h re.judgeable) long (most h) last l.depth l re.is re.room v so r made n number z b same differs ∙ ap (from_stage h) (sym depth_is)
-
--- ---- one step as it is handed back
-turned_lists : (t : Turn) (members sizes marks : List ℕ) (k : ℕ) → number_of t.reply ≡ 0 → (step_of t members sizes marks k).lists ≡ lists members sizes t.count t.nogoods (k + 1)
-turned_lists t members sizes marks k z = ap (λ (b : Bool). choose b (lists members sizes t.count t.nogoods (k + 1)) no_lists) (eq-eqb (number_of t.reply) 0 z)
-
-module _ (h : Held) (l : Lists) (re : Reached h l) (v : Verdict) (so : v ≡ from_stage h l.depth) (t : Turn) (members sizes marks : List ℕ) (st : Stepped h l.depth (step_of t members sizes marks l.depth)) (n : ℕ) (number : n ≡ number_of t.reply) where
-  abbrev told : Judged
-  told = record { reply = t.reply; lists = (step_of t members sizes marks l.depth).lists }
-
-  pub walk_refused : (n ≡ 0 → ⊥) → refusal t.reply ≡ judged_by v
-  walk_refused z = refused_is (l.depth + 1) (stage_by h (l.depth + 1)) told st.answer (λ e. z (number ∙ e)) ∙ judge_refused h l re v so told st.answer n number z
-
-  module _ (z : n ≡ 0) where
-    done : t.reply ≡ Done
-    done = done_is (l.depth + 1) (stage_by h (l.depth + 1)) told st.answer (sym number ∙ z)
-
-    pub walk_settled : t.same ≡ true → ◌≡◌ {A = Judged} (record { reply = Done; lists = l }) (judged_by v)
-    walk_settled = judge_settled h l re v so told st.answer n number z t.same (st.agrees done)
-
-    pub walk_fresh : Fresh h (l.depth + 1) marks
-    walk_fresh = st.fresh done
-
-    module _ (differs : t.same ≡ false) where
-      pub walk_less : most h - (l.depth + 1) < most h - l.depth
-      walk_less = omega (arith, judge_less h l re v so told st.answer n number z t.same (st.agrees done) differs, depth_is h l re v so told st.answer n number z)
-
-      pub walk_next : Reached h (lists members sizes t.count t.nogoods (l.depth + 1))
-      walk_next = subst (Reached h) (turned_lists t members sizes marks l.depth (sym number ∙ z)) (judge_next h l re v so told st.answer n number z t.same (st.agrees done) differs)
-
-      pub walk_on : v ≡ from_stage h (l.depth + 1)
-      walk_on = judge_on h l re v so told st.answer n number z t.same (st.agrees done) differs ∙ ap (from_stage h) (depth_is h l re v so told st.answer n number z)
+      pub walk_on : v ≡ from_stage h later.depth
+      walk_on = turn_on (stage_by h) N (wide h re.judgeable) long (most h) last l.depth l re.is re.room v so same st.2 differs ∙ ap (from_stage h) (sym depth_is)

@@ -9,7 +9,7 @@ use native.Mathlib.Numerals.{add-one}
 use native.Mathlib.Omega.{arith}
 use lib.Dec.{eqb}
 use lib.ListN.{get_or-append, drop, drop_of_length-le, get_or, length, set, take}
-use lib.Seq.{get_or-append-add, get_or-drop, get_or-take, length-paste, length_paste_head, length-take-le, paste, paste-suc, take_all}
+use lib.Seq.{get_or-append-add, get_or-drop, get_or-take, length-paste, length_paste_head, length-take-le, paste, take_all}
 use borrow.Author.Tests.{eqb-false, eqb-true}
 use Rattle.stages.proofs.Tables.{set_table, table_same}
 use Rattle.stages.specs.Lists.{lists_of}
@@ -22,11 +22,6 @@ use Rattle.theory.specs.Limits.{limits}
 use Rattle.theory.specs.Lists.{choose}
 use Rattle.theory.specs.Places.{padded, table}
 use Rattle.theory.specs.Step.{label_in}
-
--- ---- twelve places written one after the other
-pub write_turn : (m₀ m : List ℕ) (from k : ℕ) (s : List ℕ) → from + limits.label ≤ length m₀ → limits.label ≤ length s → k < limits.label → m ≡ paste m₀ from s k → set m (from + k) (get_or s k 0) ≡ paste m₀ from s (k + 1)
-write_turn m₀ m from k s a b h e =
-    ap (λ (x : List ℕ). set x (from + k) (get_or s k 0)) e ∙ paste-suc m₀ from s k 0 (omega arith) (omega arith) ∙ ap (paste m₀ from s) (sym (add-one k))
 
 -- ---- what stands where after a paste of n
 module _ (d s : List ℕ) (at n : ℕ) (fits : at + n ≤ length d) (long : n ≤ length s) where

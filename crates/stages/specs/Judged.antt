@@ -1,24 +1,19 @@
 -- What the walk over the stages and its start promise. Assumes nothing.
-use Rattle.std.specs.Prelude.{true, ◌≡◌, ◌≤◌, ℕ}
+use Rattle.std.specs.Prelude.{true, ◌≡◌, ◌≤◌, ℕ, Result, Ok, Err}
 use Rattle.replies.specs.declared.Reply.{Reply}
-use Rattle.replies.specs.declared.Reply.TheVariants.{Done, Label, Nogoods}
+use Rattle.replies.specs.declared.Reply.TheVariants.{Label, Nogoods}
 use Rattle.rules.specs.Held.{held_right, said_by, top}
 use Rattle.rules.specs.declared.Held.{Held}
-use Rattle.stages.specs.Lists.{first_stage, lists_of, no_lists}
-use Rattle.stages.specs.declared.Judged.{Judged}
+use Rattle.stages.specs.Lists.{first_stage, lists_of}
 use Rattle.stages.specs.declared.Lists.{Lists}
 use Rattle.theory.specs.Judge.{Verdict, judge, label_over, nogoods_over, settled}
 use Rattle.theory.specs.Limits.{limits}
 
--- a refusal comes with no lists
-abbrev pub refusal : Reply → Judged
-refusal reply = record { reply = reply; lists = no_lists }
-
 -- a verdict as it is answered: the lists at the depth, or the refusal
-abbrev pub judged_by : Verdict → Judged
-judged_by (settled d s) = record { reply = Done; lists = lists_of d s }
-judged_by nogoods_over = refusal Nogoods
-judged_by (label_over n) = refusal (Label n)
+abbrev pub judged_by : Verdict → Result Lists Reply
+judged_by (settled d s) = Ok (lists_of d s)
+judged_by nogoods_over = Err Nogoods
+judged_by (label_over n) = Err (Label n)
 
 -- the right shape, at most W assumptions, the width of a set, and no number above the limit
 pub record Judgeable (W : ℕ) (h : Held) : Type 0 where
@@ -27,7 +22,7 @@ pub record Judgeable (W : ℕ) (h : Held) : Type 0 where
   pub numbers : top h ≤ limits.numbers
 
 -- r is what the stages of the justifications held say
-abbrev pub Judge : Held → Judged → Type 0
+abbrev pub Judge : Held → Result Lists Reply → Type 0
 Judge h r = r ≡ judged_by (judge limits h.assumptions (top h) (said_by h))
 
 -- r is the lists of stage 0

@@ -16,10 +16,6 @@ lists_of d s = record {
   depth = d;
 }
 
--- every place zero
-unfoldable pub no_lists : Lists
-no_lists = record { sizes = table limits.numbers (λ i. 0); members = table (limits.numbers * limits.label) (λ i. 0); count = 0; nogoods = table limits.nogoods (λ i. 0); depth = 0 }
-
 -- stage 0: no nogoods, and each assumption alone in its label
 unfoldable pub first_stage : ℕ → Stage
 first_stage A = record { nogoods = []; labels = table A (λ i. alone (suc i) ∷ []) }

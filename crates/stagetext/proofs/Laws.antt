@@ -1,38 +1,37 @@
 -- The lines of the stages, test by test. Assumes nothing.
 use mathlib.Core.Bool.{Bool, ◌&&◌, false, true}
 use mathlib.Core.List.{List, [], ◌++◌, ◌∷◌}
-use mathlib.Core.Path.{◌∙◌, ◌≡◌, ap, ap₂, refl, subst, sym}
-use Prim.Native.Nat.{◌%◌, ◌*◌, ◌+◌, ◌/◌, ◌<◌, ◌≤◌, ℕ}
-use native.Mathlib.Numerals.{add-one}
+use mathlib.Core.Path.{◌∙◌, ◌≡◌, ap, refl, sym}
+use Prim.Native.Nat.{◌+◌, ◌<◌, ◌≤◌, ℕ}
+use native.Mathlib.Decide.{dec_lt}
 use native.Mathlib.Omega.{arith}
 use lib.Dec.{leb, ltb}
-use lib.ListN.{drop, drop_of_length-le, get_or, length, length-append}
-use lib.Seq.{drop-cons}
+use lib.ListN.{drop, get_or, length, length-append, take}
+use lib.Seq.{length-take-le}
 use borrow.Author.Tests.{le-ltb, lt-ltb, ltb-true}
 use Rattle.following.proofs.Passing.{marked_no, marked_yes}
 use Rattle.following.proofs.Staging.{Placed}
 use Rattle.following.specs.First.{since_of}
 use Rattle.following.specs.Marks.{marked}
-use Rattle.lent.proofs.Fits.{fitted_long, fitted_short, hands}
-use Rattle.lent.specs.Lent.{fitted, kept}
-use Rattle.lent.specs.declared.Written.{Written}
-use Rattle.lent.specs.declared.Written.TheVariants.{Length, Refused}
+use Rattle.lent.proofs.Fits.{fitted_long, fitted_short}
+use Rattle.lent.specs.Lent.{Leaves, fitted, kept}
+use Rattle.std.proofs.Common.{Result, Ok, Err, cond, get_or-take}
+use Prim.Native.Nat.{max}
+use Rattle.std.specs.List.{filter, fold, reduce}
+use Rattle.std.specs.Option.{unwrap_or}
+use Rattle.stagetext.proofs.Turns.{from_number, number_end, number_more, number_none, number_start, number_turn}
 use Rattle.plain.proofs.Laws.{placed}
 use Rattle.plain.proofs.Since.{since_by}
-use Rattle.replies.specs.Replies.{number_of}
+use Rattle.replies.specs.Replies.{checked}
 use Rattle.replies.specs.declared.Reply.{Reply}
 use Rattle.replies.specs.declared.Reply.TheVariants.{Number, Short}
 use Rattle.rules.specs.Held.{said_by}
-use Rattle.stagetext.proofs.Upto.{upto, upto_few, upto_length, upto_none}
-use Rattle.stagetext.specs.Stagetext.{StagesLined, body_of, last_stage, latest, part_of, put_of, row_of, rows_in, rows_of, stage_line, stage_text, stages_of}
+use Rattle.stagetext.specs.Stagetext.{body_of, last_stage, latest, part_of, put_of, row_of, rows_in, rows_of, stage_line, stage_text, stages_of}
 use Rattle.store.proofs.Reading.{Readable, refused_set}
 use Rattle.store.specs.Reading.{refusal_of}
 use Rattle.store.specs.Shape.{top}
 use Rattle.store.specs.declared.Store.{Store}
-use Rattle.text.proofs.Digits.{digits_more, digits_most, digits_one}
-use Rattle.text.proofs.Writing.{Left, front_kept, left_start}
 use Rattle.text.specs.Texts.{digits, field, word}
-use Rattle.text.specs.Writing.{Put, Room}
 use Rattle.theory.proofs.Listing.{below_elim}
 use Rattle.theory.proofs.Lists.{each_same, those_same}
 use Rattle.theory.proofs.Places.{get_d_table}
@@ -41,67 +40,42 @@ use Rattle.theory.specs.Lists.{choose, each, keep, numbers_below, those}
 use Rattle.theory.specs.Places.{table}
 use Rattle.theory.specs.Stages.{Justification, follows}
 
--- ---- digits
-pub digits_two : (n : ℕ) → 10 ≤ n → n < 100 → digits n ≡ (48 + n / 10) ∷ (48 + n % 10) ∷ []
-digits_two n h k = digits_more n h ∙ ap (λ (t : List ℕ). t ++ ((48 + n % 10) ∷ [])) (digits_one (n / 10) (omega arith))
-
-pub digits_three : (n : ℕ) → 100 ≤ n → n < 1000 → digits n ≡ (48 + n / 100) ∷ (48 + n / 10 % 10) ∷ (48 + n % 10) ∷ []
-digits_three n h k =
-    let e : n / 10 / 10 ≡ n / 100 = omega arith in
-    digits_more n (omega arith) ∙ ap (λ (t : List ℕ). t ++ ((48 + n % 10) ∷ [])) (digits_two (n / 10) (omega arith) (omega arith)) ∙ ap (λ (d : ℕ). (48 + d) ∷ (48 + n / 10 % 10) ∷ (48 + n % 10) ∷ []) e
-
 -- ---- a part
-module _ (m : List ℕ) (k n : ℕ) (long : length m ≡ limits.numbers + 1) (low : n ≤ limits.numbers) where
-  pub part_none : k < get_or m n 0 → part_of m k n ≡ []
+
+module _ (m : List ℕ) (k n : ℕ) (inside : n < length m) where
+  pub part_some : get_or m n 0 ≤ k → from_number (part_of m k) (length m) n ≡ field n ++ from_number (part_of m k) (length m) (n + 1)
   unfolding part_of
-  part_none h = ap (λ (b : Bool). choose b (field n) []) (marked_no k m n (omega arith) h)
+  part_some h = number_turn (part_of m k) (length m) n inside ∙ ap (λ (x : Bool). choose x (field n) [] ++ from_number (part_of m k) (length m) (n + 1)) (marked_yes k m n inside h)
 
-  pub part_some : get_or m n 0 ≤ k → part_of m k n ≡ field n
+  pub part_none : k < get_or m n 0 → from_number (part_of m k) (length m) n ≡ from_number (part_of m k) (length m) (n + 1)
   unfolding part_of
-  part_some h = ap (λ (b : Bool). choose b (field n) []) (marked_yes k m n (omega arith) h)
+  part_none h = number_turn (part_of m k) (length m) n inside ∙ ap (λ (x : Bool). choose x (field n) [] ++ from_number (part_of m k) (length m) (n + 1)) (marked_no k m n inside h)
 
-  pub part_wide : get_or m n 0 ≤ k → length (part_of m k n) ≡ 1 + length (digits n)
-  unfolding field word
-  part_wide h = ap length (part_some h) ∙ omega arith
-
-part_few : (m : List ℕ) (k n : ℕ) → n < limits.numbers + 1 → length (part_of m k n) ≤ 4
-unfolding part_of field word
-part_few m k n h = go (marked k m n)
-  where
-    go : (b : Bool) → length (choose b (32 ∷ digits n) []) ≤ 4
-    go true = omega (arith, digits_most 2 n (omega arith))
-    go false = omega arith
-
-pub body_few : (m : List ℕ) (k end : ℕ) → end ≤ limits.numbers + 1 → length (body_of end m k) ≤ 4 * end
+pub body_start : (m : List ℕ) (k : ℕ) → body_of (length m) m k ≡ from_number (part_of m k) (length m) 0
 unfolding body_of
-body_few m k end h = upto_few (part_of m k) 4 (limits.numbers + 1) (part_few m k) end h
+body_start m k = sym (number_start (part_of m k) (length m))
 
-pub body_next : (m : List ℕ) (k n : ℕ) → length (body_of (n + 1) m k) ≡ length (body_of n m k) + length (part_of m k n)
-unfolding body_of
-body_next m k n = upto_length (part_of m k) n
+pub ruleset parts = (part_some, part_none, body_start, number_end)
+
+-- ---- a line
+
+pub row_parts : (m : List ℕ) (k : ℕ) → row_of (length m) m k ≡ digits k ++ (body_of (length m) m k ++ (10 ∷ []))
+unfolding row_of word
+row_parts m k = refl
 
 pub row_length : (m : List ℕ) (end k : ℕ) → length (row_of end m k) ≡ length (digits k) + length (body_of end m k) + 1
 unfolding row_of word
 row_length m end k = omega (arith, length-append (digits k) (body_of end m k ++ (10 ∷ [])), length-append (body_of end m k) (10 ∷ []))
 
-pub rows_few : (m : List ℕ) (end : ℕ) → end ≤ limits.numbers + 1 → (k : ℕ) → k ≤ 256 → length (rows_of end m k) ≤ (3 + 4 * (limits.numbers + 1) + 1) * k
+pub rows_start : (m : List ℕ) (count : ℕ) → rows_of (length m) m count ≡ from_number (row_of (length m) m) count 0
 unfolding rows_of
-rows_few m end h k l = upto_few (row_of end m) (3 + 4 * (limits.numbers + 1) + 1) 256 (λ i p. omega (arith, row_length m end i, body_few m i end h, digits_most 2 i (omega arith))) k l
+rows_start m count = sym (number_start (row_of (length m) m) count)
 
-pub rows_next : (m : List ℕ) (end k : ℕ) → length (rows_of end m (k + 1)) ≡ length (rows_of end m k) + length (row_of end m k)
-unfolding rows_of
-rows_next m end k = upto_length (row_of end m) k
+pub ruleset rows = (rows_start, number_turn, number_end)
+
+pub ruleset sums = (rows_start, number_more, number_none)
 
 -- ---- the last stage
-pub latest_next : (a : ℕ) (l : List ℕ) (i : ℕ) → i < length l → latest a (drop i l) ≡ latest (choose (ltb (get_or l i 0) 255 && ltb a (get_or l i 0)) (get_or l i 0) a) (drop (i + 1) l)
-unfolding latest
-latest_next a l i h =
-    ap (latest a) (drop-cons l i 0 h) ∙ ap (λ (j : ℕ). latest (choose (ltb (get_or l i 0) 255 && ltb a (get_or l i 0)) (get_or l i 0) a) (drop j l)) (sym (add-one i))
-
-pub latest_end : (a : ℕ) (l : List ℕ) (i : ℕ) → length l ≤ i → latest a (drop i l) ≡ a
-unfolding latest
-latest_end a l i h = ap (latest a) (drop_of_length-le l {i = i} h)
-
 pub latest_low : (l : List ℕ) (a : ℕ) → a < 255 → latest a l < 255
 unfolding latest
 latest_low [] a h = h
@@ -112,15 +86,29 @@ latest_low (x ∷ l) a h = latest_low l (choose (ltb x 255 && ltb a x) x a) (go 
     go true false e = h
     go false c e = h
 
-module _ (a x : ℕ) where
-  pub later_yes : x < 255 → a < x → x ≡ choose (ltb x 255 && ltb a x) x a
-  later_yes h k = sym (ap₂ (λ (b c : Bool). choose (b && c) x a) (lt-ltb x 255 h) (lt-ltb a x k))
+-- the greater of the two, where it is below 255
+later_is : (b : Bool) (a x : ℕ) (l : List ℕ) → latest (choose (b && ltb a x) x a) l ≡ latest (cond b (max a x) a) l
+later_is true a x l = ap (λ (y : ℕ). latest y l) (elim (dec_lt a x) [
+  | yes h ↦ ap (λ (t : Bool). choose t x a) (lt-ltb a x h) ∙ omega arith
+  | no h ↦ ap (λ (t : Bool). choose t x a) (le-ltb a x (omega arith)) ∙ omega arith
+])
+later_is false a x l = refl
 
-  pub later_low : x < 255 → x ≤ a → a ≡ choose (ltb x 255 && ltb a x) x a
-  later_low h k = sym (ap₂ (λ (b c : Bool). choose (b && c) x a) (lt-ltb x 255 h) (le-ltb a x k))
+latest_fold : (l : List ℕ) (a : ℕ) → latest a l ≡ fold max a (filter (λ x. ltb x 255) l)
+unfolding latest
+latest_fold [] a = refl
+latest_fold (x ∷ l) a = later_is (ltb x 255) a x l ∙ go (ltb x 255) (latest_fold l)
+  where
+    go : (b : Bool) → ((y : ℕ) → latest y l ≡ fold max y (filter (λ z. ltb z 255) l)) → latest (cond b (max a x) a) l ≡ fold max a (cond b (x ∷ filter (λ z. ltb z 255) l) (filter (λ z. ltb z 255) l))
+    go true f = f (max a x)
+    go false f = f a
 
-  pub later_no : 255 ≤ x → a ≡ choose (ltb x 255 && ltb a x) x a
-  later_no h = sym (ap (λ (b : Bool). choose (b && ltb a x) x a) (le-ltb x 255 h))
+pub latest_is : (l : List ℕ) → unwrap_or (reduce max (filter (λ x. ltb x 255) l)) 0 ≡ latest 0 l
+latest_is l = go (filter (λ x. ltb x 255) l) ∙ sym (latest_fold l 0)
+  where
+    go : (k : List ℕ) → unwrap_or (reduce max k) 0 ≡ fold max 0 k
+    go [] = refl
+    go (x ∷ k) = ap (λ (y : ℕ). fold max y k) (omega arith)
 
 -- ---- the text
 each_parts : (p : ℕ → Bool) (l : List ℕ) → each (λ n. choose (p n) (field n) []) l ≡ each field (those p l)
@@ -157,61 +145,44 @@ pub put_within : (m : List ℕ) (N : ℕ) (out : List ℕ) → N ≤ limits.numb
 unfolding put_of
 put_within m N out h = rw (le-ltb limits.numbers N h)
 
-module _ (m : List ℕ) (N count : ℕ) (out : List ℕ) (low : N ≤ limits.numbers) (c : count ≡ latest 0 m + 1) where
-  counted : rows_of (N + 1) m count ≡ rows_in (N + 1) m
-  counted = ap (rows_of (N + 1) m) c
+-- the numbers up to N have the marks of the first places
+module _ (m : List ℕ) (N : ℕ) (within : N < length m) where
+  first : length (take (N + 1) m) ≡ N + 1
+  first = length-take-le (N + 1) m (omega (arith, within))
 
-  pub put_short : length out < length (rows_of (N + 1) m count) → kept Short out ≡ put_of m N out
+  part_first : (k n : ℕ) → n < N + 1 → part_of (take (N + 1) m) k n ≡ part_of m k n
+  unfolding part_of marked
+  part_first k n h = ap (λ (x : ℕ). choose (leb x k) (field n) []) (get_or-take (N + 1) m n 255 h)
+
+  pub rows_first : (count : ℕ) → rows_of (length (take (N + 1) m)) (take (N + 1) m) count ≡ rows_of (N + 1) m count
+  unfolding rows_of row_of body_of
+  rows_first count =
+      ap (λ (e : ℕ). rows_of e (take (N + 1) m) count) first
+      ∙ each_same (row_of (N + 1) (take (N + 1) m)) (row_of (N + 1) m) (numbers_below count)
+      (λ k i. ap (λ (t : List ℕ). digits k ++ (t ++ word "\n")) (each_same (part_of (take (N + 1) m) k) (part_of m k) (numbers_below (N + 1)) (λ n j. part_first k n (below_elim (N + 1) j))))
+
+module _ (m : List ℕ) (N count : ℕ) (out t : List ℕ) (low : N ≤ limits.numbers) (same : t ≡ rows_of (N + 1) m count) (c : count ≡ latest 0 m + 1) where
+  counted : t ≡ rows_in (N + 1) m
+  counted = same ∙ ap (rows_of (N + 1) m) c
+
+  pub put_short : length out < length t → kept Short out ≡ put_of m N out
   put_short k = fitted_short (rows_in (N + 1) m) out (omega (arith, k, ap length counted)) ∙ put_within m N out low
 
-  pub put_done : length (rows_of (N + 1) m count) ≤ length out → (n : ℕ) (after : List ℕ) → Put (rows_of (N + 1) m count) 0 out after n → record { answer = Length n; bytes = after } ≡ put_of m N out
-  put_done k n after p =
+  pub put_done : length t ≤ length out → record { answer = Ok (length t); bytes = t ++ drop (length t) out } ≡ put_of m N out
+  put_done k =
       let T : List ℕ = rows_in (N + 1) m in
-      let g : Put T 0 out after n = subst (λ (x : List ℕ). Put x 0 out after n) counted p in
-      let z : n ≡ length T = omega (arith, g.next) in
-      ap (λ (x : ℕ). record { answer = Length x; bytes = after }) z ∙ fitted_long T out (omega (arith, k, ap length counted)) (front_kept g) ∙ put_within m N out low
+      ap (λ (x : List ℕ). record { answer = Ok (length x); bytes = x ++ drop (length x) out }) counted ∙ fitted_long T out (omega (arith, k, ap length counted)) refl ∙ put_within m N out low
 
 -- ---- the call
 module _ (s : Store) (E : ℕ) (out : List ℕ) where
-  pub lines_refused : (r : Reply) → r ≡ refusal_of s 0 E → (number_of r ≡ 0 → ⊥) → StagesLined s E out (record { answer = Refused r; store = s }) out
+  pub lines_refused : (r : Reply) → Err r ≡ checked (refusal_of s 0 E) → Leaves (stages_of s E out) (Err r) out
   unfolding stages_of
-  lines_refused r e d = hands s (refused_set s E r e d (λ x. kept x out) (fitted (stage_text (top s.held) (said_by s.held) E) out))
+  lines_refused r e = refused_set s E r e (λ x. kept x out) (fitted (stage_text (top s.held) (said_by s.held) E) out)
 
-  pub lines_put : Readable s 0 E → (m : List ℕ) → m ≡ table (limits.numbers + 1) (since_of (said_by s.held) E) → (r : Written) (after : List ℕ) → record { answer = r; bytes = after } ≡ put_of m (top s.held) out
-      → StagesLined s E out (record { answer = r; store = s }) after
+  pub lines_put : Readable s 0 E → (m : List ℕ) → m ≡ table (limits.numbers + 1) (since_of (said_by s.held) E) → (r : Result ℕ Reply) (after : List ℕ) → record { answer = r; bytes = after } ≡ put_of m (top s.held) out
+      → Leaves (stages_of s E out) r after
   unfolding stages_of
   lines_put k m e r after p =
       let N : ℕ = top s.held in
       let low : N ≤ limits.numbers = omega (arith, k.fit.few, k.fit.claims) in
-      hands s
-      (p ∙ sym (put_within m N out low) ∙ ap (λ (t : List ℕ). fitted t out) (ap (rows_in (N + 1)) e ∙ text_is (said_by s.held) (placed s k.fit) E N low) ∙ rw (k.right, k.set))
-
--- ---- the same texts, one part after the other
-module _ (m : List ℕ) (end k at : ℕ) (b : List ℕ) where
-  pub body_room : Room (body_of end m k) at b → Room (upto (part_of m k) end) at b
-  unfolding body_of
-  body_room h = h
-
-  pub body_put : (c : List ℕ) (r : ℕ) → Put (upto (part_of m k) end) at b c r → Put (body_of end m k) at b c r
-  unfolding body_of
-  body_put c r p = p
-
-  pub row_begun : Room (row_of end m k) at b → Left (digits k ++ (body_of end m k ++ (10 ∷ []))) at b (row_of end m k) at b
-  unfolding row_of word
-  row_begun h = left_start h
-
-  pub rows_room : Room (rows_of end m k) at b → Room (upto (row_of end m) k) at b
-  unfolding rows_of
-  rows_room h = h
-
-  pub rows_put : (c : List ℕ) (r : ℕ) → Put (upto (row_of end m) k) at b c r → Put (rows_of end m k) at b c r
-  unfolding rows_of
-  rows_put c r p = p
-
-pub body_none : (m : List ℕ) (k : ℕ) → 0 ≡ length (body_of 0 m k)
-unfolding body_of
-body_none m k = sym (ap length (upto_none (part_of m k)))
-
-pub rows_none : (m : List ℕ) (end : ℕ) → 0 ≡ length (rows_of end m 0)
-unfolding rows_of
-rows_none m end = sym (ap length (upto_none (row_of end m)))
+      p ∙ sym (put_within m N out low) ∙ ap (λ (t : List ℕ). fitted t out) (ap (rows_in (N + 1)) e ∙ text_is (said_by s.held) (placed s k.fit) E N low) ∙ rw (k.right, k.set)

@@ -1,3 +1,4 @@
+pub mod Turns
 pub mod Upto
 pub mod Laws
 pub mod Cases

@@ -3,7 +3,7 @@ use mathlib.Core.Bool.{Bool, ◌&&◌, false, true}
 use mathlib.Core.List.{List, [], ◌∷◌}
 use mathlib.Core.Logic.{⊎_elim}
 use mathlib.Core.Path.{◌≡◌, ap, refl, subst}
-use Prim.Native.Nat.{◌+◌, ◌<◌, ◌≤◌, suc, zero, ℕ}
+use Prim.Native.Nat.{◌*◌, ◌+◌, ◌<◌, ◌≤◌, suc, zero, ℕ}
 use native.Mathlib.Numerals.{add-one}
 use native.Mathlib.Omega.{arith}
 use lib.Dec.{ltb}
@@ -72,14 +72,16 @@ body_most m k end h = omega (arith, all_fields, upto_under (part_of m k) field p
         under true = omega arith
         under false = omega arith
 
-row_most : (m : List ℕ) (end k : ℕ) → end ≤ limits.numbers + 1 → k < limits.numbers + 2 → length (row_of end m k) ≤ 3 + 406 + 1
-row_most m end k h p = omega (arith, row_length m end k, body_most m k end h, digits_most 2 k (omega arith))
+pub row_most : (m : List ℕ) (end k : ℕ) → end ≤ limits.numbers + 1 → k < 1000 → length (row_of end m k) ≤ 3 + 406 + 1
+row_most m end k h p = omega (arith, row_length m end k, body_most m k end h, digits_most 2 k p)
 
-rows_most : (m : List ℕ) (end c : ℕ) → end ≤ limits.numbers + 1 → c ≤ limits.numbers + 2 → length (rows_of end m c) ≤ longest
+pub rows_most : (m : List ℕ) (end c : ℕ) → end ≤ limits.numbers + 1 → c ≤ 1000 → length (rows_of end m c) ≤ (3 + 406 + 1) * c
 unfolding rows_of
-rows_most m end c h p = omega (arith, upto_few (row_of end m) (3 + 406 + 1) (limits.numbers + 2) (λ k q. row_most m end k h q) c p)
+rows_most m end c h p = upto_few (row_of end m) (3 + 406 + 1) 1000 (λ k q. row_most m end k h q) c p
 
 -- no text of stages is longer
 pub stages_length : (J : List Justification) → Placed J → (E N : ℕ) → N ≤ limits.numbers → length (stage_text N J E) ≤ longest
 stages_length J w E N h =
-    subst (λ (t : List ℕ). length t ≤ longest) (text_is J w E N h) (rows_most (table (limits.numbers + 1) (since_of J E)) (N + 1) (latest 0 (table (limits.numbers + 1) (since_of J E)) + 1) (omega arith) (omega (arith, last_low J w E)))
+    let m : List ℕ = table (limits.numbers + 1) (since_of J E) in
+    let last : latest 0 m ≤ limits.numbers + 1 = last_low J w E in
+    subst (λ (t : List ℕ). length t ≤ longest) (text_is J w E N h) (omega (arith, last, rows_most m (N + 1) (latest 0 m + 1) (omega arith) (omega (arith, last))))

@@ -1,23 +1,13 @@
--- Texts written one after the other for 0, 1, 2 and so on. Assumes nothing.
+-- How long texts for 0, 1, 2 and so on are, one after the other. Assumes nothing.
 use mathlib.Core.List.{List, [], ◌++◌, ◌∷◌, append-nil}
-use mathlib.Core.Path.{◌∙◌, ◌≡◌, ap, refl, subst, sym}
+use mathlib.Core.Path.{◌∙◌, ◌≡◌, ap, refl, sym}
 use Prim.Native.Nat.{◌*◌, ◌+◌, ◌<◌, ◌≤◌, suc, zero, ℕ}
 use native.Mathlib.Decide.{le_ind}
 use native.Mathlib.Nat.{mul-suc}
 use native.Mathlib.Numerals.{add-one}
 use native.Mathlib.Omega.{arith}
 use lib.ListN.{length, length-append}
-use Rattle.text.proofs.Writing.{Left, left_as, left_none, left_start, left_then}
-use Rattle.text.specs.Writing.{Put, Room}
 use Rattle.theory.specs.Lists.{each, numbers_below}
-
--- a text that is the same as t is to be written
-pub left_of : {T t : List ℕ} (at : ℕ) (b : List ℕ) → T ≡ t → Room T at b → Left t at b T at b
-left_of at b e h = left_as e h
-
--- what was written is the same as t
-pub put_as : {T t : List ℕ} {at r : ℕ} {b c : List ℕ} → T ≡ t → Put t at b c r → Put T at b c r
-put_as {at = at} {r = r} {b = b} {c = c} e p = subst (λ (x : List ℕ). Put x at b c r) (sym e) p
 
 module _ (f : ℕ → List ℕ) where
   abbrev pub upto : ℕ → List ℕ
@@ -53,21 +43,3 @@ module _ (f : ℕ → List ℕ) where
     where
       times : (c n : ℕ) → c * suc n ≡ c * n + c
       times c n = mul-suc c n
-
-  module _ (n at : ℕ) (b : List ℕ) (room : Room (upto n) at b) where
-    pub put_start : Put (upto 0) at b b at
-    unfolding numbers_below each
-    put_start = left_none (left_start (omega (arith, room)))
-
-    module _ (i r : ℕ) (b' : List ℕ) (low : i < n) (p : Put (upto i) at b b' r) where
-      here_room : Room (upto i ++ f i) at b
-      here_room = omega (arith, room, length-append (upto i) (f i), upto_length i, upto_le (i + 1) n (omega arith))
-
-      pub step_room : Room (f i) r b'
-      step_room = (left_then (upto i) (f i) (left_start here_room) p).room
-
-      pub step_same : length b' ≡ length b
-      step_same = (left_then (upto i) (f i) (left_start here_room) p).same
-
-      pub put_next : (b'' : List ℕ) (r' : ℕ) → Put (f i) r b' b'' r' → Put (upto (i + 1)) at b b'' r'
-      put_next b'' r' q = subst (λ (t : List ℕ). Put t at b b'' r') (sym (upto_next i)) ((left_then (upto i) (f i) (left_start here_room) p).done b'' r' q)

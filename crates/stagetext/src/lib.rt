@@ -1,184 +1,140 @@
 // The lines of the stages into lent bytes: the stage, then every number that followed by then. The length is known before a byte is written.
 #![tactic(auto)]
 
-ghost use Rattle.std.specs.Prelude.{◌&&◌, ◌≡◌, ◌+◌, ◌≤◌, ltb, length};
+ghost use Rattle.std.specs.Prelude.{◌≡◌, ◌+◌, ◌≤◌, leb, length};
 ghost use Rattle.theory.specs.Limits.{limits};
-ghost use Rattle.theory.specs.Lists.{choose};
 ghost use Rattle.lent.specs.Lent.{Leaves};
-ghost use Rattle.text.specs.Texts.{digits};
-ghost use Rattle.text.specs.Writing.{Put, Room};
-ghost use Rattle.stagetext.specs.Stagetext.{StagesLined, body_of, latest, part_of, put_of, row_of, rows_of};
+ghost use Rattle.text.specs.Writer.{Room, added};
+ghost use Rattle.stagetext.specs.Stagetext.{StagesLined, body_of, latest, put_of, row_of, rows_of, stages_of};
 
-use lent::{Listed, Written};
+use lent::Listed;
 use replies::Reply;
 use sets::Set;
 use store::Store;
+use text::Writer;
 use theory::{MARKS, NUMBERS};
 
-// The last number.
-const LAST: u8 = NUMBERS as u8;
+// No line of a stage is longer.
+const WIDEST: usize = 3 + 406 + 1;
 
 // No text of stages is longer.
-pub const LONGEST: usize = (MARKS + 1) * (3 + 406 + 1);
-
-// The number of decimal digits of n.
-fn wide(n: u8) -> usize
-    ensures { result ≡ length (digits n) }
-{
-    if n < 10 {
-        return 1;
-    }
-    if n < 100 {
-        return 2;
-    }
-    3
-}
-
-// How many bytes n adds to the line of stage k.
-fn part_width(marks: [u8; MARKS], k: u8, n: u8) -> usize
-    requires { n ≤ limits.numbers }
-    ensures { result ≡ length (part_of marks k n) }
-{
-    if k < marks[n as usize] {
-        return 0;
-    }
-    1 + wide(n)
-}
-
-// How many bytes the numbers below the end add.
-fn body_width(marks: [u8; MARKS], k: u8, end: u8) -> usize
-    requires { end ≤ limits.numbers + 1 }
-    ensures { result ≡ length (body_of end marks k) }
-{
-    let mut sum = 0;
-    let mut n = 0u8;
-    while n < end {
-        sum += part_width(marks, k, n);
-        n += 1;
-    }
-    sum
-}
-
-// How many bytes the lines of the first stages take.
-fn rows_width(marks: [u8; MARKS], end: u8, count: u8) -> usize
-    requires { end ≤ limits.numbers + 1 }
-    ensures { result ≡ length (rows_of end marks count) }
-{
-    let mut sum = 0;
-    let mut k = 0u8;
-    while k < count {
-        sum += wide(k) + body_width(marks, k, end) + 1;
-        k += 1;
-    }
-    sum
-}
+pub const LONGEST: usize = (MARKS + 1) * WIDEST;
 
 // The greatest mark below 255, or 0.
 fn last(marks: &[u8]) -> u8
     ensures { result ≡ latest 0 marks.now }
 {
-    let mut most = 0u8;
-    let mut i = 0;
-    while i < marks.len() {
-        most = later(most, marks[i]);
-        i += 1;
-    }
-    most
+    marks
+        .iter()
+        .copied()
+        .filter(|mark| *mark < 255)
+        .max()
+        .unwrap_or(0)
 }
 
-// The greater of a and x, where x is below 255.
-fn later(a: u8, x: u8) -> u8
-    ensures { result ≡ choose (ltb x 255 && ltb a x) x a }
-{
-    if x < 255 {
-        if a < x {
-            return x;
+// The marks of the numbers up to the highest.
+#[derive(Clone, Copy)]
+struct Marked<'a> {
+    marks: &'a [u8],
+    ghost few: { length marks.now ≤ limits.numbers + 1 },
+}
+
+impl<'a> Marked<'a> {
+    // The numbers whose marks are k at most, each after one space.
+    #[tactic(auto, using(text::proofs::Added::writes, crate::proofs::Laws::parts))]
+    fn body(&self, k: u8, out: &mut Writer)
+        requires { Room (body_of (length self.now.marks.now) self.now.marks.now k) out.old }
+        ensures { out.new ≡ added (body_of (length self.now.marks.now) self.now.marks.now k) out.old }
+    {
+        for (n, mark) in self.marks.iter().enumerate() {
+            if *mark <= k {
+                out.field(n as u32);
+            }
         }
-        return a;
     }
-    a
-}
 
-// What n adds to the line of stage k.
-fn part(marks: [u8; MARKS], k: u8, n: u8, at: usize, out: &mut [u8]) -> usize
-    requires { (n ≤ limits.numbers) × Room (part_of marks k n) at out.old }
-    ensures { Put (part_of marks k n) at out.old out.new result }
-{
-    if k < marks[n as usize] {
-        return at;
+    // The line of stage k.
+    #[tactic(auto, using(text::proofs::Added::writes, crate::proofs::Laws::row_parts))]
+    fn row(&self, k: u8, out: &mut Writer)
+        requires { Room (row_of (length self.now.marks.now) self.now.marks.now k) out.old }
+        ensures { out.new ≡ added (row_of (length self.now.marks.now) self.now.marks.now k) out.old }
+    {
+        out.number(k as u32);
+        self.body(k, out);
+        out.byte(b'\n');
     }
-    text::field(n as u32, at, out)
-}
 
-// What the numbers below the end add.
-fn body(marks: [u8; MARKS], k: u8, end: u8, at: usize, out: &mut [u8]) -> usize
-    requires { (end ≤ limits.numbers + 1) × Room (body_of end marks k) at out.old }
-    ensures { Put (body_of end marks k) at out.old out.new result }
-{
-    let mut next = at;
-    let mut n = 0u8;
-    while n < end {
-        next = part(marks, k, n, next, out);
-        n += 1;
+    // The lines of the first stages.
+    #[tactic(auto, using(text::proofs::Added::writes, crate::proofs::Laws::rows))]
+    fn rows(&self, count: u8, out: &mut Writer)
+        requires { Room (rows_of (length self.now.marks.now) self.now.marks.now count) out.old }
+        ensures { out.new ≡ added (rows_of (length self.now.marks.now) self.now.marks.now count) out.old }
+    {
+        for k in 0..count {
+            self.row(k, out);
+        }
     }
-    next
-}
 
-// The line of stage k.
-fn row(marks: [u8; MARKS], k: u8, end: u8, at: usize, out: &mut [u8]) -> usize
-    requires { (end ≤ limits.numbers + 1) × Room (row_of end marks k) at out.old }
-    ensures { Put (row_of end marks k) at out.old out.new result }
-{
-    let numbered = text::number(k as u32, at, out);
-    let full = body(marks, k, end, numbered, out);
-    out[full] = b'\n';
-    full + 1
-}
-
-// The lines of the first stages.
-fn rows(marks: [u8; MARKS], end: u8, count: u8, out: &mut [u8]) -> usize
-    requires { (end ≤ limits.numbers + 1) × Room (rows_of end marks count) 0 out.old }
-    ensures { Put (rows_of end marks count) 0 out.old out.new result }
-{
-    let mut next = 0;
-    let mut k = 0u8;
-    while k < count {
-        next = row(marks, k, end, next, out);
-        k += 1;
+    // How long the lines of the first stages are, by writing each into the same bytes: a loop beside that of `rows`, since each line begins a writer anew.
+    #[tactic(auto, using(text::proofs::Added::texts, crate::proofs::Laws::sums, crate::proofs::Longest::row_most, crate::proofs::Longest::rows_most))]
+    fn measured(&self, count: u8) -> usize
+        ensures { result ≡ length (rows_of (length self.now.marks.now) self.now.marks.now count) }
+    {
+        let mut line = [0u8; WIDEST];
+        let mut sum = 0;
+        for k in 0..count {
+            let mut out = Writer::new(&mut line);
+            self.row(k, &mut out);
+            sum += out.written;
+        }
+        sum
     }
-    next
+
+    // Whether so many bytes are enough; where the longest lines fit, none is measured.
+    #[tactic(auto, using(crate::proofs::Longest::rows_most))]
+    fn fits(&self, count: u8, given: usize) -> bool
+        ensures { result ≡ leb (length (rows_of (length self.now.marks.now) self.now.marks.now count)) given }
+    {
+        WIDEST * count as usize <= given || self.measured(count) <= given
+    }
 }
 
 // The lines of all stages up to the last with something new, where there is room for them; 4 where top is no number's.
 // The length is known before a byte is written.
-pub fn put(marks: [u8; MARKS], top: u8, out: &mut [u8]) -> Written
+#[tactic(auto, using(crate::proofs::Laws::put_above, crate::proofs::Laws::latest_low, crate::proofs::Laws::put_short, crate::proofs::Laws::rows_first))]
+pub fn put(marks: [u8; MARKS], top: u8, out: &mut [u8]) -> Result<usize, Reply>
     ensures { Leaves (put_of marks top out.old) result out.new }
 {
-    if LAST < top {
-        return Written::Refused(Reply::Number);
+    if NUMBERS < top as usize {
+        return Err(Reply::Number);
     }
-    let end = top + 1;
+    let end = top as usize + 1;
+    let marked = Marked {
+        marks: &marks[..end],
+    };
     let count = last(&marks) + 1;
-    if out.len() < rows_width(marks, end, count) {
-        return Written::Refused(Reply::Short);
+    if !marked.fits(count, out.len()) {
+        return Err(Reply::Short);
     }
-    Written::Length(rows(marks, end, count, out))
+    let mut writer = Writer::new(out);
+    marked.rows(count, &mut writer);
+    Ok(writer.written)
+}
+
+// The lines of the stages from e, where e can be read.
+fn followed(store: Store, e: Set, out: &mut [u8]) -> Result<usize, Reply>
+    ensures { Leaves (stages_of store e out.old) result out.new }
+{
+    let marks = plain::follow(store, 0, e)?;
+    let held = store.held;
+    put(marks, held.assumptions + held.claims, out)
 }
 
 // One line a stage from 0 up to the last with something new: the stage, then every number that followed from e by then.
+#[tactic(auto, using(lent::proofs::Fits::hands))]
 pub fn lines(store: Store, e: Set, out: &mut [u8]) -> Listed
     ensures { StagesLined store e out.old result out.new }
 {
-    let followed = plain::follow(store, 0, e);
-    let reply = followed.reply;
-    if replies::number(reply) != 0 {
-        return Listed {
-            answer: Written::Refused(reply),
-            store,
-        };
-    }
-    let held = store.held;
-    let marks = followed.marks;
-    let answer = put(marks, held.assumptions + held.claims, out);
+    let answer = followed(store, e, out);
     Listed { answer, store }
 }

@@ -7,9 +7,10 @@ use Prim.Native.Nat.{◌<◌, ◌≤◌, ℕ}
 use native.Mathlib.Omega.{arith}
 use lib.Dec.{leb}
 use lib.ListN.{length}
-use borrow.Author.Tests.{eq-eqb, eqb-true, leb-false, ne_eqb, not-false, not-true}
-use Rattle.changing.specs.Changing.{changed, excluded, included, less_of, more_of, sifted}
-use Rattle.changing.specs.declared.Changed.{Changed}
+use borrow.Author.Tests.{eq-eqb, eqb-true, leb-false, ne_eqb, not-false}
+use Rattle.changing.specs.Changing.{excluded, included, less_of, more_of, sifted}
+use Rattle.std.specs.Prelude.{Err, Ok, Result}
+use Rattle.rules.specs.declared.Held.{Held}
 use Rattle.replies.proofs.Laws.{zero_done}
 use Rattle.replies.specs.Replies.{number_of}
 use Rattle.replies.specs.declared.Reply.{Reply}
@@ -39,20 +40,20 @@ through f false p q = q refl
 
 -- ---- the store after a change, test by test
 
-module _ (s : Store) (c : Changed) where
-  pub after_refused : (number_of c.reply ≡ 0 → ⊥) → answer c.reply s ≡ after_of s c
+module _ (s : Store) where
+  pub after_refused : (r : Reply) → answer r s ≡ after_of s (Err r)
   unfolding after_of
-  after_refused f = rw (ne_eqb (number_of c.reply) 0 f)
+  after_refused r = refl
 
-  module _ (z : number_of c.reply ≡ 0) (o : Outcome) (e : o ≡ judged_of c.held) where
-    kept : else_kept s o ≡ after_of s c
+  module _ (h : Held) (o : Outcome) (e : o ≡ judged_of h) where
+    kept : else_kept s o ≡ after_of s (Ok h)
     unfolding after_of
-    kept = ap (else_kept s) e ∙ rw (eq-eqb (number_of c.reply) 0 z)
+    kept = ap (else_kept s) e
 
-    pub after_stages : (number_of o.reply ≡ 0 → ⊥) → answer o.reply s ≡ after_of s c
+    pub after_stages : (number_of o.reply ≡ 0 → ⊥) → answer o.reply s ≡ after_of s (Ok h)
     after_stages f = sym (ap (λ (b : Bool). choose b o (answer o.reply s)) (ne_eqb (number_of o.reply) 0 f)) ∙ kept
 
-    pub after_done : number_of o.reply ≡ 0 → o ≡ after_of s c
+    pub after_done : number_of o.reply ≡ 0 → o ≡ after_of s (Ok h)
     after_done d = sym (ap (λ (b : Bool). choose b o (answer o.reply s)) (eq-eqb (number_of o.reply) 0 d)) ∙ kept
 
 -- ---- adding and withdrawing
@@ -106,15 +107,11 @@ module _ (s : Store) (t : right_shape s ≡ true) where
         let p = canonical_fits (top s.held) c l d in
         subst (λ (i : Justification). some_of (same_justification i) J ≡ false → Holdable (put i J)) p.1 (λ m. entered (entry_of j) p.0 m k) n
 
-    after_fault : is_done fault ≡ false → after_of s (changed fault s.held) ≡ answer fault s
-    unfolding after_of
-    after_fault e = rw e
-
     -- the fault, or what is done with the item
-    after_sifted : (go : Justification → Outcome) (by : Justification → Changed) → (fault ≡ Done → after_of s (by j) ≡ go j) → after_of s (sifted s.held c l by) ≡ checked_of s c l go
+    after_sifted : (go : Justification → Outcome) (by : Justification → Result Held Reply) → (fault ≡ Done → after_of s (by j) ≡ go j) → after_of s (sifted (top s.held) c l by) ≡ checked_of s c l go
     after_sifted go by e =
         rw t
-        (through (after_of s) (not (is_done fault)) (λ q. after_fault (not-true (is_done fault) q)) (λ q. e (zero_done fault (eqb-true (number_of fault) 0 (not-false (is_done fault) q)))))
+        (through (after_of s) (not (is_done fault)) (λ _. sym (after_refused s fault)) (λ q. e (zero_done fault (eqb-true (number_of fault) 0 (not-false (is_done fault) q)))))
 
     after_more : fault ≡ Done → after_of s (included s.held j) ≡ joined_by s j
     unfolding after_of included joined_by

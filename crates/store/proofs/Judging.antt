@@ -1,4 +1,5 @@
 -- From what the stages say to the answer of judging; the refusals of adding and withdrawing before it. Assumes nothing.
+use Rattle.std.specs.Prelude.{Ok, Err}
 use mathlib.Core.Bool.{false, true}
 use mathlib.Core.List.{List, []}
 use mathlib.Core.Path.{◌∙◌, ◌≡◌, ap, ap₂, refl, subst, sym}
@@ -7,7 +8,7 @@ use native.Mathlib.Omega.{arith}
 use borrow.Author.Tests.{le-leb, le-ltb, lt-ltb, ne_eqb}
 use Rattle.replies.specs.Replies.{number_of}
 use Rattle.replies.specs.declared.Reply.{Reply}
-use Rattle.replies.specs.declared.Reply.TheVariants.{Counts, Done, Shape}
+use Rattle.replies.specs.declared.Reply.TheVariants.{Counts, Done, Label, Nogoods, Shape}
 use Rattle.rules.proofs.Laws.{right_held}
 use Rattle.rules.specs.Held.{held_of, held_right, said_by}
 use Rattle.rules.specs.Items.{fault_of}
@@ -15,7 +16,6 @@ use Rattle.rules.specs.declared.Held.{Held}
 use Rattle.stages.proofs.Stages.{start_is}
 use Rattle.stages.specs.Judged.{judged_by}
 use Rattle.stages.specs.Lists.{first_stage, lists_of}
-use Rattle.stages.specs.declared.Judged.{Judged}
 use Rattle.stages.specs.declared.Lists.{Lists}
 use Rattle.store.proofs.Shapes.{Fitting, fits_elim}
 use Rattle.store.specs.Calls.{add_of, answer, checked_of, else_kept, joined_by, judged_of, no_store, of_verdict, open_of, parted_from, start_store, store_of, withdraw_of}
@@ -50,27 +50,21 @@ module _ (h : Held) where
     outcome v e =
         ap (of_verdict no_store h) (sym e) ∙ ap (λ (k : Held). of_verdict no_store k stages_say) (sym (again h (fits_elim h t))) ∙ judged_fits t
 
-    refused_by : (v : Verdict) → (number_of (judged_by v).reply ≡ 0 → ⊥) → answer (judged_by v).reply no_store ≡ of_verdict no_store h v
-    refused_by (settled d s) f = absurd (f refl)
-    refused_by nogoods_over f = refl
-    refused_by (label_over n) f = refl
+    pub judged_refused : (r : Reply) → Err r ≡ judged_by stages_say → answer r no_store ≡ judged_of h
+    judged_refused r e = go stages_say e ∙ outcome stages_say refl
+      where
+        go : (v : Verdict) → Err r ≡ judged_by v → answer r no_store ≡ of_verdict no_store h v
+        go (settled d s) q = cc
+        go nogoods_over q = let same : r ≡ Nogoods = cc in ap (λ (x : Reply). answer x no_store) same
+        go (label_over n) q = let same : r ≡ Label n = cc in ap (λ (x : Reply). answer x no_store) same
 
-    done_by : (v : Verdict) → number_of (judged_by v).reply ≡ 0 → answer (judged_by v).reply (record { held = h; lists = (judged_by v).lists }) ≡ of_verdict no_store h v
-    done_by (settled d s) e = refl
-    done_by nogoods_over e = absurd (omega arith)
-    done_by (label_over n) e = absurd (omega arith)
-
-    pub judged_refused : (told : Judged) → told ≡ judged_by stages_say → (number_of told.reply ≡ 0 → ⊥) → answer told.reply no_store ≡ judged_of h
-    judged_refused told e f =
-        ap (λ (j : Judged). answer j.reply no_store) e
-        ∙ refused_by stages_say (subst (λ (j : Judged). number_of j.reply ≡ 0 → ⊥) e f)
-        ∙ outcome stages_say refl
-
-    pub judged_done : (told : Judged) → told ≡ judged_by stages_say → number_of told.reply ≡ 0 → answer told.reply (record { held = h; lists = told.lists }) ≡ judged_of h
-    judged_done told e z =
-        ap (λ (j : Judged). answer j.reply (record { held = h; lists = j.lists })) e
-        ∙ done_by stages_say (subst (λ (j : Judged). number_of j.reply ≡ 0) e z)
-        ∙ outcome stages_say refl
+    pub judged_done : (l : Lists) → Ok l ≡ judged_by stages_say → answer Done (record { held = h; lists = l }) ≡ judged_of h
+    judged_done l e = go stages_say e ∙ outcome stages_say refl
+      where
+        go : (v : Verdict) → Ok l ≡ judged_by v → answer Done (record { held = h; lists = l }) ≡ of_verdict no_store h v
+        go (settled d s) q = let same : l ≡ lists_of d s = cc in ap (λ (x : Lists). answer Done (record { held = h; lists = x })) same
+        go nogoods_over q = cc
+        go (label_over n) q = cc
 
 -- ---- opening
 

@@ -7,7 +7,8 @@ use lib.Dec.{ltb}
 use lib.ListN.{drop, get_or, length, length-drop, length-take}
 use lib.Pow.{pow_pos}
 use borrow.Author.Tests.{eq-eqb, le-ltb, lt-ltb, ltb-false, ne_eqb}
-use Rattle.replies.specs.Replies.{number_of}
+use Rattle.replies.specs.Replies.{checked}
+use Rattle.std.specs.Prelude.{Err, Ok, ⊤}
 use Rattle.replies.specs.declared.Reply.{Reply}
 use Rattle.replies.specs.declared.Reply.TheVariants.{Done, Number, Shape}
 use Rattle.stages.specs.declared.Lists.{Lists}
@@ -45,15 +46,17 @@ abbrev tested : Bool → Bool → Reply
 tested right fault = choose (not right) Shape (choose fault Number Done)
 
 -- .. decides what a call answers, as long as that goes by the same tests
-tested_refused : {X : Type 0} (f : Reply → X) (x : X) (p q : Bool) → (number_of (tested p q) ≡ 0 → ⊥) → f (tested p q) ≡ choose (not p) (f Shape) (choose q (f Number) x)
-tested_refused f x false q d = refl
-tested_refused f x true true d = refl
-tested_refused f x true false d = absurd (d refl)
+tested_refused : {X : Type 0} (f : Reply → X) (x : X) (r : Reply) (p q : Bool) → Err r ≡ checked (tested p q) → f r ≡ choose (not p) (f Shape) (choose q (f Number) x)
+unfolding checked
+tested_refused f x r false q e = cc
+tested_refused f x r true true e = cc
+tested_refused f x r true false e = cc
 
-tested_done : (p q : Bool) → number_of (tested p q) ≡ 0 → (p ≡ true) × (q ≡ false)
-tested_done false q e = absurd (omega arith)
-tested_done true true e = absurd (omega arith)
-tested_done true false e = (refl, refl)
+tested_done : (u : ⊤) (p q : Bool) → Ok u ≡ checked (tested p q) → (p ≡ true) × (q ≡ false)
+unfolding checked
+tested_done u false q e = cc
+tested_done u true true e = cc
+tested_done u true false e = (refl, refl)
 
 or_false : (p q : Bool) → p || not q ≡ false → (p ≡ false) × (q ≡ true)
 or_false false true e = (refl, refl)
@@ -73,41 +76,40 @@ pub record Readable (s : Store) (n E : ℕ) : Type 0 where
   pub fit : Fitting s.held
 
 module _ (s : Store) (n E : ℕ) where
-  pub refusal_shape : right_shape s ≡ false → Shape ≡ refusal_of s n E
-  unfolding refusal_of
+  pub refusal_shape : right_shape s ≡ false → Err Shape ≡ checked (refusal_of s n E)
+  unfolding checked refusal_of
   refusal_shape h = rw h
 
-  pub refusal_number : right_shape s ≡ true → top s.held < n → Number ≡ refusal_of s n E
-  unfolding refusal_of
+  pub refusal_number : right_shape s ≡ true → top s.held < n → Err Number ≡ checked (refusal_of s n E)
+  unfolding checked refusal_of
   refusal_number h k = rw (h, lt-ltb (top s.held) n k)
 
-  pub refusal_set : right_shape s ≡ true → n ≤ top s.held → in_range s.held.assumptions E ≡ false → Number ≡ refusal_of s n E
-  unfolding refusal_of
+  pub refusal_set : right_shape s ≡ true → n ≤ top s.held → in_range s.held.assumptions E ≡ false → Err Number ≡ checked (refusal_of s n E)
+  unfolding checked refusal_of
   refusal_set h k r = rw (h, le-ltb (top s.held) n k, r)
 
-  pub refusal_none : right_shape s ≡ true → n ≤ top s.held → in_range s.held.assumptions E ≡ true → Done ≡ refusal_of s n E
-  unfolding refusal_of
+  pub refusal_none : right_shape s ≡ true → n ≤ top s.held → in_range s.held.assumptions E ≡ true → Ok tt ≡ checked (refusal_of s n E)
+  unfolding checked refusal_of
   refusal_none h k r = rw (h, le-ltb (top s.held) n k, r)
 
-  module _ (r : Reply) (e : r ≡ refusal_of s n E) where
-    pub readable : number_of r ≡ 0 → Readable s n E
-    unfolding refusal_of
-    readable z =
-        let p = tested_done (right_shape s) (ltb (top s.held) n || not (in_range s.held.assumptions E)) (ap number_of (sym e) ∙ z) in
-        let q = or_false (ltb (top s.held) n) (in_range s.held.assumptions E) p.1 in
-        record { right = p.0; number = ltb-false (top s.held) n q.0; set = q.1; fit = (shape_elim s p.0).0 }
+  pub readable : (u : ⊤) → Ok u ≡ checked (refusal_of s n E) → Readable s n E
+  unfolding refusal_of
+  readable u e =
+      let p = tested_done u (right_shape s) (ltb (top s.held) n || not (in_range s.held.assumptions E)) e in
+      let q = or_false (ltb (top s.held) n) (in_range s.held.assumptions E) p.1 in
+      record { right = p.0; number = ltb-false (top s.held) n q.0; set = q.1; fit = (shape_elim s p.0).0 }
 
-    module _ (not_done : number_of r ≡ 0 → ⊥) {X : Type 0} (f : Reply → X) (x : X) where
-      -- a call that goes by both
-      pub refused : f r ≡ choose (not (right_shape s)) (f Shape) (choose (ltb (top s.held) n || not (in_range s.held.assumptions E)) (f Number) x)
-      unfolding refusal_of
-      refused = ap f e ∙ tested_refused f x (right_shape s) (ltb (top s.held) n || not (in_range s.held.assumptions E)) (λ z. not_done (ap number_of e ∙ z))
+  -- a call that goes by both
+  pub refused : (r : Reply) → Err r ≡ checked (refusal_of s n E) → {X : Type 0} (f : Reply → X) (x : X)
+      → f r ≡ choose (not (right_shape s)) (f Shape) (choose (ltb (top s.held) n || not (in_range s.held.assumptions E)) (f Number) x)
+  unfolding refusal_of
+  refused r e f x = tested_refused f x r (right_shape s) (ltb (top s.held) n || not (in_range s.held.assumptions E)) e
 
 -- a call that goes by the number alone
-pub refused_number : (s : Store) (n : ℕ) (r : Reply) → r ≡ refusal_of s n 0 → (number_of r ≡ 0 → ⊥) → {X : Type 0} (f : Reply → X) (x : X)
+pub refused_number : (s : Store) (n : ℕ) (r : Reply) → Err r ≡ checked (refusal_of s n 0) → {X : Type 0} (f : Reply → X) (x : X)
     → f r ≡ choose (not (right_shape s)) (f Shape) (choose (ltb (top s.held) n) (f Number) x)
-refused_number s n r e d f x =
-    refused s n 0 r e d f x
+refused_number s n r e f x =
+    refused s n 0 r e f x
     ∙ ap (λ (b : Bool). choose (not (right_shape s)) (f Shape) (choose b (f Number) x)) (go (ltb (top s.held) n) (in_range s.held.assumptions 0) (none_low s.held.assumptions))
   where
     go : (p q : Bool) → q ≡ true → p || not q ≡ p
@@ -115,8 +117,8 @@ refused_number s n r e d f x =
     go false q h = ap not h
 
 -- a call that goes by the set alone
-pub refused_set : (s : Store) (E : ℕ) (r : Reply) → r ≡ refusal_of s 0 E → (number_of r ≡ 0 → ⊥) → {X : Type 0} (f : Reply → X) (x : X)
+pub refused_set : (s : Store) (E : ℕ) (r : Reply) → Err r ≡ checked (refusal_of s 0 E) → {X : Type 0} (f : Reply → X) (x : X)
     → f r ≡ choose (not (right_shape s)) (f Shape) (choose (not (in_range s.held.assumptions E)) (f Number) x)
-refused_set s E r e d f x =
-    refused s 0 E r e d f x
+refused_set s E r e f x =
+    refused s 0 E r e f x
     ∙ ap (λ (b : Bool). choose (not (right_shape s)) (f Shape) (choose (b || not (in_range s.held.assumptions E)) (f Number) x)) (le-ltb (top s.held) 0 (omega arith))

@@ -1,6 +1,5 @@
 -- Opening, judging what is held, adding and withdrawing, as documents 01 and 02 have them. Assumes nothing.
-use Rattle.std.specs.Prelude.{Bool, not, List, [], ◌≡◌, ◌+◌, ℕ, eqb, leb}
-use Rattle.changing.specs.declared.Changed.{Changed}
+use Rattle.std.specs.Prelude.{Bool, not, List, [], ◌≡◌, ◌+◌, ℕ, eqb, leb, Result, Ok, Err}
 use Rattle.replies.specs.Replies.{number_of}
 use Rattle.replies.specs.declared.Reply.{Reply}
 use Rattle.replies.specs.declared.Reply.TheVariants.{Already, Counts, Done, Full, Label, Nogoods, Shape, Unheld}
@@ -68,8 +67,9 @@ abbrev pub else_kept : Store → Outcome → Outcome
 else_kept s o = choose (is_done o.reply) o (answer o.reply s)
 
 -- the store of what is held after a change, judged anew; a refusal, of the change or by the stages, hands back s
-unfoldable pub after_of : Store → Changed → Outcome
-after_of s c = choose (is_done c.reply) (else_kept s (judged_of c.held)) (answer c.reply s)
+unfoldable pub after_of : Store → Result Held Reply → Outcome
+after_of s (Ok h) = else_kept s (judged_of h)
+after_of s (Err r) = answer r s
 
 -- the shape, the faults of the item, then what is done with the justification that it makes
 abbrev pub checked_of : Store → ℕ → List ℕ → (Justification → Outcome) → Outcome

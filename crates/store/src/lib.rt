@@ -4,21 +4,15 @@
 ghost use Rattle.std.specs.Prelude.{◌≡◌, ◌≤◌};
 ghost use Rattle.theory.specs.Limits.{limits};
 ghost use Rattle.store.specs.Shape.{RightShape, held_fits};
+ghost use Rattle.replies.specs.Replies.{checked};
 ghost use Rattle.store.specs.Reading.{refusal_of};
 ghost use Rattle.store.specs.Calls.{Added, JudgedAnew, Opened, Withdrawn, after_of, start_store};
 
-use changing::Changed;
 use replies::Reply;
 use rules::Held;
 use sets::Set;
 use stages::Lists;
 use theory::{ASSUMPTIONS, CLAIMS};
-
-// The most assumptions, as a store counts them.
-const MOST_ASSUMPTIONS: u8 = ASSUMPTIONS as u8;
-
-// The most claims.
-const MOST_CLAIMS: u8 = CLAIMS as u8;
 
 // What is held, and the labels and nogoods at its depth.
 #[repr(C)]
@@ -28,7 +22,7 @@ pub struct Store {
     pub lists: Lists,
 }
 
-// A reply, and the store that goes with it.
+// A reply, and the store that goes with it; no Result, since a refusal hands back a store too (theorem Refusals).
 #[derive(Clone, Copy)]
 pub struct Outcome {
     pub reply: Reply,
@@ -40,25 +34,23 @@ fn start(a: u8, m: u8) -> Store
     requires { (a ≤ limits.assumptions) × (m ≤ limits.claims) }
     ensures { result ≡ start_store a m }
 {
-    let held = Held::nothing(a, m);
-    let lists = stages::start(a);
-    Store { held, lists }
+    Store {
+        held: Held::nothing(a, m),
+        lists: stages::start(a),
+    }
 }
 
 // Whether what is held fits: the counts within the limits, and the justifications in their shape.
 fn held_fits(held: Held) -> bool
     ensures { result ≡ held_fits held }
 {
-    if MOST_ASSUMPTIONS < held.assumptions {
-        return false;
-    }
-    if MOST_CLAIMS < held.claims {
+    if ASSUMPTIONS < held.assumptions as u32 || CLAIMS < held.claims as u32 {
         return false;
     }
     held.right()
 }
 
-// The store of the justifications held, judged anew from stage 0; or the refusal.
+// The store of the justifications held, judged anew from stage 0; or the refusal. No Result of a store within it, nor in `after`: with a copy of a store more, adding and loading take more than their bound of the stack.
 pub fn judged(held: Held) -> Outcome
     ensures { JudgedAnew held result }
 {
@@ -68,17 +60,16 @@ pub fn judged(held: Held) -> Outcome
             store: start(0, 0),
         };
     }
-    let told = stages::judge(held);
-    let reply = told.reply;
-    if replies::number(reply) != 0 {
-        return Outcome {
+    match stages::judge(held) {
+        Ok(lists) => Outcome {
+            reply: Reply::Done,
+            store: Store { held, lists },
+        },
+        Err(reply) => Outcome {
             reply,
             store: start(0, 0),
-        };
+        },
     }
-    let lists = told.lists;
-    let store = Store { held, lists };
-    Outcome { reply, store }
 }
 
 impl Store {
@@ -95,36 +86,30 @@ impl Store {
         shape::right(lists, a, a + held.claims)
     }
 
-    // Why a call that reads n and e is refused: the shape, then n above the highest number or an assumption in e above the last; else done.
-    pub fn refusal(self, n: u32, e: Set) -> Reply
-        ensures { result ≡ refusal_of self n e }
+    // Whether a call that reads n and e may go on: not with another shape, then not with n above the highest number or an assumption in e above the last.
+    pub fn refusal(self, n: u32, e: Set) -> Result<(), Reply>
+        ensures { result ≡ checked (refusal_of self n e) }
     {
         if !self.shape() {
-            return Reply::Shape;
+            return Err(Reply::Shape);
         }
         let held = self.held;
         let a = held.assumptions;
         let top = (a + held.claims) as u32;
         if top < n {
-            return Reply::Number;
+            return Err(Reply::Number);
         }
         if !sets::low(e, a) {
-            return Reply::Number;
+            return Err(Reply::Number);
         }
-        Reply::Done
+        Ok(())
     }
 
     // A store that holds nothing, of so many assumptions and claims.
     pub fn open(assumptions: u32, claims: u32) -> Outcome
         ensures { Opened assumptions claims result }
     {
-        if ASSUMPTIONS < assumptions {
-            return Outcome {
-                reply: Reply::Counts,
-                store: start(0, 0),
-            };
-        }
-        if CLAIMS < claims {
+        if ASSUMPTIONS < assumptions || CLAIMS < claims {
             return Outcome {
                 reply: Reply::Counts,
                 store: start(0, 0),
@@ -137,22 +122,20 @@ impl Store {
     }
 
     // The store of what is held after a change, judged anew; or the refusal and the store as it was.
-    pub fn after(self, changed: Changed) -> Outcome
+    pub fn after(self, changed: Result<Held, Reply>) -> Outcome
         ensures { result ≡ after_of self changed }
     {
-        let refusal = changed.reply;
-        if replies::number(refusal) != 0 {
-            return Outcome {
-                reply: refusal,
-                store: self,
-            };
+        match changed {
+            Ok(held) => {
+                let out = judged(held);
+                let reply = out.reply;
+                if replies::number(reply) != 0 {
+                    return Outcome { reply, store: self };
+                }
+                out
+            }
+            Err(reply) => Outcome { reply, store: self },
         }
-        let out = judged(changed.held);
-        let reply = out.reply;
-        if replies::number(reply) != 0 {
-            return Outcome { reply, store: self };
-        }
-        out
     }
 
     // The store with one justification more; or the refusal and the store as it was.

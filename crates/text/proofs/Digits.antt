@@ -34,11 +34,6 @@ digits_more n h =
     ap (λ (b : Bool). choose b ((48 + n) ∷ []) (digits_in n (n / 10) ++ ((48 + n % 10) ∷ []))) (le-ltb n 10 h)
     ∙ ap (λ (t : List ℕ). t ++ ((48 + n % 10) ∷ [])) (enough n (suc (n / 10)) (n / 10) (omega arith) (omega arith))
 
-pub digits_some : (n : ℕ) → 1 ≤ length (digits n)
-digits_some n =
-    ⊎_elim (λ h. omega (arith, ap length (digits_one n (ltb-true n 10 h))))
-    (λ h. omega (arith, ap length (digits_more n (ltb-false n 10 h)), length-append (digits (n / 10)) ((48 + n % 10) ∷ []))) (either (ltb n 10))
-
 -- ---- how many there are
 
 pub digits_most : (f n : ℕ) → n < 10 ^ suc f → length (digits n) ≤ suc f
@@ -47,3 +42,5 @@ digits_most (suc f) n h =
     ⊎_elim (λ k. omega (arith, ap length (digits_one n (ltb-true n 10 k))))
     (λ k. let l : n / 10 < 10 ^ suc f = omega (arith, pow-suc 10 (suc f)) in
     omega (arith, ap length (digits_more n (ltb-false n 10 k)), length-append (digits (n / 10)) ((48 + n % 10) ∷ []), digits_most f (n / 10) l)) (either (ltb n 10))
+
+pub ruleset steps = (digits_one, digits_more)

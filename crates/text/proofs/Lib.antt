@@ -1,5 +1,5 @@
+pub mod Added
 pub mod Cases
 pub mod Digits
 pub mod Lengths
 pub mod Rests
-pub mod Writing

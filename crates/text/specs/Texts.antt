@@ -1,5 +1,5 @@
 -- The texts that a listing is made of, as lists of bytes. Assumes nothing.
-use Rattle.std.specs.Prelude.{Bool, List, [], ◌++◌, ◌∷◌, ◌%◌, ◌+◌, ◌/◌, suc, zero, ℕ, ltb}
+use Rattle.std.specs.Prelude.{List, [], ◌++◌, ◌∷◌, ◌%◌, ◌+◌, ◌/◌, suc, zero, ℕ, ltb}
 use Prim.Native.Char.{code}
 use Prim.Native.String.{String, [] as none, ◌∷◌ as ◌then◌}
 use Rattle.theory.specs.Lists.{choose, each, numbers_to, those}
@@ -47,7 +47,3 @@ heading A M J d = word "case" ++ (field A ++ (field M ++ (field J ++ (field d ++
 -- a refusal: `refused`, the reply's number, the record
 unfoldable pub refusal : ℕ → ℕ → List ℕ
 refusal r k = word "refused" ++ (field r ++ (field k ++ word "\n"))
-
--- what assumption k adds to the text of E: nothing where it is not in E, and a comma before it where another stands before it
-unfoldable pub entered : ℕ → ℕ → Bool → List ℕ
-entered E k later = choose (among E k) (choose later (word "," ++ digits k) (digits k)) []

@@ -10,16 +10,17 @@ use native.Mathlib.Omega.{arith}
 use lib.Bits.{and_mask, or_add_and}
 use lib.Dec.{ltb}
 use lib.ListN.{length}
-use lib.Pow.{ones_lt, pow-lt, pow_mono}
-use borrow.Author.Tests.{le-ltb, lt-ltb, not-true}
+use lib.Pow.{ones_lt}
+use borrow.Author.Tests.{eq-eqb, le-ltb, lt-ltb, ne_eqb, not-true}
+use Rattle.std.proofs.lemmas.Nat.Bits.{bit_at_ones, bit_at_ones_above}
+use Rattle.std.specs.Int.{bit_at}
 use Rattle.theory.proofs.Lasting.{Upto}
 use Rattle.theory.proofs.Depth.{consequents_length, settles}
 use Rattle.theory.proofs.Following.{follows_later, follows_more}
 use Rattle.theory.proofs.Judgement.{labels_mean, nogoods_mean, settled_stage, stage_label_in, stage_nogoods}
 use Rattle.theory.proofs.Label.{inconsistent, supported}
-use Rattle.theory.proofs.Lists.{and_intro, and_left, and_right, not_so, same_test}
-use Rattle.theory.proofs.Sets.{among_within, or_within, within_le}
-use Rattle.theory.proofs.Start.{digit_self, digit_within}
+use Rattle.theory.proofs.Lists.{and_intro, and_left, and_right, same_test}
+use Rattle.theory.proofs.Sets.{or_within}
 use Rattle.theory.specs.Demands.{carries, contradicts, follows_from_all}
 use Rattle.theory.specs.Judge.{Stage, judge, settled}
 use Rattle.theory.specs.Limits.{Limits}
@@ -63,17 +64,14 @@ unfolding together
 together_low A = ones_lt A
 
 pub among_together : (A i : ℕ) → among (together A) (suc i) ≡ ltb i A
-unfolding among
+unfolding among digit together
 among_together A i = elim (dec_lt i A) [
-  | yes h ↦ among_within (2 ^ i) (together A) (suc i) (within_together A (2 ^ i) (pow-lt h)) (digit_self i) ∙ sym (lt-ltb i A h)
-  | no h ↦ not_so (digit (together A) i) (λ d. high d (up h)) ∙ sym (le-ltb i A (up h))
+  | yes h ↦ eq-eqb (bit_at (2 ^ A - 1) i) 1 (bit_at_ones A i h) ∙ sym (lt-ltb i A h)
+  | no h ↦ ne_eqb (bit_at (2 ^ A - 1) i) 1 (λ e. absurd (omega (arith, bit_at_ones_above A i (up h)))) ∙ sym (le-ltb i A (up h))
 ]
   where
     up : (i < A → ⊥) → A ≤ i
     up h = omega arith
-
-    high : digit (together A) i ≡ true → A ≤ i → ⊥
-    high d h = omega (arith, within_le (2 ^ i) (together A) (digit_within i (together A) d), together_low A, pow_mono h)
 
 -- n follows from all A assumptions together exactly when it follows from some set of them at some stage
 pub from_all_means : (A : ℕ) (J : List Justification) (n : ℕ) → (follows_from_all A J n ≡ true) ↔ ((E : ℕ) × (E < 2 ^ A) × ((k : ℕ) × (follows J k E n ≡ true)))

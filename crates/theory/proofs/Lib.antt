@@ -18,3 +18,4 @@ pub mod Start
 pub mod Judgement
 pub mod Picks
 pub mod Demands
+pub mod Words

@@ -8,7 +8,7 @@ use mathlib.Core.Path.{◌∙◌, ◌≡◌, ap, refl, subst, sym}
 use Prim.Native.Nat.{◌%◌, ◌/◌, ◌<◌, zero, ℕ}
 use native.Mathlib.Omega.{arith}
 use lib.Arith.{bin_ind}
-use lib.Bits.{or_zero_r}
+use lib.Bits.{or_shr, or_step, or_zero_r}
 use lib.Count.{ones, ones_step}
 use lib.Dec.{eqb, ltb}
 use denote.Struct.Rest.{rest}
@@ -16,13 +16,13 @@ use borrow.Author.Tests.{eqb-false, eqb-true, ltb-false, ltb-true}
 use Rattle.theory.proofs.Label.{contains_elim, contains_intro}
 use Rattle.theory.proofs.Lists.{clash, either, not_so}
 use Rattle.theory.proofs.Order.{before_fewer, before_irrefl, before_less, before_trans, sorted_head, sorted_tail, sorted_unique}
-use Rattle.theory.proofs.Sets.{or_half, or_odd, or_within, within_antisym, within_or, within_trans}
+use Rattle.theory.proofs.Sets.{or_within, within_antisym, within_or, within_trans}
 use Rattle.theory.proofs.Step.{Inside}
 use Rattle.theory.specs.Lists.{sorted_by}
 use Rattle.theory.specs.Sets.{before, contains, union, within}
 
 half_within : (F E : ℕ) → within F E ≡ true → within (F / 2) (E / 2) ≡ true
-half_within F E w = or_within (F / 2) (E / 2) (sym (or_half F E) ∙ ap (λ (x : ℕ). x / 2) (within_or F E w))
+half_within F E w = or_within (F / 2) (E / 2) (sym (or_shr F E 1) ∙ ap (λ (x : ℕ). x / 2) (within_or F E w))
 
 -- a part of a set is the set, or has fewer members
 pub within_ones : (E F : ℕ) → within F E ≡ true → (F ≡ E) ⊎ (ones F < ones E)
@@ -30,7 +30,7 @@ within_ones =
     bin_ind (λ (E : ℕ). (F : ℕ) → within F E ≡ true → (F ≡ E) ⊎ (ones F < ones E)) (λ F w. inl (sym (or_zero_r F) ∙ within_or F zero w))
     (λ E ih F w.
     let odd : E % 2 ≡ union F E % 2 = ap (λ (x : ℕ). x % 2) (sym (within_or F E w)) in
-    let m = or_odd F E in
+    let m = or_step F E in
     let sF = ones_step F in
     let sE = ones_step E in
     ⊎_elim (λ (q : F / 2 ≡ E / 2).

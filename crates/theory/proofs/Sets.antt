@@ -1,32 +1,20 @@
 -- Laws of sets of assumptions: union, subset, membership. Assumes nothing.
 use mathlib.Core.Bool.{true}
-use mathlib.Core.Path.{◌∙◌, ◌≡◌, ap, ap₂, refl, sym}
-use Prim.Native.Nat.{◌%◌, ◌*◌, ◌+◌, ◌/◌, ◌^◌, ◌≤◌, max, suc, zero, ℕ}
+use mathlib.Core.Path.{◌≡◌, ap}
+use Prim.Native.Nat.{◌≤◌, suc, zero, ℕ}
 use native.Mathlib.Omega.{arith}
-use lib.Arith.{bin_ind}
-use lib.Bits.{and_le_r, or_add_and, or_comm, or_self, or_shr, or_step, or_zero_l}
+use lib.Bits.{and_le_r, or_add_and, or_comm, or_self, or_zero_l}
 use borrow.Author.Tests.{eq-eqb, eqb-true}
+use Rattle.std.proofs.lemmas.Nat.Bits.{bit_at-lt, bit_at_or, same_from_bits}
+use Rattle.std.specs.Int.{bit_at}
 use Rattle.theory.specs.Sets.{among, digit, union, within}
 
 -- ---- union
 
-max_assoc : (a b c : ℕ) → max (max a b) c ≡ max a (max b c)
-max_assoc a b c = omega arith
-
-pub or_half : (a b : ℕ) → union a b / 2 ≡ union (a / 2) (b / 2)
-or_half a b = or_shr a b 1
-
-pub or_odd : (a b : ℕ) → union a b % 2 ≡ max (a % 2) (b % 2)
-or_odd a b = omega (arith, or_step a b)
-
 pub or_assoc : (a b c : ℕ) → union (union a b) c ≡ union a (union b c)
-or_assoc =
-    bin_ind (λ (a : ℕ). (b c : ℕ) → union (union a b) c ≡ union a (union b c)) (λ b c. refl)
-    (λ a ih b c. or_step (union a b) c
-    ∙ ap₂ (λ (x y : ℕ). x * 2 + y)
-    (ap (λ (x : ℕ). union x (c / 2)) (or_half a b) ∙ ih (b / 2) (c / 2) ∙ ap (union (a / 2)) (sym (or_half b c)))
-    (ap (λ (x : ℕ). max x (c % 2)) (or_odd a b) ∙ max_assoc (a % 2) (b % 2) (c % 2) ∙ ap (max (a % 2)) (sym (or_odd b c)))
-    ∙ sym (or_step a (union b c)))
+or_assoc a b c =
+    same_from_bits (union (union a b) c) (union a (union b c))
+    (λ i. omega (arith, bit_at_or (union a b) c i, bit_at_or a b i, bit_at_or a (union b c) i, bit_at_or b c i))
 
 -- ---- within
 
@@ -66,8 +54,5 @@ pub among_within : (F E n : ℕ) → within F E ≡ true → among F n ≡ true 
 unfolding among digit
 among_within F E zero h m = m
 among_within F E (suc i) h m =
-    let x : ℕ = F / 2 ^ i in
-    let y : ℕ = E / 2 ^ i in
-    let e : union x y ≡ y = sym (or_shr F E i) ∙ ap (λ (z : ℕ). z / 2 ^ i) (within_or F E h) in
-    let o : x % 2 ≡ 1 = eqb-true (x % 2) 1 m in
-    eq-eqb (y % 2) 1 (omega (arith, or_odd x y, ap (λ (z : ℕ). z % 2) e))
+    let o = eqb-true (bit_at F i) 1 m in
+    eq-eqb (bit_at E i) 1 (omega (arith, o, bit_at_or F E i, ap (λ (z : ℕ). bit_at z i) (within_or F E h), bit_at-lt E i))

@@ -1,41 +1,40 @@
 -- Stage 0, and the selection that makes a stage of the one before. Assumes nothing.
-use mathlib.Core.Bool.{not, true}
+use mathlib.Core.Bool.{false, not, true}
 use mathlib.Core.List.Memᴰ
 use mathlib.Core.List.Memᴰ.{head as here}
 use mathlib.Core.List.{List, Memᴰ as Mem, [], ◌∷◌}
+use mathlib.Core.Logic.{◌⊎◌, ⊎_elim}
 use mathlib.Core.Path.{◌∙◌, ◌≡◌, ap, refl, subst, sym}
-use Prim.Native.Nat.{◌%◌, ◌/◌, ◌<◌, ◌^◌, ◌≤◌, suc, zero, ℕ}
-use native.Mathlib.Nat.{div-div-eq-div-mul, div_self, pow-succ'}
+use Prim.Native.Nat.{◌<◌, ◌^◌, ◌≤◌, max, suc, zero, ℕ}
 use native.Mathlib.Omega.{arith}
-use lib.Bits.{or_step}
 use lib.Dec.{eqb}
-use lib.Pow.{pow-lt, pow_mono, pow_pos}
-use borrow.Author.Tests.{eqb-true, not-true}
+use lib.Pow.{pow-lt, pow_mono}
+use borrow.Author.Tests.{eq-eqb, eqb-false, eqb-true, not-true}
+use Rattle.std.proofs.lemmas.Nat.Bits.{bit_at-pow_other, bit_at-pow_same, bit_at_or, same_from_bits}
+use Rattle.std.specs.Int.{bit_at}
 use Rattle.theory.proofs.Label.{inconsistent, label_below, label_elim, label_intro, nogood_below, nogood_elim}
-use Rattle.theory.proofs.Lists.{clash}
+use Rattle.theory.proofs.Lists.{clash, either}
 use Rattle.theory.proofs.Order.{label_sorted, nogoods_sorted, sorted_unique}
 use Rattle.theory.proofs.Select.{Selection}
-use Rattle.theory.proofs.Sets.{or_within, within_antisym, within_le, within_or}
+use Rattle.theory.proofs.Sets.{or_within, within_antisym, within_le}
 use Rattle.theory.proofs.Step.{label_sound, label_step, label_cands, nogood_sound, nogood_step, nogood_cands}
 use Rattle.theory.specs.Lists.{all_of, sorted_by}
 use Rattle.theory.specs.Sets.{among, contains, digit, union, within}
 use Rattle.theory.specs.Stages.{Justification, follows, label_at, nogoods_at}
 
--- a set has the digit i if and only if 2 ^ i lies within it
+-- a set that has the digit i has 2 ^ i within it
 pub digit_within : (i E : ℕ) → digit E i ≡ true → within (2 ^ i) E ≡ true
 unfolding digit
-digit_within zero E h = or_within 1 E (omega (arith, or_step 1 E, eqb-true (E / 1 % 2) 1 h))
-digit_within (suc i) E h =
-    let e : E / 2 / 2 ^ i ≡ E / 2 ^ suc i = div-div-eq-div-mul E 2 (2 ^ i) ∙ ap (λ (x : ℕ). E / x) (sym (pow-succ' 2 i)) in
-    let w : within (2 ^ i) (E / 2) ≡ true = digit_within i (E / 2) (subst (λ (x : ℕ). eqb (x % 2) 1 ≡ true) (sym e) h) in
-    let half : 2 ^ suc i / 2 ≡ 2 ^ i = omega arith in
-    let even : 2 ^ suc i % 2 ≡ 0 = omega arith in
-    let o : union (2 ^ suc i / 2) (E / 2) ≡ E / 2 = rw half (within_or (2 ^ i) (E / 2) w) in
-    or_within (2 ^ suc i) E (omega (arith, or_step (2 ^ suc i) E))
+digit_within i E h = or_within (2 ^ i) E (same_from_bits (union (2 ^ i) E) E (λ k. bit_at_or (2 ^ i) E k ∙ at k (either (eqb k i))))
+  where
+    at : (k : ℕ) → (eqb k i ≡ true) ⊎ (eqb k i ≡ false) → max (bit_at (2 ^ i) k) (bit_at E k) ≡ bit_at E k
+    at k = ⊎_elim
+        (λ e. subst (λ (j : ℕ). max (bit_at (2 ^ i) j) (bit_at E j) ≡ bit_at E j) (sym (eqb-true k i e)) (omega (arith, bit_at-pow_same i, eqb-true (bit_at E i) 1 h)))
+        (λ e. omega (arith, bit_at-pow_other i k (eqb-false k i e)))
 
 pub digit_self : (i : ℕ) → digit (2 ^ i) i ≡ true
 unfolding digit
-digit_self i = rw (div_self (pow_pos i)) refl
+digit_self i = eq-eqb (bit_at (2 ^ i) i) 1 (bit_at-pow_same i)
 
 -- ---- the selections
 module _ (A : ℕ) (J : List Justification) (k : ℕ) where

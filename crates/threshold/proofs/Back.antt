@@ -1,16 +1,14 @@
 -- What crossed, read back: so nothing is lost. Assumes nothing.
+use Rattle.std.specs.Prelude.{Option, Some, None, Result, Ok, Err}
 use mathlib.Core.Bool.{Bool, ◌||◌, false, not, true}
 use mathlib.Core.List.{List, ◌++◌}
-use mathlib.Core.Option.{Option, none, some}
 use mathlib.Core.Path.{◌≡◌, ◌∙◌, ap, refl, sym}
 use Prim.Native.Nat.{◌+◌, ℕ, suc, zero}
 use lib.Dec.{eqb, leb, ltb}
 use lib.ListN.{drop, get_or, length}
 use Rattle.asking.specs.Asking.{context_reply, first_in, member_at, member_of, question_of, reasoned, standing}
 use Rattle.asking.specs.declared.Answer.{Answer}
-use Rattle.asking.specs.declared.Answer.TheVariants.{Inconsistent, Refused, Supported, Unsupported}
-use Rattle.asking.specs.declared.Found.{Found}
-use Rattle.asking.specs.declared.Found.TheVariants.{Is, Not}
+use Rattle.asking.specs.declared.Answer.TheVariants.{Inconsistent, Supported, Unsupported}
 use Rattle.casefile.specs.declared.Loaded.{Loaded}
 use Rattle.across.specs.Across.{found_by, loaded_by, made_by, named_or0, plainly_by, reasoned_by, wrote_by}
 use Rattle.across.specs.declared.Kept.{Kept}
@@ -18,12 +16,11 @@ use Rattle.across.specs.declared.Reasoned.{Reasoned}
 use Rattle.across.specs.declared.Told.{Told}
 use Rattle.lent.specs.Lent.{Wrote, fitted, kept}
 use Rattle.lines.specs.Lines.{case_text, heading_of, line_of, line_text}
-use Rattle.lent.specs.declared.Written.{Written}
-use Rattle.lent.specs.declared.Written.TheVariants.{Length, Refused as Unwritten}
+use Rattle.std.proofs.Common.{Result, Ok, Err}
 use Rattle.listing.specs.Listing.{listed_of, listing_text}
 use Rattle.plain.specs.Plainly.{plain_by, plain_of}
 use Rattle.plain.specs.declared.Plain.{Plain}
-use Rattle.plain.specs.declared.Plain.TheVariants.{Inconsistent as Contradicted, Refused as Unasked, Supported as Followed, Unsupported as Unreached}
+use Rattle.plain.specs.declared.Plain.TheVariants.{Inconsistent as Contradicted, Supported as Followed, Unsupported as Unreached}
 use Rattle.replies.specs.Replies.{number_of}
 use Rattle.rules.specs.Held.{said_by}
 use Rattle.replies.specs.declared.Reply.{Reply}
@@ -114,57 +111,58 @@ loaded l k =
 
 -- ---- question: an answer that is no refusal reads back, and so do the refusals 2 and 4
 
-abbrev answer_by : ℕ → ℕ → ℕ → Answer
-answer_by zero zero E = Unsupported
-answer_by zero (suc zero) E = Supported E
-answer_by zero (suc (suc a)) E = Inconsistent E
-answer_by (suc k) a E = Refused (reply_of (suc k) 0)
+abbrev answer_by : ℕ → ℕ → ℕ → Result Answer Reply
+answer_by zero zero E = Ok Unsupported
+answer_by zero (suc zero) E = Ok (Supported E)
+answer_by zero (suc (suc a)) E = Ok (Inconsistent E)
+answer_by (suc k) a E = Err (reply_of (suc k) 0)
 
-abbrev pub answer_of : Reasoned → Answer
+abbrev pub answer_of : Reasoned → Result Answer Reply
 answer_of r = answer_by r.reply r.answer r.reason
 
-reasoned_back : (g f : Option ℕ) → answer_of (reasoned_by (reasoned g f)) ≡ reasoned g f
-reasoned_back (some G) f = refl
-reasoned_back none (some F) = refl
-reasoned_back none none = refl
+reasoned_back : (g f : Option ℕ) → answer_of (reasoned_by (Ok (reasoned g f))) ≡ Ok (reasoned g f)
+reasoned_back (Some G) f = refl
+reasoned_back None (Some F) = refl
+reasoned_back None None = refl
 
-abbrev Asked : Answer → Type 0
+abbrev Asked : Result Answer Reply → Type 0
 Asked a = answer_of (reasoned_by a) ≡ a
 
-standing_back : (l : Lists) (n E : ℕ) → Asked (standing l n E)
+standing_back : (l : Lists) (n E : ℕ) → Asked (Ok (standing l n E))
 unfolding standing
 standing_back l n E = reasoned_back (first_in (nogoods_held l) E) (first_in (label_held l n) E)
 
 pub question_back : (s : Store) (n E : ℕ) → Asked (question_of s n E)
 unfolding question_of
 question_back s n E =
-    let later = choose (ltb (top s.held) n || not (in_range s.held.assumptions E)) (Refused Number) (standing s.lists n E) in
-    chosen Asked (not (right_shape s)) (Refused Shape) later refl
-    (chosen Asked (ltb (top s.held) n || not (in_range s.held.assumptions E)) (Refused Number) (standing s.lists n E) refl (standing_back s.lists n E))
+    let later = choose (ltb (top s.held) n || not (in_range s.held.assumptions E)) (Err Number) (Ok (standing s.lists n E)) in
+    chosen Asked (not (right_shape s)) (Err Shape) later refl
+    (chosen Asked (ltb (top s.held) n || not (in_range s.held.assumptions E)) (Err Number) (Ok (standing s.lists n E)) refl (standing_back s.lists n E))
 
 -- ---- the plain question
 
-abbrev pub plain_from : ℕ → ℕ → Plain
-plain_from zero zero = Unreached
-plain_from zero (suc zero) = Followed
-plain_from zero (suc (suc a)) = Contradicted
-plain_from (suc k) a = Unasked (reply_of (suc k) 0)
+abbrev pub plain_from : ℕ → ℕ → Result Plain Reply
+plain_from zero zero = Ok Unreached
+plain_from zero (suc zero) = Ok Followed
+plain_from zero (suc (suc a)) = Ok Contradicted
+plain_from (suc k) a = Err (reply_of (suc k) 0)
 
-abbrev pub Plainly : Plain → Type 0
+abbrev Plainly : Result Plain Reply → Type 0
 Plainly a = plain_from (plainly_by a).reply (plainly_by a).value ≡ a
 
-pub by_following : (J : List Justification) (E n : ℕ) → Plainly (plain_by J E n)
+by_following : (J : List Justification) (E n : ℕ) → Plainly (Ok (plain_by J E n))
 unfolding plain_by
 by_following J E n =
-    chosen Plainly (contradicts J E) Contradicted (choose (carries J E n) Followed Unreached) refl
-    (chosen Plainly (carries J E n) Followed Unreached refl refl)
+    let says : Plain → Type 0 = λ w. Plainly (Ok w) in
+    chosen says (contradicts J E) Contradicted (choose (carries J E n) Followed Unreached) refl
+    (chosen says (carries J E n) Followed Unreached refl refl)
 
 pub plainly_back : (s : Store) (n E : ℕ) → Plainly (plain_of s n E)
 unfolding plain_of
 plainly_back s n E =
-    let last = plain_by (said_by s.held) E n in
-    chosen Plainly (not (right_shape s)) (Unasked Shape) (choose (ltb (top s.held) n || not (in_range s.held.assumptions E)) (Unasked Number) last) refl
-    (chosen Plainly (ltb (top s.held) n || not (in_range s.held.assumptions E)) (Unasked Number) last refl (by_following (said_by s.held) E n))
+    let last : Result Plain Reply = Ok (plain_by (said_by s.held) E n) in
+    chosen Plainly (not (right_shape s)) (Err Shape) (choose (ltb (top s.held) n || not (in_range s.held.assumptions E)) (Err Number) last) refl
+    (chosen Plainly (ltb (top s.held) n || not (in_range s.held.assumptions E)) (Err Number) last refl (by_following (said_by s.held) E n))
 
 -- ---- context
 
@@ -183,14 +181,14 @@ replied_back s E room = context_back (not (right_shape s)) (not (in_range s.held
 
 -- ---- member
 
-abbrev found_from : ℕ → ℕ → Found
-found_from zero E = Is E
-found_from (suc k) E = Not (reply_of (suc k) 0)
+abbrev found_from : ℕ → ℕ → Result ℕ Reply
+found_from zero E = Ok E
+found_from (suc k) E = Err (reply_of (suc k) 0)
 
-abbrev pub found_of : Told → Found
+abbrev pub found_of : Told → Result ℕ Reply
 found_of t = found_from t.reply t.value
 
-found_back : (b c d : Bool) (E : ℕ) → found_of (found_by (choose b (Not Shape) (choose c (Not Number) (choose d (Not Place) (Is E))))) ≡ choose b (Not Shape) (choose c (Not Number) (choose d (Not Place) (Is E)))
+found_back : (b c d : Bool) (E : ℕ) → found_of (found_by (choose b (Err Shape) (choose c (Err Number) (choose d (Err Place) (Ok E))))) ≡ choose b (Err Shape) (choose c (Err Number) (choose d (Err Place) (Ok E)))
 found_back true c d E = refl
 found_back false true d E = refl
 found_back false false true E = refl
@@ -202,11 +200,11 @@ member_back s n place = found_back (not (right_shape s)) (ltb (top s.held) n) (l
 
 -- ---- texts
 
-abbrev pub written_from : ℕ → ℕ → Written
-written_from zero n = Length n
-written_from (suc k) n = Unwritten (reply_of (suc k) 0)
+abbrev pub written_from : ℕ → ℕ → Result ℕ Reply
+written_from zero n = Ok n
+written_from (suc k) n = Err (reply_of (suc k) 0)
 
-abbrev pub written_of : Told → Written
+abbrev pub written_of : Told → Result ℕ Reply
 written_of t = written_from t.reply t.value
 
 abbrev Back : Wrote → Type 0
@@ -214,7 +212,7 @@ Back w = written_of (wrote_by w.answer) ≡ w.answer
 
 pub fitted_back : (t out : List ℕ) → Back (fitted t out)
 unfolding fitted
-fitted_back t out = chosen Back (ltb (length out) (length t)) (kept Short out) (record { answer = Length (length t); bytes = t ++ drop (length t) out }) refl refl
+fitted_back t out = chosen Back (ltb (length out) (length t)) (kept Short out) (record { answer = Ok (length t); bytes = t ++ drop (length t) out }) refl refl
 
 -- after a look at the shape
 shaped_back : (b : Bool) (out : List ℕ) (w : Wrote) → Back w → Back (choose b (kept Shape out) w)

@@ -2,14 +2,12 @@
 use mathlib.Core.Bool.{Bool, ◌&&◌}
 use mathlib.Core.List.{List, [], ◌∷◌}
 use mathlib.Core.Path.{◌≡◌, refl}
-use Prim.Native.Nat.{◌*◌, ◌+◌, ◌-◌, ◌<◌, ◌≤◌, suc, zero, ℕ}
+use Prim.Native.Nat.{◌<◌, ◌≤◌, suc, zero, ℕ}
 use native.Mathlib.Omega.{arith}
 use lib.Dec.{eqb}
-use lib.ListN.{drop, get_or, length, take}
-use Rattle.wording.specs.Wording.{line_with, word_of}
-use Rattle.stages.specs.declared.Lists.{Lists}
-use Rattle.text.specs.Texts.{row, word}
-use Rattle.theory.specs.Limits.{limits}
+use lib.ListN.{length}
+use Rattle.wording.specs.Wording.{word_of}
+use Rattle.text.specs.Texts.{word}
 use Rattle.theory.specs.Lists.{choose}
 
 -- ---- the word
@@ -37,20 +35,4 @@ word_told zero l c h = absurd (h refl)
 word_told (suc i) [] c h = refl
 word_told (suc i) (E ∷ l) c h = refl
 
--- ---- the list
-
-module _ (t : Lists) where
-  pub text_nogoods : (n : ℕ) (c : Bool) → n ≡ 0 → line_with t n c ≡ row limits.assumptions n (word_of n (take t.count t.nogoods) c) (take t.count t.nogoods)
-  unfolding line_with
-  text_nogoods n c e = rw e
-
-  abbrev pub label_of : ℕ → List ℕ
-  label_of i = take (limits.label * i + get_or t.sizes i 0 - limits.label * i) (drop (limits.label * i) t.members)
-
-  pub text_label : (n : ℕ) (c : Bool) → (n ≡ 0 → ⊥) → line_with t n c ≡ row limits.assumptions n (word_of n (label_of (n - 1)) c) (label_of (n - 1))
-  unfolding line_with
-  text_label zero c h = absurd (h refl)
-  text_label (suc i) c h =
-      let e : suc i - 1 ≡ i = omega arith in
-      let f : limits.label * i + get_or t.sizes i 0 - limits.label * i ≡ get_or t.sizes i 0 = omega arith in
-      rw (e, f)
+pub ruleset words = (word_nogood, word_none, word_some)

@@ -3,46 +3,69 @@
 
 ghost use Rattle.std.specs.Prelude.{true, ◌≡◌, ◌≤◌};
 ghost use Rattle.theory.specs.Limits.{limits};
+ghost use Rattle.store.specs.Reading.{list_held};
 ghost use Rattle.store.specs.Shape.{right_shape};
-ghost use Rattle.text.specs.Texts.{row};
-ghost use Rattle.text.specs.Writing.{Put, Room};
+ghost use Rattle.text.specs.Texts.{heading};
+ghost use Rattle.text.specs.Writer.{Room, added};
 ghost use Rattle.wording.specs.Wording.{line_with, word_of};
 
 use sets::Set;
 use store::Store;
+use text::Writer;
 use theory::LABEL;
 
-// The text of the line of n with its list; follows tells whether n follows from all assumptions together.
-fn worded(n: u32, list: &[Set], follows: bool, out: &mut [u8]) -> usize
-    requires { Room (row limits.assumptions n (word_of n list.now follows) list.now) 0 out.old }
-    ensures { Put (row limits.assumptions n (word_of n list.now follows) list.now) 0 out.old out.new result }
+// The nogoods where n is 0, else the label of n. That the shape is right is a clause and no type, here and in lines and listing: each call looks at it
+// once and then writes, and a type round a store would be made for that one call.
+fn list_of(store: &Store, n: u32) -> &[Set]
+    requires { (right_shape store.now ≡ true) × (n ≤ limits.numbers) }
+    ensures { result.now ≡ list_held store.now.lists n }
+{
+    let lists = &store.lists;
+    if n == 0 {
+        let nogoods: &[Set] = &lists.nogoods;
+        return &nogoods[..lists.count];
+    }
+    let i = (n - 1) as usize;
+    &lists.members[LABEL * i..][..lists.sizes[i] as usize]
+}
+
+// The word of n with its list; follows tells whether n follows from all assumptions together.
+#[tactic(auto, using(crate::proofs::Rows::words), unfolding(text::specs::Texts::word))]
+fn word(n: u32, list: &[Set], follows: bool) -> &'static [u8]
+    ensures { result.now ≡ word_of n list.now follows }
 {
     if n == 0 {
-        return text::line(n, b" nogood", list, out);
+        return b" nogood";
     }
-    if 0 < list.len() {
-        return text::line(n, b" supported", list, out);
+    if !list.is_empty() {
+        return b" supported";
     }
     if follows {
-        return text::line(n, b" contradicted", list, out);
+        return b" contradicted";
     }
-    text::line(n, b" unsupported", list, out)
+    b" unsupported"
 }
 
 // The text of the line of n; the shape was looked at. Where the label is empty, follows tells whether n follows from all assumptions together.
-pub fn lined(store: Store, n: u32, follows: bool, out: &mut [u8]) -> usize
-    requires { (right_shape store ≡ true) × (n ≤ limits.numbers) × Room (line_with store.lists n follows) 0 out.old }
-    ensures { Put (line_with store.lists n follows) 0 out.old out.new result }
+#[tactic(auto, unfolding(crate::specs::Wording::line_with))]
+pub fn lined(store: &Store, n: u32, follows: bool, writer: &mut Writer)
+    requires { (right_shape store.now ≡ true) × (n ≤ limits.numbers) × Room (line_with store.now.lists n follows) writer.old }
+    ensures { writer.new ≡ added (line_with store.now.lists n follows) writer.old }
 {
-    let lists = store.lists;
-    if n == 0 {
-        let count = lists.count;
-        let nogoods = lists.nogoods;
-        return worded(n, &nogoods[..count], follows, out);
-    }
-    let i = (n - 1) as usize;
-    let from = LABEL * i;
-    let to = from + lists.sizes[i] as usize;
-    let members = lists.members;
-    worded(n, &members[from..to], follows, out)
+    let list = list_of(store, n);
+    writer.line(n, word(n, list, follows), list);
+}
+
+// Line one of the listing; the shape was looked at.
+pub fn head(store: &Store, writer: &mut Writer)
+    requires { (right_shape store.now ≡ true) × Room (heading store.now.held.assumptions store.now.held.claims store.now.held.count store.now.lists.depth) writer.old }
+    ensures { writer.new ≡ added (heading store.now.held.assumptions store.now.held.claims store.now.held.count store.now.lists.depth) writer.old }
+{
+    let held = &store.held;
+    writer.head(
+        held.assumptions.into(),
+        held.claims.into(),
+        held.count as u32,
+        store.lists.depth.into(),
+    );
 }

@@ -1,40 +1,20 @@
--- `asking::fill` meets its contract. The invariant: the bytes so far. Assumes nothing.
-use mathlib.Core.List.{List, ◌++◌}
-use mathlib.Core.Path.{◌∙◌, ◌≡◌, ap, refl}
-use Prim.Native.Nat.{◌+◌, ℕ}
-use native.Mathlib.Omega.{arith}
-use lib.ListN.{drop, length, length-set, set}
-use Rattle.asking.proofs.Laws.{byte_at, bytes_told, fill_more, fill_none}
-use Rattle.following.proofs.Sowing.{marks_long}
-use Rattle.rules.specs.Held.{said_by}
-use Rattle.theory.specs.Demands.{follows_from_all}
-use Rattle.theory.specs.Limits.{limits}
-use Rattle.theory.specs.Places.{table}
+-- `asking::fill` meets its contract. Assumes nothing.
+use Rattle.std.proofs.Common.{◌<◌, ◌≢◌, ◌∙◌, length, arith, get_or-set_other, get_or-set_same, below_more}
+use Rattle.asking.proofs.Laws.{byte_told, marks_all}
+use Rattle.asking.specs.Asking.{byte_of, standing}
+use Rattle.store.specs.Reading.{contradicted_in}
+use Rattle.theory.proofs.Places.{is_table}
 use Rattle.asking.proofs.fill.Goals as goal
 
-pub loop-i-init : goal.loop-i-init
-loop-i-init c = (omega arith, refl, fill_none _ _)
+pub bounds-marks-n : goal.bounds-marks-n
+bounds-marks-n c = omega (arith, marks_all c.args.store.now.held c.args.marks.now c.requires.1, c.requires.2)
 
-pub bounds-marks-i : goal.bounds-marks-i
-bounds-marks-i c = omega (arith, (let long : length c.args.marks.now ≡ limits.numbers + 1 = ap length c.requires.1 ∙ marks_long (follows_from_all c.args.store.held.assumptions (said_by c.args.store.held)) in long), c.loop-i-test.true, c.requires.2)
-
-pub byte-requires : goal.byte-requires
-byte-requires c = (c.requires.0, omega (arith, c.loop-i-test.true, c.requires.2))
-
-pub bounds-out-i : goal.bounds-out-i
-bounds-out-i c = omega (arith, c.loop-i-test.true, c.loop-i.invariant.1, c.requires.3)
-
-pub loop-i-preserved : goal.loop-i-preserved
-loop-i-preserved c =
-    let l = c.loop-i in
-    (omega (arith, c.loop-i-test.true), length-set l.out l.i c.byte.result ∙ l.invariant.1, ap (λ (x : List ℕ). set x l.i c.byte.result) l.invariant.2 ∙ fill_more (byte_at c.args.store.lists c.args.marks.now c.args.e) c.args.out.now l.i _ (omega (arith, c.loop-i-test.true, c.requires.3)) c.byte.ensures)
-
-pub shape_of-out : goal.shape_of-out
-shape_of-out c = c.loop-i.invariant.1
+pub loop-n-preserved : goal.loop-n-preserved
+loop-n-preserved c =
+    below_more _ _
+    (λ k h. let ne : k ≢ c.loop-n.n = omega arith in rw get_or-set_other (c.loop-n.invariant k h))
+    (let lt : c.loop-n.n < length c.loop-n.out = omega arith in
+    rw get_or-set_same (c.byte.ensures ∙ byte_told c.args.store.now c.args.marks.now c.args.e c.loop-n.n c.requires.1 (omega (arith, c.requires.2))))
 
 pub returns : goal.returns
-returns c =
-    let l = c.loop-i in
-    let e : l.i ≡ c.args.end = omega (arith, l.invariant.0, c.loop-i-test.false) in
-    l.invariant.2 ∙ ap (λ (n : ℕ). table n (byte_at c.args.store.lists c.args.marks.now c.args.e) ++ drop n c.args.out.now) e
-    ∙ ap (λ (b : List ℕ). b ++ drop c.args.end c.args.out.now) (bytes_told c.args.store c.args.marks.now c.args.e c.args.end c.requires.1 c.requires.2)
+returns c = is_table c.loop-n.out (length c.args.out.now) (λ n. byte_of (contradicted_in c.args.store.now n) (standing c.args.store.now.lists n c.args.e)) 0 (omega arith) (λ k h. c.loop-n.invariant k (omega arith))

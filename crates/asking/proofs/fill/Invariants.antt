@@ -1,14 +1,8 @@
--- `asking::fill` meets its contract. The invariant: the bytes so far. Assumes nothing.
-use mathlib.Core.List.{◌++◌}
-use mathlib.Core.Path.{◌≡◌}
-use Prim.Native.Nat.{◌-◌, ◌≤◌}
-use lib.ListN.{drop, length}
-use Rattle.asking.proofs.Laws.{byte_at}
-use Rattle.theory.specs.Places.{table}
+-- `asking::fill`: the bytes so far. Assumes nothing.
+use Rattle.std.proofs.Common.{◌≡◌, ℕ, ◌<◌, get_or}
+use Rattle.asking.specs.Asking.{byte_of, standing}
+use Rattle.store.specs.Reading.{contradicted_in}
 use Rattle.asking.proofs.fill.Given as goal
 
-abbrev pub invariant-loop-i : goal.invariant-loop-i
-invariant-loop-i l = (l.i ≤ l.end) × (length l.out ≡ length l.initial.out) × (l.out ≡ table l.i (byte_at l.lists l.marks l.e) ++ drop l.i l.initial.out)
-
-abbrev pub decreases-loop-i : goal.decreases-loop-i
-decreases-loop-i l = l.end - l.i
+abbrev pub invariant-loop-n : goal.invariant-loop-n
+invariant-loop-n l = (k : ℕ) → k < l.n → get_or l.out k 0 ≡ byte_of (contradicted_in l.store k) (standing l.store.lists k l.e)

@@ -1,27 +1,35 @@
--- `bare::follow` meets its contract. Assumes nothing.
-use mathlib.Core.Path.{◌≡◌}
-use Prim.Native.Nat.{◌+◌}
-use native.Mathlib.Omega.{arith}
-use lib.ListN.{length}
-use Rattle.bare.proofs.Steps.{follow_is, low}
-use borrow.Author.Rules.{rules}
-use Rattle.theory.specs.Limits.{limits}
+-- `bare::follow` meets its contract: after a stage that marks nothing new, or after as many as there are numbers, nothing follows. Assumes nothing.
+use Rattle.std.proofs.Common.{◌∙◌, ◌+◌, ap, sym, ℕ, arith}
+use mathlib.Core.List.{List}
+use Rattle.std.specs.Cmp.Lexicographic.{same_text}
+use Rattle.bare.proofs.Items.{bare_placed}
+use Rattle.bare.specs.Bare.{barely}
+use Rattle.following.proofs.First.{pass_plus, pass_still, since_last, sown_at}
+use Rattle.following.specs.Marks.{pass_over}
 use Rattle.bare.proofs.follow.Goals as goal
 
-pub bounds-marks-n : goal.bounds-marks-n
-bounds-marks-n c = let a = c.args in let e : length a.chase.marks ≡ limits.numbers + 1 = search rules in omega (arith, e, low a.chase.top a.item c.requires.1, c.requires.0.top)
+pub loop-k-init : goal.loop-k-init
+loop-k-init c = c.sown-marks.ensures ∙ sown_at (barely c.args.top c.args.list.now) c.args.e
 
-pub mark-now-requires : goal.mark-now-requires
-mark-now-requires c = (c.requires.0.top, c.requires.0.low, c.requires.1)
+pub returns-then-eq : goal.returns-then-eq
+returns-then-eq c =
+    let a = c.args in
+    let l = c.loop-k in
+    let J = barely a.top a.list.now in
+    let placed = bare_placed a.top c.requires.0 a.list.now c.requires.1 in
+    let same = same_text c.pass-next.result l.marks (sym c.if-eq.true ∙ c.eq.ensures) in
+    l.invariant
+    ∙ pass_still J placed a.e l.k (omega arith)
+    (ap (λ (m : List ℕ). pass_over l.k (l.k + 1) m J) (sym l.invariant) ∙ sym c.pass-next.ensures ∙ same ∙ l.invariant)
 
-pub bounds-marks-n-2 : goal.bounds-marks-n-2
-bounds-marks-n-2 c = let a = c.args in let e : length a.chase.marks ≡ limits.numbers + 1 = search rules in omega (arith, e, low a.chase.top a.item c.requires.1, c.requires.0.top)
-
-pub onward-requires : goal.onward-requires
-onward-requires c = c.requires.0
+pub loop-k-preserved : goal.loop-k-preserved
+loop-k-preserved c =
+    let a = c.args in
+    let J = barely a.top a.list.now in
+    c.pass-next.ensures ∙ ap (λ (m : List ℕ). pass_over c.loop-k.k (c.loop-k.k + 1) m J) c.loop-k.invariant
+    ∙ pass_plus J (bare_placed a.top c.requires.0 a.list.now c.requires.1) a.e c.loop-k.k (omega arith)
 
 pub returns : goal.returns
 returns c =
     let a = c.args in
-    let e : length a.chase.marks ≡ limits.numbers + 1 = search rules in
-    follow_is a.chase a.item _ _ _ (omega (arith, e, low a.chase.top a.item c.requires.1, c.requires.0.top)) c.mark-now.ensures c.fresh-new.ensures c.onward.ensures
+    c.loop-k.invariant ∙ since_last (barely a.top a.list.now) (bare_placed a.top c.requires.0 a.list.now c.requires.1) a.e c.loop-k.k (omega arith)

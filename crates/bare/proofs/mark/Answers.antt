@@ -23,7 +23,7 @@ pub overflow_add-k : goal.overflow_add-k
 overflow_add-k c = omega (arith, c.requires.1)
 
 pub mark-requires : goal.mark-requires
-mark-requires c = let a = c.args in let f = entry_fits a.top a.item c.requires.2 _ c.canonical-entry.ensures c.requires.0 in (f.0, f.1, f.2, search rules)
+mark-requires c = let a = c.args in let f = entry_fits a.top a.item c.requires.2 _ c.canonical-entry.ensures c.requires.0 in record { few = f.0; low = f.1; placed = f.2 }
 
 pub returns : goal.returns
-returns c = let a = c.args in c.mark.ensures ∙ ap (mark_by a.k (a.k + 1) a.marks) (means a.top a.item c.requires.2 _ c.canonical-entry.ensures)
+returns c = let a = c.args in c.mark.ensures ∙ ap (mark_by a.k (a.k + 1) a.marks.now) (means a.top a.item c.requires.2 _ c.canonical-entry.ensures)

@@ -1,26 +1,23 @@
 -- `changing::more` meets its contract: the fault, then what is held. Assumes nothing.
 use mathlib.Core.Path.{◌∙◌, sym}
-use Rattle.changing.proofs.Laws.{Item, Told, faultless, item, more_done, more_fault, more_full, more_held}
-use Rattle.rules.proofs.Steps.{fitting_count}
+use Rattle.std.proofs.lemmas.Result.{err_from_is_err_and}
+use Rattle.changing.proofs.Laws.{item, more_done, more_fault, more_full, more_held}
 use Rattle.changing.proofs.more.Goals as goal
 
-pub returns-then-number-ne0 : goal.returns-then-number-ne0
-returns-then-number-ne0 c = let a = c.args in more_fault a.held a.consequent a.supports.now ((let told : Told c.args.held c.args.consequent c.args.supports.now c.fault-reply.result c.number.result = record { fault = c.fault-reply.ensures; number = c.number.ensures } in told)) c.if-number-ne0.true
-
-pub canonical-entry-requires : goal.canonical-entry-requires
-canonical-entry-requires c = (c.requires.1, faultless c.args.held c.args.consequent c.args.supports.now ((let told : Told c.args.held c.args.consequent c.args.supports.now c.fault-reply.result c.number.result = record { fault = c.fault-reply.ensures; number = c.number.ensures } in told)) c.if-number-ne0.false)
+pub returns-in_err-entry : goal.returns-in_err-entry
+returns-in_err-entry c = let p = err_from_is_err_and c.from_residual.result c.from_residual.ensures.1 in rw (p.1, p.2) (more_fault c.args.held c.args.consequent c.args.supports.now c.in_err-entry.ensures)
 
 pub holds-requires : goal.holds-requires
-holds-requires c = (c.requires.0, fitting_count _ _ ((let placed : let a = c.args in Item a.held a.consequent a.supports.now c.canonical-entry.result = let a = c.args in item a.held a.consequent a.supports.now ((let told : Told c.args.held c.args.consequent c.args.supports.now c.fault-reply.result c.number.result = record { fault = c.fault-reply.ensures; number = c.number.ensures } in told)) c.if-number-ne0.false c.canonical-entry.result c.canonical-entry.ensures in placed)).fits)
+holds-requires c = c.requires.0
 
 pub returns-then-holds : goal.returns-then-holds
-returns-then-holds c = let a = c.args in more_held a.held a.consequent a.supports.now ((let placed : let a = c.args in Item a.held a.consequent a.supports.now c.canonical-entry.result = let a = c.args in item a.held a.consequent a.supports.now ((let told : Told c.args.held c.args.consequent c.args.supports.now c.fault-reply.result c.number.result = record { fault = c.fault-reply.ensures; number = c.number.ensures } in told)) c.if-number-ne0.false c.canonical-entry.result c.canonical-entry.ensures in placed)) (sym c.holds.ensures ∙ c.if-holds.true)
+returns-then-holds c = let a = c.args in more_held a.held a.consequent a.supports.now (item _ _ _ c.in_ok-entry.ensures) (sym c.holds.ensures ∙ c.if-holds.true)
 
 pub returns-then-held-ge-HELD : goal.returns-then-held-ge-HELD
-returns-then-held-ge-HELD c = let a = c.args in more_full a.held a.consequent a.supports.now ((let placed : let a = c.args in Item a.held a.consequent a.supports.now c.canonical-entry.result = let a = c.args in item a.held a.consequent a.supports.now ((let told : Told c.args.held c.args.consequent c.args.supports.now c.fault-reply.result c.number.result = record { fault = c.fault-reply.ensures; number = c.number.ensures } in told)) c.if-number-ne0.false c.canonical-entry.result c.canonical-entry.ensures in placed)) (sym c.holds.ensures ∙ c.if-holds.false) c.if-held-ge-HELD.true
+returns-then-held-ge-HELD c = let a = c.args in more_full a.held a.consequent a.supports.now (item _ _ _ c.in_ok-entry.ensures) (sym c.holds.ensures ∙ c.if-holds.false) c.if-held-ge-HELD.true
 
 pub insert-requires : goal.insert-requires
-insert-requires c = (c.requires.0, c.if-held-ge-HELD.false, ((let placed : let a = c.args in Item a.held a.consequent a.supports.now c.canonical-entry.result = let a = c.args in item a.held a.consequent a.supports.now ((let told : Told c.args.held c.args.consequent c.args.supports.now c.fault-reply.result c.number.result = record { fault = c.fault-reply.ensures; number = c.number.ensures } in told)) c.if-number-ne0.false c.canonical-entry.result c.canonical-entry.ensures in placed)).fits)
+insert-requires c = let i = item _ _ _ c.in_ok-entry.ensures in (c.requires.0, c.if-held-ge-HELD.false, i.fits)
 
 pub returns : goal.returns
-returns c = let a = c.args in more_done a.held a.consequent a.supports.now ((let placed : let a = c.args in Item a.held a.consequent a.supports.now c.canonical-entry.result = let a = c.args in item a.held a.consequent a.supports.now ((let told : Told c.args.held c.args.consequent c.args.supports.now c.fault-reply.result c.number.result = record { fault = c.fault-reply.ensures; number = c.number.ensures } in told)) c.if-number-ne0.false c.canonical-entry.result c.canonical-entry.ensures in placed)) (sym c.holds.ensures ∙ c.if-holds.false) c.if-held-ge-HELD.false c.insert.result c.insert.ensures
+returns c = let a = c.args in more_done a.held a.consequent a.supports.now (item _ _ _ c.in_ok-entry.ensures) (sym c.holds.ensures ∙ c.if-holds.false) c.if-held-ge-HELD.false c.insert.result c.insert.ensures

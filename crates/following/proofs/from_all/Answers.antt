@@ -5,4 +5,4 @@ use Rattle.following.proofs.from_all.Goals as goal
 
 pub returns : goal.returns
 unfolding follows_from_all
-returns c = c.closed.ensures (together c.args.held.assumptions) c.all-start.ensures
+returns c = c.closed.ensures (together c.args.held.assumptions) c.all.ensures

@@ -1,36 +1,22 @@
--- `holds` meets its contract. The loop: it is held if it is held from here on. Assumes nothing.
-use mathlib.Core.Path.{◌∙◌, refl, sym}
-use native.Mathlib.Omega.{arith}
-use Rattle.holding.proofs.Steps.{held_end, held_hit, held_miss}
-use Rattle.rules.proofs.Scan.{right_count, right_elim, right_inside}
+-- `holds` meets its contract: one of the places in use says the same. Assumes nothing.
+use Rattle.std.proofs.Common.{◌∙◌, rules, tests}
+use Rattle.std.proofs.lemmas.Iterator.{YieldsList-from_slice}
+use Rattle.std.proofs.lemmas.Iterator.Search.{any_from_yields_List}
+use lib.ListN.{take}
+use Rattle.holding.proofs.Steps.{some_said}
+use Rattle.rules.proofs.Scan.{right_elim}
 use Rattle.rules.specs.Held.{meaning}
 use Rattle.rules.specs.Items.{same_justification}
+use Rattle.rules.specs.declared.Entry.{Entry}
+use Rattle.theory.proofs.Words.{some_is}
 use Rattle.holding.proofs.holds.Goals as goal
 
-pub offset_bounds-held-j : goal.offset_bounds-held-j
-offset_bounds-held-j c = omega (arith, (right_elim c.args.held c.requires.0).few)
-
-pub bounds-held-j : goal.bounds-held-j
-bounds-held-j c = omega (arith, (right_elim c.args.held c.requires.0).few)
-
-pub same-requires : goal.same-requires
-same-requires c =
-    (c.requires.1, right_count c.args.held c.requires.0 c.loop-j.j (omega arith))
-
-pub returns-then-same : goal.returns-then-same
-returns-then-same c =
-    let l = c.loop-j in
-    sym (l.invariant.1 ∙ held_hit c.args.held.entries c.args.held.count (right_inside c.args.held c.requires.0) (same_justification (meaning c.args.entry)) l.j (omega arith) (sym c.same.ensures ∙ c.if-same.true))
-
-pub loop-j-preserved : goal.loop-j-preserved
-loop-j-preserved c =
-    let l = c.loop-j in
-    (omega arith, l.invariant.1 ∙ held_miss c.args.held.entries c.args.held.count (right_inside c.args.held c.requires.0) (same_justification (meaning c.args.entry)) l.j (omega arith) (sym c.same.ensures ∙ c.if-same.false))
+pub shared_ref_as_front-iter : goal.shared_ref_as_front-iter
+shared_ref_as_front-iter c = (right_elim c.args.held c.requires).few
 
 pub returns : goal.returns
 returns c =
-    let l = c.loop-j in
-    sym (l.invariant.1 ∙ held_end c.args.held.entries c.args.held.count (right_inside c.args.held c.requires.0) (same_justification (meaning c.args.entry)) l.j (omega arith))
-
-pub loop-j-init : goal.loop-j-init
-loop-j-init c = (omega arith, refl)
+    let h = c.args.held in
+    let p = λ (t : Entry). same_justification (meaning c.args.entry) (meaning t) in
+    any_from_yields_List p _ _ _ c.any.ensures.ran (YieldsList-from_slice (take h.count h.entries) (search rules)) (λ x b q k. search (rules, tests))
+    ∙ some_is p (take h.count h.entries) ∙ some_said (same_justification (meaning c.args.entry)) (take h.count h.entries)

@@ -1,11 +1,9 @@
 -- `insert` meets its contract: put in its place, the others moved up. Assumes nothing.
-use Prim.Native.Nat.{◌+◌}
 use Rattle.holding.proofs.Putting.{place_held, put_held}
-use Rattle.rules.proofs.Steps.{fitting_count}
 use Rattle.holding.proofs.insert.Goals as goal
 
 pub place-at-requires : goal.place-at-requires
-place-at-requires c = (c.requires.0, fitting_count (c.args.held.assumptions + c.args.held.claims) c.args.entry c.requires.2)
+place-at-requires c = c.requires.0
 
 pub moved-requires : goal.moved-requires
 moved-requires c =

@@ -6,7 +6,4 @@ use Rattle.holding.specs.Placing.{with_entries}
 use Rattle.holding.proofs.moved.Given as goal
 
 abbrev pub invariant-loop-i : goal.invariant-loop-i
-invariant-loop-i l = (l.at ≤ l.i) × (l.i ≤ l.count) × Shifting l.initial.held.entries l.held.entries l.i l.count × (l.held ≡ with_entries l.initial.held l.count l.held.entries)
-
-abbrev pub decreases-loop-i : goal.decreases-loop-i
-decreases-loop-i l = l.i
+invariant-loop-i l = (l.at ≤ l.i) × Shifting l.initial.held.entries l.held.entries l.i l.count × (l.held ≡ with_entries l.initial.held l.count l.held.entries)

@@ -1,36 +1,21 @@
--- `place` meets its contract. The loop: its place is as many passed, and its place among the rest. Assumes nothing.
-use mathlib.Core.Path.{◌∙◌, sym}
-use native.Mathlib.Nat.{zero-add}
-use native.Mathlib.Omega.{arith}
-use Rattle.holding.proofs.Steps.{place_end, place_here, place_more}
-use Rattle.rules.proofs.Scan.{right_count, right_elim, right_inside}
+-- `place` meets its contract: those that stand before it are the first ones. Assumes nothing.
+use Rattle.std.proofs.Common.{rules, tests}
+use Rattle.std.proofs.lemmas.List.Sorted.{IsPartitionPoint-from_clause}
+use lib.ListN.{take}
+use Rattle.holding.proofs.Steps.{before_first, place_found}
+use Rattle.rules.proofs.Scan.{right_elim}
 use Rattle.rules.specs.Held.{meaning}
+use Rattle.rules.specs.declared.Entry.{Entry}
+use Rattle.theory.specs.Stages.{ahead}
 use Rattle.holding.proofs.place.Goals as goal
 
-pub loop-j-init : goal.loop-j-init
-loop-j-init c = (omega arith, sym (zero-add _))
-
-pub offset_bounds-held-j : goal.offset_bounds-held-j
-offset_bounds-held-j c = omega (arith, (right_elim c.args.held c.requires.0).few)
-
-pub bounds-held-j : goal.bounds-held-j
-bounds-held-j c = omega (arith, (right_elim c.args.held c.requires.0).few)
-
-pub comes-requires : goal.comes-requires
-comes-requires c =
-    (right_count c.args.held c.requires.0 c.loop-j.j (omega arith), c.requires.1)
-
-pub loop-j-preserved : goal.loop-j-preserved
-loop-j-preserved c =
-    let l = c.loop-j in
-    (omega arith, l.invariant.1 ∙ place_more c.args.held.entries c.args.held.count (right_inside c.args.held c.requires.0) (meaning c.args.entry) l.j (omega arith) (sym c.comes.ensures ∙ c.if-comes.true))
-
-pub returns-else-comes : goal.returns-else-comes
-returns-else-comes c =
-    let l = c.loop-j in
-    sym (l.invariant.1 ∙ place_here c.args.held.entries c.args.held.count (right_inside c.args.held c.requires.0) (meaning c.args.entry) l.j (omega arith) (sym c.comes.ensures ∙ c.if-comes.false))
+pub shared_ref_as_front-partition_point : goal.shared_ref_as_front-partition_point
+shared_ref_as_front-partition_point c = (right_elim c.args.held c.requires).few
 
 pub returns : goal.returns
 returns c =
-    let l = c.loop-j in
-    sym (l.invariant.1 ∙ place_end c.args.held.entries c.args.held.count (right_inside c.args.held c.requires.0) (meaning c.args.entry) l.j (omega arith))
+    let h = c.args.held in
+    let r = meaning c.args.entry in
+    let l = take h.count h.entries in
+    let w = IsPartitionPoint-from_clause (λ (t : Entry). ahead (meaning t) r) l _ c.partition_point.ensures.partitioned (before_first r l (right_elim h c.requires).order) (λ a b q k. search (rules, tests)) in
+    place_found r l _ c.partition_point.ensures.bound w.0 w.1

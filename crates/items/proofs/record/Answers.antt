@@ -1,20 +1,35 @@
--- `record` meets its contract: the faults of its first two numbers, too many supports, else the rest of it. Assumes nothing.
-use mathlib.Core.Path.{◌∙◌}
-use Rattle.items.proofs.Taken.{record_first, record_second, record_many, record_rest}
-use Rattle.numbers.proofs.Numbers.{pair_first, pair_second, value_from_lem}
+-- `record` meets its contract: the first fault decides, else the record is held as it is. Assumes nothing.
+use mathlib.Core.Path.{sym}
+use lib.Seq.{length-take-le}
+use Rattle.std.proofs.lemmas.Result.{err_from_is_err_and}
+use Rattle.items.proofs.Steps.{record_faulty, record_first, record_many, record_short, record_whole, zeros}
+use Rattle.replies.proofs.Checked.{checked_done}
 use Rattle.items.proofs.record.Goals as goal
 
-pub returns-then-count-gt-MOST_SUPPORTS : goal.returns-then-count-gt-MOST_SUPPORTS
-returns-then-count-gt-MOST_SUPPORTS c = c.unread-then-count-gt-MOST_SUPPORTS.ensures ∙ record_many _ _ _ _ _ (pair_first _ _ _ c.two-pair.ensures c.in-Value.is) _ _ (pair_second _ _ _ c.two-pair.ensures _ _ c.in-Value.is c.in-Value-second.is) c.if-count-gt-MOST_SUPPORTS.true
+pub returns-in_err-consequent : goal.returns-in_err-consequent
+returns-in_err-consequent c =
+    let p = err_from_is_err_and c.from_residual.result c.from_residual.ensures.1 in
+    rw (p.1, p.2) (record_first _ _ _ _ c.in_err-consequent.ensures)
 
-pub item-requires : goal.item-requires
-item-requires c = (c.requires, c.if-count-gt-MOST_SUPPORTS.false, (value_from_lem _ _ _ _ (pair_second _ _ _ c.two-pair.ensures _ _ c.in-Value.is c.in-Value-second.is)).1)
+pub returns-then-count-gt-SUPPORTS : goal.returns-then-count-gt-SUPPORTS
+returns-then-count-gt-SUPPORTS c = record_many _ _ _ _ _ c.in_ok-consequent.ensures c.if-count-gt-SUPPORTS.true
 
-pub returns-in-Bad : goal.returns-in-Bad
-returns-in-Bad c = c.unread.ensures ∙ record_first _ _ _ _ (pair_first _ _ _ c.two-pair.ensures c.in-Bad.is)
+pub returns-in_err-supports : goal.returns-in_err-supports
+returns-in_err-supports c =
+    let p = err_from_is_err_and c.from_residual-in_err-supports.result c.from_residual-in_err-supports.ensures.1 in
+    let few = c.if-count-gt-SUPPORTS.false in
+    rw (p.1, p.2) (record_short _ _ _ _ _ c.in_ok-consequent.ensures few _ _ (rw (length-take-le c.in_ok-consequent.count zeros few) at c.in_err-supports.ensures))
 
-pub returns-in-Bad-second : goal.returns-in-Bad-second
-returns-in-Bad-second c = c.unread-in-Bad-second.ensures ∙ record_second _ _ _ _ _ (pair_first _ _ _ c.two-pair.ensures c.in-Value.is) _ (pair_second _ _ _ c.two-pair.ensures _ _ c.in-Value.is c.in-Bad-second.is)
+pub returns-in_err-fault : goal.returns-in_err-fault
+returns-in_err-fault c =
+    let p = err_from_is_err_and c.from_residual-in_err-fault.result c.from_residual-in_err-fault.ensures.1 in
+    let few = c.if-count-gt-SUPPORTS.false in
+    rw (p.1, p.2) (record_faulty _ _ _ _ _ c.in_ok-consequent.ensures few _ _ (rw (length-take-le c.in_ok-consequent.count zeros few) at c.in_ok-supports.ensures) _ c.in_err-fault.ensures)
 
-pub returns-else-count-gt-MOST_SUPPORTS : goal.returns-else-count-gt-MOST_SUPPORTS
-returns-else-count-gt-MOST_SUPPORTS c = c.item.ensures ∙ record_rest _ _ _ _ _ (pair_first _ _ _ c.two-pair.ensures c.in-Value.is) _ _ (pair_second _ _ _ c.two-pair.ensures _ _ c.in-Value.is c.in-Value-second.is) c.if-count-gt-MOST_SUPPORTS.false
+pub canonical-entry-requires : goal.canonical-entry-requires
+canonical-entry-requires c = (c.requires, checked_done _ _ (sym c.in_ok-fault.ensures))
+
+pub returns : goal.returns
+returns c =
+    let few = c.if-count-gt-SUPPORTS.false in
+    record_whole _ _ _ _ _ c.in_ok-consequent.ensures few _ _ (rw (length-take-le c.in_ok-consequent.count zeros few) at c.in_ok-supports.ensures) _ c.in_ok-fault.ensures _ c.canonical-entry.ensures

@@ -1,20 +1,19 @@
--- `supports` meets its contract. The loop: the numbers read so far stand before those that the rest gives. Assumes nothing.
-use mathlib.Core.Path.{sym, ◌∙◌}
-use native.Mathlib.Omega.{arith}
-use Rattle.items.proofs.Steps.{partly_none, partly_bad, partly_more, partly_all}
+-- `supports` meets its contract. The loop: the places filled so far stand before what the rest gives. Assumes nothing.
+use mathlib.Core.Path.{refl}
+use Rattle.std.proofs.lemmas.Result.{err_from_is_err_and}
+use Rattle.items.proofs.Steps.{partly_all, partly_bad, partly_more, partly_none}
 use Rattle.items.proofs.supports.Goals as goal
 
-pub loop-i-init : goal.loop-i-init
-loop-i-init c = partly_none _ _ _ c.requires.1
+pub loop-place-init : goal.loop-place-init
+loop-place-init c = partly_none _ _ _ refl
 
-pub returns-in-Bad : goal.returns-in-Bad
-returns-in-Bad c = partly_bad _ _ _ _ _ _ c.loop-i.invariant c.loop-i-test.true _ (sym c.read.ensures ∙ c.in-Bad.is)
+pub returns-in_err-place : goal.returns-in_err-place
+returns-in_err-place c =
+    let p = err_from_is_err_and c.from_residual.result c.from_residual.ensures.1 in
+    rw (p.1, p.2) (partly_bad _ _ _ _ _ c.loop-place.invariant c.loop-place-test.true _ _ c.in_err-place.ensures)
 
-pub bounds-numbers-i : goal.bounds-numbers-i
-bounds-numbers-i c = omega (arith, c.requires.0)
-
-pub loop-i-preserved : goal.loop-i-preserved
-loop-i-preserved c = partly_more _ _ _ _ _ _ c.loop-i.invariant c.loop-i-test.true c.requires.0 _ _ (sym c.read.ensures ∙ c.in-Value.is)
+pub loop-place-preserved : goal.loop-place-preserved
+loop-place-preserved c = partly_more _ _ _ _ _ c.loop-place.invariant c.loop-place-test.true _ _ c.in_ok-place.ensures
 
 pub returns : goal.returns
-returns c = partly_all _ _ _ _ _ _ c.loop-i.invariant c.loop-i-test.false
+returns c = partly_all _ _ _ _ _ c.loop-place.invariant c.loop-place-test.false

@@ -1,13 +1,8 @@
 -- `labels::stirred` meets its contract. Assumes nothing.
-use mathlib.Core.Path.{◌≡◌}
-use Prim.Native.Nat.{◌-◌, ◌≤◌}
-use lib.ListN.{drop, take}
+use Rattle.std.proofs.Common.{◌≡◌, drop}
 use Rattle.labels.specs.Moved.{marked, stirs}
 use Rattle.theory.specs.Lists.{some_of}
 use Rattle.labels.proofs.stirred.Given as goal
 
-abbrev pub invariant-loop-i : goal.invariant-loop-i
-invariant-loop-i l = (l.i ≤ l.count) × (stirs l.moved (take l.count l.supports) ≡ some_of (marked l.moved) (drop l.i (take l.count l.supports)))
-
-abbrev pub decreases-loop-i : goal.decreases-loop-i
-decreases-loop-i l = l.count - l.i
+abbrev pub invariant-loop-s : goal.invariant-loop-s
+invariant-loop-s l = stirs l.moved l.s-items ≡ some_of (marked l.moved) (drop l.s-index l.s-items)

@@ -1,33 +1,14 @@
 -- `listed` meets its contract. Assumes nothing.
-use mathlib.Core.Path.{sym}
-use Rattle.lines.proofs.Follows.{followable}
+use Rattle.std.proofs.Common.{◌≡◌, ◌≤◌, ◌∙◌, ap, arith, length, refl, sym}
+use borrow.Author.Tests.{leb-true}
+use Rattle.lent.proofs.Fits.{fitted_long}
 use Rattle.listing.specs.Listing.{listing_text}
-use Rattle.listing.proofs.Laws.{listed_long, listed_room, listed_short}
-use Rattle.listing.proofs.Lines.{marked_long}
-use Rattle.text.specs.Writing.{Room}
+use Rattle.text.proofs.Added.{texts}
 use Rattle.listing.proofs.listed.Goals as goal
-
-pub from_all-marks-requires : goal.from_all-marks-requires
-from_all-marks-requires c = followable c.args.store c.requires
-
-pub slice_bounds-enough-end : goal.slice_bounds-enough-end
-slice_bounds-enough-end c = sym (marked_long c.args.store _ c.from_all-marks.ensures)
-
-pub enough-requires : goal.enough-requires
-enough-requires c = (c.requires, c.from_all-marks.ensures)
-
-pub returns-then-not-enough : goal.returns-then-not-enough
-returns-then-not-enough c = listed_short c.args.store c.args.out.now _ c.enough.ensures (c.if-not-enough.true)
-
-pub slice_bounds-whole-end : goal.slice_bounds-whole-end
-slice_bounds-whole-end c = sym (marked_long c.args.store _ c.from_all-marks.ensures)
-
-pub whole-length-requires : goal.whole-length-requires
-whole-length-requires c =
-    let room : Room (listing_text c.args.store) 0 c.args.out.now = listed_room c.args.store c.args.out.now _ c.enough.ensures (c.if-not-enough.false) in
-    (c.requires, c.from_all-marks.ensures, room)
 
 pub returns : goal.returns
 returns c =
-    let room : Room (listing_text c.args.store) 0 c.args.out.now = listed_room c.args.store c.args.out.now _ c.enough.ensures (c.if-not-enough.false) in
-    listed_long c.args.store c.args.out.now room c.whole-length.ensures
+    let same : listing_text c.of-page.result.store.now ≡ listing_text c.args.store = ap listing_text c.of-page.ensures in
+    let room : length (listing_text c.args.store) ≤ length c.args.out.now = omega (arith, leb-true _ _ (sym c.fits.ensures ∙ c.if-not-fits.false), ap length same) in
+    let whole = fitted_long (listing_text c.args.store) c.args.out.now room refl in
+    grind (arith, texts, whole)

@@ -1,31 +1,16 @@
 -- `members::first_within` meets its contract. Assumes nothing.
-use mathlib.Core.Path.{◌∙◌, ap, refl, sym}
-use native.Mathlib.Omega.{arith}
-use lib.ListN.{get_or}
-use Rattle.members.proofs.First.{first_here, first_none, first_on, none_out, some_out}
+use Rattle.std.proofs.Common.{◌∙◌, ap, sym, eqb, arith, ℕ}
+use Rattle.std.specs.List.{find}
+use Rattle.members.proofs.First.{found_by, placed_find, placed_none}
 use Rattle.sets.specs.Promised.{meet}
-use Rattle.theory.specs.Limits.{limits}
 use Rattle.members.proofs.first_within.Goals as goal
 
-pub loop-i-init : goal.loop-i-init
-loop-i-init c = (refl, omega arith, omega arith)
+pub returns-in-Some : goal.returns-in-Some
+returns-in-Some c =
+    sym (placed_find (λ a. eqb (meet a c.without.result) 0) c.args.list.now c.in-Some.place (sym c.place_without.ensures ∙ c.in-Some.is)) ∙ ap (λ (o : ℕ). find (λ a. eqb (meet a o) 0) c.args.list.now) c.without.ensures
+    ∙ found_by c.args.e (omega arith) c.args.list.now (λ i. let h = c.type_inv.list i in omega arith)
 
-pub loop-i-preserved : goal.loop-i-preserved
-loop-i-preserved c = let l = c.loop-i in
-    let a = c.args in
-    let known = c.shared_slice_known-in-loop-i-1.given l.i in (
-      l.invariant.0,
-      omega arith,
-      first_on _ _ _ l.invariant.2 (omega arith) _
-          (some_out limits.assumptions (get_or a.list.now l.i 0) a.e (omega (arith, known)) (omega arith) (λ z. c.if-meet-eq0.false (c.meet.ensures ∙ ap (meet (get_or a.list.now l.i 0)) c.without-others.ensures ∙ z))) refl,
-    )
-
-pub returns-then-count-i : goal.returns-then-count-i
-returns-then-count-i c = c.loop-i.invariant.0 ∙ first_none _ _ c.loop-i.i c.loop-i.invariant.2 (omega arith) (omega arith)
-
-pub returns-then-meet-eq0 : goal.returns-then-meet-eq0
-returns-then-meet-eq0 c = let l = c.loop-i in
-    let a = c.args in
-    let known = c.shared_slice_known-in-loop-i-1.given l.i in
-    first_here _ _ l.i l.invariant.2 (omega arith) _
-    (none_out limits.assumptions (get_or a.list.now l.i 0) a.e (omega (arith, known)) (omega arith) (sym (c.meet.ensures ∙ ap (meet (get_or a.list.now l.i 0)) c.without-others.ensures) ∙ c.if-meet-eq0.true)) refl
+pub returns-in-None : goal.returns-in-None
+returns-in-None c =
+    sym (placed_none (λ a. eqb (meet a c.without.result) 0) c.args.list.now (sym c.place_without.ensures ∙ c.in-None.is)) ∙ ap (λ (o : ℕ). find (λ a. eqb (meet a o) 0) c.args.list.now) c.without.ensures
+    ∙ found_by c.args.e (omega arith) c.args.list.now (λ i. let h = c.type_inv.list i in omega arith)

@@ -1,11 +1,7 @@
 -- `canonical` meets its contract. The loop: the place has the numbers below n that the supports have. Assumes nothing.
 use mathlib.Core.Path.{◌≡◌}
-use Prim.Native.Nat.{◌+◌, ◌-◌, ◌≤◌}
 use Rattle.rules.specs.Placing.{partly}
 use Rattle.rules.proofs.canonical.Given as goal
 
 abbrev pub invariant-loop-n : goal.invariant-loop-n
-invariant-loop-n l = (l.n ≤ l.top + 1) × (l.entry ≡ partly l.consequent l.supports l.n)
-
-abbrev pub decreases-loop-n : goal.decreases-loop-n
-decreases-loop-n l = l.top + 1 - l.n
+invariant-loop-n l = l.entry ≡ partly l.consequent l.supports l.n

@@ -1,20 +1,16 @@
--- `script::set_of` meets its contract. The invariant: what is taken so far, and the numbers from `i` on. Assumes nothing.
-use mathlib.Core.Path.{◌∙◌, ap, refl, sym}
-use Prim.Native.Nat.{◌+◌, ℕ}
-use native.Mathlib.Omega.{arith}
-use lib.ListN.{drop}
-use Rattle.script.proofs.Taking.{taken_end, taken_more}
-use Rattle.script.specs.Script.{taken_all}
+-- `script::set_of` meets its contract: the numbers are taken one after the other. Assumes nothing.
+use Rattle.std.proofs.Common.{◌≡◌, ℕ, List, [], ◌∷◌, refl, rules, ◌∙◌, fold}
+use Rattle.std.proofs.lemmas.Iterator.{YieldsList-from_slice}
+use Rattle.std.proofs.lemmas.Iterator.Consumers.{YieldsList-at, YieldsList-from_copied, fold_from_yields_List}
+use Rattle.script.specs.Script.{taken, taken_all}
 use Rattle.script.proofs.set_of.Goals as goal
 
-pub loop-i-preserved : goal.loop-i-preserved
-loop-i-preserved c =
-    let l = c.loop-i in
-    let v = c.args.values.now in
-    (omega arith, l.invariant.1 ∙ taken_more l.set v l.i (omega arith) ∙ ap (λ (E : ℕ). taken_all E (drop (l.i + 1) v)) (sym c.with-set.ensures))
+taken_fold : (l : List ℕ) (E : ℕ) → fold taken E l ≡ taken_all E l
+unfolding taken_all
+taken_fold [] E = refl
+taken_fold (k ∷ l) E = taken_fold l (taken E k)
 
 pub returns : goal.returns
-returns c = let l = c.loop-i in sym (l.invariant.1 ∙ taken_end l.set _ l.i (omega arith))
-
-pub loop-i-init : goal.loop-i-init
-loop-i-init c = (omega arith, refl)
+returns c =
+    fold_from_yields_List _ taken 0 c.fold.result c.fold.ensures.ran (YieldsList-from_copied (YieldsList-at c.copied.ensures.source (YieldsList-from_slice c.args.values.now cc))) (λ a x b q k. search rules)
+    ∙ taken_fold c.args.values.now 0

@@ -1,8 +1,7 @@
 -- `season::give` meets its contract. Assumes nothing.
-use mathlib.Core.Path.{◌∙◌, ◌≡◌, ap, sym}
+use mathlib.Core.Path.{◌∙◌, ◌≡◌, ap}
 use native.Mathlib.Omega.{arith}
 use lib.ListN.{length}
-use lib.Seq.{length-take-le}
 use borrow.Author.Rules.{rules}
 use Rattle.handed.proofs.Supplied.{supplied_few}
 use Rattle.season.proofs.Folds.{give_many}
@@ -18,13 +17,10 @@ returns-then-item-gt-SUPPORTS c = let a = c.args in give_many a.store a.item c.r
 pub slice_bounds-supports-end : goal.slice_bounds-supports-end
 slice_bounds-supports-end c = omega (arith, (let four : length c.args.item.supports ≡ limits.supports = search rules in four), c.if-item-gt-SUPPORTS.false)
 
-pub slice_bounds-more-end : goal.slice_bounds-more-end
-slice_bounds-more-end c = sym (length-take-le _ _ (omega (arith, (let four : length c.args.item.supports ≡ limits.supports = search rules in four), c.if-item-gt-SUPPORTS.false)))
-
-pub more-changed-requires : goal.more-changed-requires
-more-changed-requires c = let f = (shape_elim c.args.store c.requires).0 in (f.right, omega (arith, f.few, f.claims))
+pub more-requires : goal.more-requires
+more-requires c = let f = (shape_elim c.args.store c.requires).0 in (f.right, omega (arith, f.few, f.claims))
 
 pub returns : goal.returns
 returns c =
     let a = c.args in
-    c.after.ensures ∙ ap (after_of a.store) c.more-changed.ensures ∙ more_added a.store c.requires a.item.consequent _ ∙ ap (add_of a.store a.item.consequent) (supplied_few a.item c.if-item-gt-SUPPORTS.false)
+    c.after.ensures ∙ ap (after_of a.store) c.more.ensures ∙ more_added a.store c.requires a.item.consequent _ ∙ ap (add_of a.store a.item.consequent) (supplied_few a.item c.if-item-gt-SUPPORTS.false)

@@ -1,61 +1,34 @@
 -- `sorted` meets its contract. The loop: the sets so far stand clear, those from a place on with as many assumptions as the last. Assumes nothing.
-use mathlib.Core.Path.{◌∙◌, refl, sym}
-use native.Mathlib.Omega.{arith}
-use lib.Seq.{length-take-le}
-use Rattle.shape.proofs.Runs.{more, run_end, run_fewer, run_in, run_low, run_more, run_one, run_same, run_short}
+use Rattle.std.proofs.Common.{◌≡◌, ◌∙◌, ◌+◌, ◌-◌, ℕ, inl, inr, sym, subst, get_or, arith}
+use Rattle.shape.proofs.Runs.{Run, run_end, run_in, run_late, run_on, run_one}
 use Rattle.shape.proofs.sorted.Goals as goal
-
-pub returns-then-l-lt2 : goal.returns-then-l-lt2
-returns-then-l-lt2 c = run_short _ c.if-l-lt2.true
+use Rattle.shape.proofs.sorted.Goals.{else-last-e, then-last-e}
 
 pub loop-i-init : goal.loop-i-init
-loop-i-init c = (omega arith, omega arith, omega arith, refl, run_one _)
+loop-i-init c = record { low = omega arith; run = run_one c.args.l.now }
 
-pub returns-then-e-last : goal.returns-then-e-last
-returns-then-e-last c = let l = c.loop-i in
-    let m = c.args.l.now in
-    run_low m l.i l.from l.last l.invariant.4 l.invariant.0 c.loop-i-test.true (c.if-n-ones.true ∙ l.invariant.3) c.if-e-last.true
+pub returns-then-not-before : goal.returns-then-not-before
+returns-then-not-before c =
+    let l = c.loop-i in
+    run_late c.args.l.now l.i l.from _ l.invariant.run (omega arith) c.loop-i-test.true (sym c.before-in-loop-i.ensures ∙ c.if-not-before.true)
 
-pub returns-then-first_within-from : goal.returns-then-first_within-from
-returns-then-first_within-from c = let l = c.loop-i in
-    let m = c.args.l.now in
-    run_in m l.i l.from l.last l.invariant.4 l.invariant.0 c.loop-i-test.true l.from _ (omega arith) c.first_within.ensures c.if-first_within-from.true
-
-pub loop-i-preserved-then-n-ones : goal.loop-i-preserved-then-n-ones
-loop-i-preserved-then-n-ones c = let l = c.loop-i in
-    let m = c.args.l.now in (
-      omega arith,
-      omega arith,
-      omega arith,
-      sym c.if-n-ones.true,
-      run_same m l.i l.from l.last l.invariant.4 l.invariant.0 c.loop-i-test.true (omega arith) (c.if-n-ones.true ∙ l.invariant.3) c.if-e-last.false _ c.first_within.ensures c.if-first_within-from.false,
-    )
-
-pub returns-then-n-ones-2 : goal.returns-then-n-ones-2
-returns-then-n-ones-2 c = let l = c.loop-i in
-    let m = c.args.l.now in
-    run_fewer m l.i l.from l.last l.invariant.4 l.invariant.0 c.loop-i-test.true (omega (arith, c.if-n-ones-2.true, l.invariant.3))
-
-pub returns-then-first_within-i : goal.returns-then-first_within-i
-returns-then-first_within-i c = let l = c.loop-i in
-    let m = c.args.l.now in
-    run_in m l.i l.from l.last l.invariant.4 l.invariant.0 c.loop-i-test.true l.i _ (omega arith) c.first_within-in-loop-i.ensures c.if-first_within-i.true
+pub returns-then-is_some : goal.returns-then-is_some
+returns-then-is_some c =
+    let l = c.loop-i in
+    run_in c.args.l.now l.i l.from _ l.invariant.run (omega arith) c.loop-i-test.true c.if-last-e.from _
+    (elim c.if-last-e.branch [ then-last-e w ↦ omega arith | else-last-e w ↦ omega arith ]) c.first_within.ensures (sym c.is_some.ensures ∙ c.if-is_some.true)
 
 pub loop-i-preserved : goal.loop-i-preserved
-loop-i-preserved c = let l = c.loop-i in
-    let m = c.args.l.now in (
-      omega arith,
-      omega arith,
-      omega arith,
-      refl,
-      run_more m l.i l.from l.last l.invariant.4 l.invariant.0 c.loop-i-test.true (more _ _ _ l.invariant.3 c.if-n-ones-2.false c.if-n-ones.false) _ c.first_within-in-loop-i.ensures c.if-first_within-i.false,
-    )
+loop-i-preserved c =
+    let l = c.loop-i in
+    let m = c.args.l.now in
+    let at : l.i + 1 - 1 ≡ l.i = omega arith in
+    record {
+      low = elim c.if-last-e.branch [ then-last-e w ↦ omega arith | else-last-e w ↦ omega arith ];
+      run = subst (λ (k : ℕ). Run m (l.i + 1) c.if-last-e.from (get_or m k 0)) (sym at)
+          (run_on m l.i l.from _ l.invariant.run (omega arith) c.loop-i-test.true (omega arith) (sym c.before-in-loop-i.ensures ∙ c.if-not-before.false) c.if-last-e.from
+          (elim c.if-last-e.branch [ then-last-e w ↦ inl (w.if-last-e.true, w.from-is) | else-last-e w ↦ inr (w.if-last-e.false, w.from-is) ]) _ c.first_within.ensures (sym c.is_some.ensures ∙ c.if-is_some.false));
+    }
 
 pub returns : goal.returns
-returns c = let l = c.loop-i in run_end _ l.i l.from l.last l.invariant.4 c.loop-i-test.false
-
-pub slice_bounds-first_within-end : goal.slice_bounds-first_within-end
-slice_bounds-first_within-end c = sym (length-take-le _ _ (omega arith))
-
-pub slice_bounds-first_within-end-in-loop-i : goal.slice_bounds-first_within-end-in-loop-i
-slice_bounds-first_within-end-in-loop-i c = sym (length-take-le _ _ (omega arith))
+returns c = let l = c.loop-i in run_end c.args.l.now l.i l.from _ l.invariant.run c.loop-i-test.false

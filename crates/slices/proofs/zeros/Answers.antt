@@ -1,15 +1,10 @@
--- `zeros` meets its contract. The loop: all are zero if what was seen and the rest are. Assumes nothing.
-use mathlib.Core.Path.{refl}
-use native.Mathlib.Omega.{arith}
-use lib.Dec.{eqb}
-use Rattle.slices.proofs.Laws.{zero_end, zero_on}
+-- `zeros` meets its contract: nothing is in any. Assumes nothing.
+use Rattle.std.proofs.Common.{◌∙◌, ◌≡◌, ap, eqb, rules, ℕ}
+use Rattle.std.proofs.iter.runs.Made.{chains}
+use Rattle.std.specs.List.{fold}
+use Rattle.slices.proofs.Laws.{joined_none}
+use Rattle.theory.specs.Sets.{union}
 use Rattle.slices.proofs.zeros.Goals as goal
 
-pub loop-i-preserved : goal.loop-i-preserved
-loop-i-preserved c = let l = c.loop-i in (omega arith, zero_on (eqb 0) _ l.i l.seen _ l.invariant.1 0 _ (omega arith) refl)
-
 pub returns : goal.returns
-returns c = let l = c.loop-i in zero_end (eqb 0) _ l.i l.seen _ l.invariant.1 (omega arith)
-
-pub loop-i-init : goal.loop-i-init
-loop-i-init c = (omega arith, refl)
+returns c = let e : c.fold.result ≡ fold union 0 c.args.l.now = search (rules, chains) in ap (λ (x : ℕ). eqb x 0) e ∙ joined_none c.args.l.now

@@ -1,48 +1,38 @@
 -- `stages::touched` meets its contract. Assumes nothing.
-use mathlib.Core.Path.{◌∙◌, refl}
-use native.Mathlib.Omega.{arith}
+use Rattle.std.proofs.Common.{◌<◌, length, refl, sym, ap, ◌∙◌, arith}
 use lib.ListN.{length-set}
 use Rattle.rules.proofs.Scan.{right_elim}
+use Rattle.stages.proofs.Marks.{touched_end, touched_none, touched_passed, touched_stirred}
+use Rattle.stages.proofs.Parts.{entry_few, entry_low, entry_ranged, held_many}
 use Rattle.rules.proofs.Steps.{beyond}
-use Rattle.stages.proofs.Marks.{touched_end, touched_none, touched_turn}
-use Rattle.stages.proofs.Parts.{entry_few, entry_low, entry_ranged}
 use Rattle.stages.proofs.touched.Goals as goal
+use Rattle.stages.proofs.touched.Goals.{then-stirred, else-stirred}
 
-pub bounds-moved-0 : goal.bounds-moved-0
-bounds-moved-0 c = omega (arith, c.requires.1)
+pub shared_ref_as_front-entry-items : goal.shared_ref_as_front-entry-items
+shared_ref_as_front-entry-items c = omega (arith, (right_elim _ c.requires.right).few)
 
-pub loop-j-init : goal.loop-j-init
-loop-j-init c = (omega arith, refl, touched_none _ _ refl)
+pub loop-entry-init : goal.loop-entry-init
+loop-entry-init c = (refl, touched_none _ _ refl)
 
-pub offset_bounds-held-j : goal.offset_bounds-held-j
-offset_bounds-held-j c = omega (arith, (right_elim _ c.requires.0.right).few)
+pub offset_bounds-entry-items-entry-index : goal.offset_bounds-entry-items-entry-index
+offset_bounds-entry-items-entry-index c = omega (arith, (right_elim _ c.requires.right).few, held_many _ c.requires, c.loop-entry-test.true)
 
-pub bounds-held-j : goal.bounds-held-j
-bounds-held-j c = let r = right_elim _ c.requires.0.right in omega (arith, r.few, r.long)
+pub stirred-requires : goal.stirred-requires
+stirred-requires c =
+    let low : c.loop-entry.entry-index < c.args.held.now.count = omega (arith, held_many _ c.requires, c.loop-entry-test.true) in
+    (entry_few _ c.requires c.loop-entry.entry-index _ low, entry_ranged _ c.requires c.loop-entry.entry-index _ low)
 
-pub overflow_cast-n : goal.overflow_cast-n
-overflow_cast-n c = omega (arith, entry_low _ c.requires.0 c.loop-j.j beyond c.loop-j-test.true)
+pub bounds-marks-entry : goal.bounds-marks-entry
+bounds-marks-entry c = omega (arith, entry_low _ c.requires c.loop-entry.entry-index beyond (omega (arith, held_many _ c.requires, c.loop-entry-test.true)))
 
-pub bounds-marks-n : goal.bounds-marks-n
-bounds-marks-n c = omega (arith, entry_low _ c.requires.0 c.loop-j.j beyond c.loop-j-test.true, c.loop-j.invariant.1)
-
-pub marked-requires : goal.marked-requires
-marked-requires c = (entry_few _ c.requires.0 c.loop-j.j _ c.loop-j-test.true, entry_ranged _ c.requires.0 c.loop-j.j _ c.loop-j-test.true, c.requires.1)
-
-pub bounds-marks-n-in-loop-j : goal.bounds-marks-n-in-loop-j
-bounds-marks-n-in-loop-j c = omega (arith, entry_low _ c.requires.0 c.loop-j.j beyond c.loop-j-test.true, c.loop-j.invariant.1)
-
-pub overflow_add-j : goal.overflow_add-j
-overflow_add-j c = omega (arith, c.loop-j-test.true, (right_elim _ c.requires.0.right).few)
-
-pub loop-j-smaller : goal.loop-j-smaller
-loop-j-smaller c = omega (arith, c.loop-j-test.true)
-
-pub loop-j-preserved : goal.loop-j-preserved
-loop-j-preserved c =
-    let l = c.loop-j in
-    let r = right_elim _ c.requires.0.right in
-    (omega (arith, c.loop-j-test.true), length-set l.marks _ _ ∙ l.invariant.1, touched_turn _ c.args.held.entries l.j _ (omega (arith, c.loop-j-test.true, r.few, r.long)) l.marks l.invariant.2 (omega (arith, entry_low _ c.requires.0 l.j beyond c.loop-j-test.true, l.invariant.1)) _ c.marked.ensures)
+pub loop-entry-preserved : goal.loop-entry-preserved
+loop-entry-preserved c =
+    let l = c.loop-entry in
+    let low = entry_low _ c.requires l.entry-index beyond (omega (arith, held_many _ c.requires, c.loop-entry-test.true)) in
+    elim c.if-stirred.branch [
+      | then-stirred w ↦ (ap length w.marks-is ∙ length-set l.marks _ _ ∙ l.invariant.0, touched_stirred _ _ l.entry-index _ c.loop-entry-test.true l.marks l.invariant.1 (omega (arith, low, l.invariant.0)) (sym c.stirred.ensures ∙ w.if-stirred.true) _ w.marks-is)
+      | else-stirred w ↦ (ap length w.marks-is ∙ l.invariant.0, touched_passed _ _ l.entry-index _ c.loop-entry-test.true l.marks l.invariant.1 (omega (arith, low, l.invariant.0)) (sym c.stirred.ensures ∙ w.if-stirred.false) _ w.marks-is)
+    ]
 
 pub returns : goal.returns
-returns c = touched_end _ c.args.held.entries c.args.held.count c.loop-j.j c.loop-j.invariant.0 c.loop-j-test.false c.loop-j.marks c.loop-j.invariant.2
+returns c = touched_end _ _ c.loop-entry.entry-index c.loop-entry-test.false c.loop-entry.marks c.loop-entry.invariant.1

@@ -1,17 +1,19 @@
 -- `stagetext::last` meets its contract. Assumes nothing.
-use Rattle.stagetext.specs.Stagetext.{latest}
-use Rattle.stagetext.proofs.Laws.{latest_end, latest_next}
-use mathlib.Core.Path.{refl, sym, ap, ◌∙◌}
-use Prim.Native.Nat.{ℕ, ◌+◌}
-use native.Mathlib.Omega.{arith}
-use lib.ListN.{drop}
+use Rattle.std.proofs.Common.{◌≡◌, ◌∙◌, ap, refl, ltb, ℕ, Option, None, Some, rules, tests}
+use Prim.Native.Nat.{max}
+use Rattle.std.specs.List.{filter, reduce}
+use Rattle.std.specs.Option.{option_map, unwrap_or}
+use Rattle.std.proofs.lemmas.Iterator.{YieldsList-from_slice}
+use Rattle.std.proofs.lemmas.Iterator.Consumers.{YieldsList-at, YieldsList-from_copied, YieldsList-from_filter, max_from_yields_List}
+use Rattle.stagetext.proofs.Laws.{latest_is}
 use Rattle.stagetext.proofs.last.Goals as goal
 
-pub loop-i-preserved : goal.loop-i-preserved
-loop-i-preserved c = (omega (arith, c.loop-i-test.true), c.loop-i.invariant.1 ∙ latest_next c.loop-i.most c.args.marks.now c.loop-i.i c.loop-i-test.true ∙ ap (λ (x : ℕ). latest x (drop (c.loop-i.i + 1) c.args.marks.now)) (sym c.later-most.ensures))
+kept : (o : Option ℕ) → o ≡ option_map (λ x. x) o
+kept None = refl
+kept (Some x) = refl
 
 pub returns : goal.returns
-returns c = sym (c.loop-i.invariant.1 ∙ latest_end c.loop-i.most c.args.marks.now c.loop-i.i c.loop-i-test.false)
-
-pub loop-i-init : goal.loop-i-init
-loop-i-init c = (omega arith, refl)
+returns c =
+    let m = c.args.marks.now in
+    let best : option_map (λ x. x) c.max.result ≡ reduce max (filter (λ x. ltb x 255) m) = max_from_yields_List _ _ c.max.ensures.ran (YieldsList-from_filter _ (λ x. ltb x 255) (YieldsList-at c.filter.ensures.source (YieldsList-from_copied (YieldsList-from_slice m (cc)))) c.filter.ensures.closure (λ x r q k. search (rules, tests))) in
+    c.unwrap_or.ensures ∙ ap (λ (o : Option ℕ). unwrap_or o 0) (kept c.max.result ∙ best) ∙ latest_is m

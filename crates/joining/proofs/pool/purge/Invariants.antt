@@ -1,13 +1,7 @@
 -- `joining::pool::purge` meets its contract. Assumes nothing.
-use mathlib.Core.List.{◌++◌}
-use mathlib.Core.Path.{◌≡◌}
-use Prim.Native.Nat.{◌-◌, ◌≤◌}
-use lib.ListN.{drop, length, take}
+use Rattle.std.proofs.Common.{◌≡◌, ◌++◌, ◌-◌, ◌≤◌, drop, take}
 use Rattle.joining.specs.Pool.{purged}
 use Rattle.joining.proofs.pool.purge.Given as goal
 
 abbrev pub invariant-loop-i : goal.invariant-loop-i
-invariant-loop-i l = (l.i ≤ l.count) × (l.kept ≤ l.i) × (length l.pool ≡ length l.initial.pool) × (purged l.e (take l.count l.initial.pool) ≡ take l.kept l.pool ++ purged l.e (take (l.count - l.i) (drop l.i l.pool)))
-
-abbrev pub decreases-loop-i : goal.decreases-loop-i
-decreases-loop-i l = l.count - l.i
+invariant-loop-i l = (l.kept ≤ l.i) × (purged l.e (take l.count l.initial.list) ≡ take l.kept l.list ++ purged l.e (take (l.count - l.i) (drop l.i l.list)))

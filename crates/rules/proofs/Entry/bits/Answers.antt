@@ -7,7 +7,4 @@ use Rattle.theory.specs.Limits.{limits}
 use Rattle.rules.proofs.Entry.bits.Goals as goal
 
 pub returns : goal.returns
-returns c =
-    let s = c.args.self in
-    let e : length s.supports ≡ limits.supports = search rules in
-    bits_entry s e _ c.value-word.ensures.0
+returns c = let s = c.args.self in let e : length s.supports ≡ limits.supports = search rules in bits_entry s e _ c.from_le_bytes.ensures

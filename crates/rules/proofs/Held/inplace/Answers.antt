@@ -1,72 +1,48 @@
--- `inplace` meets its contract. The loop: before the place looked at all is right, and its own number is known. Assumes nothing.
+-- `inplace` meets its contract. The loop: before the place looked at all is right, and the least number that may follow is known. Assumes nothing.
 use mathlib.Core.Path.{◌∙◌, ◌≡◌, sym}
-use Prim.Native.Nat.{◌≤◌}
 use native.Mathlib.Omega.{arith}
+use Prim.Native.Nat.{◌<◌, ◌≤◌}
 use lib.ListN.{length}
 use borrow.Author.Rules.{rules}
-use borrow.Author.Tests.{not-false, not-true}
-use Rattle.rules.proofs.Placed.{first_in_lem, first_out, past_end, past_mixed, past_none, past_on, past_out}
+use lib.Seq.{length-take-le}
+use Rattle.rules.proofs.Keys.{key_small}
+use Rattle.rules.proofs.Placed.{past_end, past_mixed, past_none, past_on, past_out}
 use Rattle.rules.proofs.Steps.{length_mapped}
 use Rattle.theory.specs.Limits.{limits}
 use Rattle.rules.proofs.Held.inplace.Goals as goal
+use Rattle.rules.proofs.Held.inplace.Goals.{then-not-fits-via-then-not-fits, then-not-fits-via-else-not-fits+then-key-least}
 
-pub returns-then-count-eq0 : goal.returns-then-count-eq0
-returns-then-count-eq0 c = past_none c.args.top c.args.self.entries c.args.self.count c.if-count-eq0.true
+pub loop-entry-init : goal.loop-entry-init
+loop-entry-init c = past_none _ _ _
 
 pub returns-then-not-fits : goal.returns-then-not-fits
 returns-then-not-fits c =
-    let a = c.args in
-    let e : length a.self.entries ≡ limits.held = search (rules, length_mapped) in
-    let room : a.self.count ≤ length a.self.entries = omega (arith, c.requires) in
-    first_out a.top a.self.entries a.self.count room (omega (arith, c.if-count-eq0.false)) (sym c.fits.ensures ∙ not-true _ c.if-not-fits.true-raw)
+    let s = c.args.self in
+    let l = c.loop-entry in
+    let e : length s.entries ≡ limits.held = search (rules, length_mapped) in
+    let room : s.count ≤ length s.entries = omega (arith, c.requires) in
+    let h : l.entry-index < s.count = omega (arith, l.auto.entry-index-end, c.loop-entry-test.true) in
+    elim c.then-not-fits.branch [
+      | then-not-fits-via-then-not-fits w ↦ past_out c.args.top s.entries s.count room l.entry-index l.least l.invariant h (sym c.fits.ensures ∙ w.if-not-fits.true)
+      | then-not-fits-via-else-not-fits+then-key-least w ↦ past_mixed c.args.top s.entries s.count room l.entry-index l.least l.invariant h (sym c.fits.ensures ∙ w.if-not-fits.false) _ c.key-key.ensures.0 c.key-key.ensures.1 w.if-key-least.true
+    ]
 
-pub loop-j-init : goal.loop-j-init
-loop-j-init c =
-    let a = c.args in
-    let e : length a.self.entries ≡ limits.held = search (rules, length_mapped) in
-    let room : a.self.count ≤ length a.self.entries = omega (arith, c.requires) in
-    first_in_lem a.top a.self.entries a.self.count room (omega (arith, c.if-count-eq0.false)) (sym c.fits.ensures ∙ not-false _ c.if-not-fits.false-raw) _ c.key-last.ensures.0 c.key-last.ensures.1
+pub overflow_add-least : goal.overflow_add-least
+overflow_add-least c = let k = c.key-key.ensures in omega (arith, k.0, key_small _ k.1)
 
-pub offset_bounds-self-j : goal.offset_bounds-self-j
-offset_bounds-self-j c = omega (arith, c.requires, c.loop-j-test.true)
-
-pub bounds-self-j : goal.bounds-self-j
-bounds-self-j c =
-    let a = c.args in
-    let e : length a.self.entries ≡ limits.held = search (rules, length_mapped) in
-    let room : a.self.count ≤ length a.self.entries = omega (arith, c.requires) in
-    omega (arith, c.loop-j-test.true)
-
-pub returns-then-not-fits-2 : goal.returns-then-not-fits-2
-returns-then-not-fits-2 c =
-    let a = c.args in
-    let e : length a.self.entries ≡ limits.held = search (rules, length_mapped) in
-    let room : a.self.count ≤ length a.self.entries = omega (arith, c.requires) in
-    past_out a.top a.self.entries a.self.count room c.loop-j.j c.loop-j.last c.loop-j.invariant c.loop-j-test.true (sym c.fits-in-loop-j.ensures ∙ not-true _ c.if-not-fits-2.true-raw)
-
-pub returns-then-key-last : goal.returns-then-key-last
-returns-then-key-last c =
-    let a = c.args in
-    let e : length a.self.entries ≡ limits.held = search (rules, length_mapped) in
-    let room : a.self.count ≤ length a.self.entries = omega (arith, c.requires) in
-    past_mixed a.top a.self.entries a.self.count room c.loop-j.j c.loop-j.last c.loop-j.invariant c.loop-j-test.true (sym c.fits-in-loop-j.ensures ∙ not-false _ c.if-not-fits-2.false-raw) _ c.key-key.ensures.0 c.key-key.ensures.1 c.if-key-last.true
-
-pub overflow_add-j : goal.overflow_add-j
-overflow_add-j c = omega (arith, c.requires, c.loop-j-test.true)
-
-pub loop-j-smaller : goal.loop-j-smaller
-loop-j-smaller c = omega (arith, c.loop-j-test.true)
-
-pub loop-j-preserved : goal.loop-j-preserved
-loop-j-preserved c =
-    let a = c.args in
-    let e : length a.self.entries ≡ limits.held = search (rules, length_mapped) in
-    let room : a.self.count ≤ length a.self.entries = omega (arith, c.requires) in
-    past_on a.top a.self.entries a.self.count room c.loop-j.j c.loop-j.last c.loop-j.invariant c.loop-j-test.true (sym c.fits-in-loop-j.ensures ∙ not-false _ c.if-not-fits-2.false-raw) _ c.key-key.ensures.0 c.key-key.ensures.1 (omega (arith, c.if-key-last.false))
+pub loop-entry-preserved : goal.loop-entry-preserved
+loop-entry-preserved c =
+    let s = c.args.self in
+    let l = c.loop-entry in
+    let e : length s.entries ≡ limits.held = search (rules, length_mapped) in
+    let room : s.count ≤ length s.entries = omega (arith, c.requires) in
+    let h : l.entry-index < s.count = omega (arith, l.auto.entry-index-end, c.loop-entry-test.true) in
+    past_on c.args.top s.entries s.count room l.entry-index l.least l.invariant h (sym c.fits.ensures ∙ c.if-not-fits.false) _ c.key-key.ensures.0 c.key-key.ensures.1 c.if-key-least.false
 
 pub returns : goal.returns
 returns c =
-    let a = c.args in
-    let e : length a.self.entries ≡ limits.held = search (rules, length_mapped) in
-    let room : a.self.count ≤ length a.self.entries = omega (arith, c.requires) in
-    past_end a.top a.self.entries a.self.count room c.loop-j.j c.loop-j.last c.loop-j.invariant (omega (arith, c.loop-j-test.false))
+    let s = c.args.self in
+    let l = c.loop-entry in
+    let e : length s.entries ≡ limits.held = search (rules, length_mapped) in
+    let room : s.count ≤ length s.entries = omega (arith, c.requires) in
+    past_end c.args.top s.entries s.count room l.entry-index l.least l.invariant (omega (arith, length-take-le s.count s.entries room))

@@ -16,8 +16,8 @@ returns-then-inplace c =
     let e : length s.entries ≡ limits.held = search (rules, length_mapped) in
     right_rest s c.if-self-gt-HELD.false e (sym c.inplace.ensures ∙ c.if-inplace.true) _ c.spare.ensures
 
-pub returns : goal.returns
-returns c =
+pub returns-else-inplace : goal.returns-else-inplace
+returns-else-inplace c =
     let s = c.args.self in
     let e : length s.entries ≡ limits.held = search (rules, length_mapped) in
-    right_out s c.if-self-gt-HELD.false e (sym c.inplace.ensures ∙ c.if-inplace.false)
+    c.if-inplace.false ∙ right_out s c.if-self-gt-HELD.false e (sym c.inplace.ensures ∙ c.if-inplace.false)
