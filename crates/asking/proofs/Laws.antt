@@ -1,21 +1,22 @@
 -- Question, context and member: a refusal, and what is known where there is none. Assumes nothing.
 use mathlib.Core.Bool.{Bool, ◌&&◌}
 use mathlib.Core.List.{List}
-use mathlib.Core.Path.{◌∙◌, ◌≡◌, ap, sym}
+use mathlib.Core.Path.{◌∙◌, ◌≡◌, ap, ap₂, sym}
 use Prim.Native.Nat.{◌<◌, ◌+◌, ◌≤◌, ℕ}
 use native.Mathlib.Omega.{arith}
 use lib.Dec.{eqb, ltb}
 use lib.ListN.{get_or, length}
 use borrow.Author.Tests.{le-ltb, lt-ltb, ne_eqb}
-use Rattle.std.specs.List.{position}
-use Rattle.std.specs.Prelude.{◌≢◌, Result, Ok, Err, Some, None, ⊤}
-use Rattle.asking.specs.Asking.{Room, byte_of, context_reply, first_in, member_at, member_of, question_of, standing}
+use Rattle.std.specs.Prelude.{◌≢◌, Option, Result, Ok, Err, Some, None, ⊤}
+use Rattle.asking.specs.Asking.{Room, byte_of, context_reply, first_in, member_at, member_of, question_of, reasoned, standing}
 use Rattle.asking.specs.declared.Answer.{Answer}
+use Rattle.asking.specs.declared.Answer.TheVariants.{Inconsistent, Supported, Unsupported}
 use Rattle.following.proofs.Places.{all_told}
 use Rattle.following.proofs.Sowing.{marks_long}
 use Rattle.following.specs.Marks.{all_marks}
 use Rattle.following.specs.Promised.{Followable}
 use Rattle.members.proofs.First.{placed_find, placed_none}
+use Rattle.members.specs.Promised.{first_within}
 use Rattle.replies.proofs.Checked.{checked_done, checked_refusal, refusal_checked}
 use Rattle.replies.specs.Replies.{checked, number_of}
 use Rattle.replies.specs.declared.Reply.{Reply}
@@ -23,10 +24,11 @@ use Rattle.replies.specs.declared.Reply.TheVariants.{Done, Short}
 use Rattle.rules.specs.Held.{said_by}
 use Rattle.rules.specs.declared.Held.{Held}
 use Rattle.shape.proofs.Elim.{label_few, lists_elim}
+use Rattle.stages.specs.declared.Lists.{Lists}
 use Rattle.store.proofs.Reading.{Readable, readable, refused, refused_number, refused_set}
 use Rattle.store.proofs.Shapes.{shape_elim}
 use Rattle.store.specs.Calls.{is_done}
-use Rattle.store.specs.Reading.{contradicted_in, refusal_of, unlabelled}
+use Rattle.store.specs.Reading.{contradicted_in, label_held, nogoods_held, refusal_of, unlabelled}
 use Rattle.store.specs.Shape.{top}
 use Rattle.store.specs.declared.Store.{Store}
 use Rattle.theory.specs.Demands.{follows_from_all}
@@ -35,13 +37,31 @@ use Rattle.theory.specs.Lists.{choose}
 use Rattle.theory.specs.Sets.{within}
 
 -- ---- the first member within a set, by its place
-pub first_named : (l : List ℕ) (E p : ℕ) → position (λ F. within F E) l ≡ Some p → first_in l E ≡ Some (get_or l p 0)
+pub first_named : (l : List ℕ) (E p : ℕ) → first_within l E ≡ Some p → first_in l E ≡ Some (get_or l p 0)
 unfolding first_in
 first_named l E p e = placed_find (λ F. within F E) l p e
 
-pub first_none : (l : List ℕ) (E : ℕ) → position (λ F. within F E) l ≡ None → first_in l E ≡ None
+pub first_none : (l : List ℕ) (E : ℕ) → first_within l E ≡ None → first_in l E ≡ None
 unfolding first_in
 first_none l E e = placed_none (λ F. within F E) l e
+
+-- ---- what the lists say, by the places of the first nogood and of the first member of the label
+module _ (l : Lists) (n E : ℕ) (bad : List ℕ) (is : bad ≡ nogoods_held l) where
+  pub stands_struck : (place : ℕ) → first_within bad E ≡ Some place → Inconsistent (get_or bad place 0) ≡ standing l n E
+  unfolding standing
+  stands_struck place e = sym (ap (λ (o : Option ℕ). reasoned o (first_in (label_held l n) E)) (ap (λ (m : List ℕ). first_in m E) (sym is) ∙ first_named bad E place e))
+
+  module _ (clear : first_within bad E ≡ None) (own : List ℕ) (its : own ≡ label_held l n) where
+    no_nogood : first_in (nogoods_held l) E ≡ None
+    no_nogood = ap (λ (m : List ℕ). first_in m E) (sym is) ∙ first_none bad E clear
+
+    pub stands_yes : (place : ℕ) → first_within own E ≡ Some place → Supported (get_or own place 0) ≡ standing l n E
+    unfolding standing
+    stands_yes place e = sym (ap₂ reasoned no_nogood (ap (λ (m : List ℕ). first_in m E) (sym its) ∙ first_named own E place e))
+
+    pub stands_no : first_within own E ≡ None → Unsupported ≡ standing l n E
+    unfolding standing
+    stands_no e = sym (ap₂ reasoned no_nogood (ap (λ (m : List ℕ). first_in m E) (sym its) ∙ first_none own E e))
 
 -- the marks of what follows from all assumptions together are one for each number
 pub marks_all : (h : Held) (m : List ℕ) → m ≡ all_marks h → length m ≡ limits.numbers + 1

@@ -1,13 +1,13 @@
 // Questions to a store, answered from its lists as they stand.
 #![tactic(auto)]
 
-ghost use Rattle.std.specs.Prelude.{◌&&◌, ◌++◌, ◌≡◌, ◌+◌, ◌≤◌, length, drop, Option};
+ghost use Rattle.std.specs.Prelude.{◌&&◌, ◌++◌, ◌≡◌, ◌+◌, ◌≤◌, length, drop};
 ghost use Rattle.following.specs.Marks.{all_marks};
 ghost use Rattle.replies.specs.Replies.{checked};
 ghost use Rattle.store.specs.Reading.{contradicted_in, label_held, list_held, nogoods_held, unlabelled};
 ghost use Rattle.theory.specs.Limits.{limits};
 ghost use Rattle.theory.specs.Places.{table};
-ghost use Rattle.asking.specs.Asking.{Room, first_in, standing, byte_of, member_at, question_of, member_of, context_bytes, context_reply, Questioned, Contexted, Membered};
+ghost use Rattle.asking.specs.Asking.{Room, standing, byte_of, member_at, question_of, member_of, context_bytes, context_reply, Questioned, Contexted, Membered};
 
 use replies::Reply;
 use sets::Set;
@@ -47,14 +47,6 @@ struct Reading<'a> {
     ghost low: { n ≤ limits.numbers },
 }
 
-// The first set of a list that lies within e.
-#[tactic(auto, unfolding(crate::specs::Asking::first_in))]
-fn first(list: &[Set], e: Set) -> Option<Set>
-    ensures { result ≡ first_in list.now e }
-{
-    list.iter().copied().find(|f| sets::within(*f, e))
-}
-
 impl Reading<'_> {
     // The nogoods.
     fn nogoods(&self) -> &[Set]
@@ -79,15 +71,16 @@ impl Reading<'_> {
     }
 
     // What the lists say of e, and why.
-    #[tactic(auto, unfolding(crate::specs::Asking::standing))]
     fn stands(&self, e: Set) -> Answer
         ensures { result ≡ standing self.now.lists.now self.now.n e }
     {
-        if let Some(nogood) = first(self.nogoods(), e) {
-            return Answer::Inconsistent(nogood);
+        let nogoods = self.nogoods();
+        if let Some(place) = members::first_within(nogoods, e) {
+            return Answer::Inconsistent(nogoods[place]);
         }
-        match first(self.label(), e) {
-            Some(member) => Answer::Supported(member),
+        let label = self.label();
+        match members::first_within(label, e) {
+            Some(place) => Answer::Supported(label[place]),
             None => Answer::Unsupported,
         }
     }

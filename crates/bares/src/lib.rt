@@ -5,7 +5,7 @@ ghost use Rattle.std.specs.Prelude.{◌≤◌, length};
 ghost use Rattle.stagetext.specs.Stagetext.{longest};
 
 use bare::{Query, Told, What};
-use handed::Handed;
+use calls::hands::Hand;
 use plains::word;
 use printing::Console;
 use replies::Reply;
@@ -28,14 +28,14 @@ fn query(assumptions: u32, claims: u32, what: What, numbers: &[u32]) -> Result<Q
 // bareask A M N K..
 pub fn ask(
     console: Console,
-    hand: &[Handed],
+    hand: &Hand,
     assumptions: u32,
     claims: u32,
     n: u32,
     set: &[u32],
 ) -> Result<(), Fault> {
     let asked = query(assumptions, claims, What::Number(n), set)?;
-    let Told::Word(answer) = bare::ask(asked, hand, &mut [])? else {
+    let Told::Word(answer) = bare::ask_some(asked, hand.items, hand.count, &mut [])? else {
         return Err(Fault::Refused(Reply::Shape));
     };
     word(console, answer);
@@ -45,24 +45,24 @@ pub fn ask(
 // barecontext A M K..
 pub fn context(
     console: Console,
-    hand: &[Handed],
+    hand: &Hand,
     assumptions: u32,
     claims: u32,
     set: &[u32],
 ) -> Result<(), Fault> {
     let asked = query(assumptions, claims, What::Context, set)?;
     let mut bytes = [0u8; MARKS];
-    let Told::Filled = bare::ask(asked, hand, &mut bytes)? else {
+    let Told::Filled = bare::ask_some(asked, hand.items, hand.count, &mut bytes)? else {
         return Err(Fault::Refused(Reply::Shape));
     };
     filled(console, &bytes, assumptions, claims)
 }
 
 // The lines of a bare list, on bytes that are enough for any.
-fn lines(console: Console, hand: &[Handed], asked: Query, text: &mut [u8]) -> Result<(), Fault>
+fn lines(console: Console, hand: &Hand, asked: Query, text: &mut [u8]) -> Result<(), Fault>
     requires { longest ≤ length text.old }
 {
-    let Told::Lines(length) = bare::ask(asked, hand, text)? else {
+    let Told::Lines(length) = bare::ask_some(asked, hand.items, hand.count, text)? else {
         return Err(Fault::Refused(Reply::Shape));
     };
     told(console, Ok(length), text)
@@ -71,7 +71,7 @@ fn lines(console: Console, hand: &[Handed], asked: Query, text: &mut [u8]) -> Re
 // barestages A M K..
 pub fn stages(
     console: Console,
-    hand: &[Handed],
+    hand: &Hand,
     assumptions: u32,
     claims: u32,
     set: &[u32],

@@ -24,7 +24,7 @@ pub fn load(console: Console, store: &mut Store, rest: &[u8]) -> Result<(), Faul
     let mut room = [0u8; MOST];
     let count = script::bytes(rest, 0, &mut room).ok_or(Fault::Bad)?;
     if FILE < count {
-        return Err(Fault::Unloaded(Reply::Long, 0));
+        return Err(Fault::TooLong);
     }
     let loaded = casefile::load(&room[..count]);
     let Reply::Done = loaded.reply else {

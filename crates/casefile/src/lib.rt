@@ -17,9 +17,9 @@ use store::Store;
 
 // What a file says: the announced count of its records, and all its justifications held.
 #[derive(Clone, Copy)]
-struct Parsed {
-    records: u32,
-    held: Held,
+pub struct Parsed {
+    pub records: u32,
+    pub held: Held,
 }
 
 // What a file is refused with, and the record that has the fault.

@@ -19,10 +19,12 @@ use theory::LABEL;
 fn barred(struck: &[Set], pool: &Pool, e: Set) -> Option<Set>
     ensures { Barred struck.now (filled pool.now).sets e result }
 {
-    match members::first_within(struck, e) {
-        None => members::first_within(pool.sets(), e),
-        found => found,
+    if let Some(place) = members::first_within(struck, e) {
+        return Some(struck[place]);
     }
+    let sets = pool.sets();
+    let place = members::first_within(sets, e)?;
+    Some(sets[place])
 }
 
 // Each join of one member of the label of each support left offered to the pool; what is joined is not late.

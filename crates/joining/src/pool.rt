@@ -14,11 +14,11 @@ use theory::NOGOODS;
 pub const POOL: usize = NOGOODS + 1;
 
 // The sets in their places, how many they are, and the one that went out last, if one did.
-#[derive(Drop)]
+#[derive(Clone, Copy)]
 pub struct Pool {
-    sets: [Set; POOL],
-    count: usize,
-    bound: Option<Set>,
+    pub sets: [Set; POOL],
+    pub count: usize,
+    pub bound: Option<Set>,
     ghost fits: { count ≤ limits.nogoods + 1 },
     ghost well: { Well (record { sets = take count sets; bound = bound }) },
 }

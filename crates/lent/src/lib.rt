@@ -13,7 +13,7 @@ pub struct Listed {
     pub store: Store,
 }
 
-// The text into the lent bytes, where they are long enough.
+// The text into the lent bytes, where they are long enough. No copy_from_slice: here it came to C's memmove, and the library needs memcpy and memset alone.
 #[tactic(auto, using(crate::proofs::Fits::fitted_short))]
 pub fn fit(text: &[u8], out: &mut [u8]) -> Result<usize, Reply>
     ensures { Leaves (fitted text.now out.old) result out.new }
@@ -22,6 +22,8 @@ pub fn fit(text: &[u8], out: &mut [u8]) -> Result<usize, Reply>
     if out.len() < length {
         return Err(Reply::Short);
     }
-    out[..length].copy_from_slice(text);
+    for (i, byte) in text.iter().enumerate() {
+        out[i] = *byte;
+    }
     Ok(length)
 }

@@ -1,6 +1,6 @@
--- The first member within a set: it is of the list and lies within the set, and where there is none no member does. Assumes nothing.
-use Rattle.std.specs.Prelude.{Bool, Option, false, true, List, [], ◌∷◌, ◌≡◌, cond, ◌<◌, suc, zero, ℕ, Some, None, is_some, get_or, length, refl}
-use Rattle.std.proofs.Common.{◌-◌, ◌^◌, eqb, ap, ap₂, ◌∙◌, arith, subst}
+-- The first member within a set: the place that is found is in the list and its member lies within the set, and where none is found no member does. Assumes nothing.
+use Rattle.std.specs.Prelude.{Bool, Option, ◌||◌, false, true, List, [], ◌∷◌, ◌≡◌, cond, ◌<◌, ◌≤◌, ltb, suc, zero, ℕ, Some, None, is_some, get_or, length, refl}
+use Rattle.std.proofs.Common.{◌-◌, ◌^◌, add-one, ap, ◌∙◌, arith}
 use Rattle.std.proofs.Common.{◌+◌, sym}
 use Rattle.std.proofs.lemmas.Iterator.Adapters.{position_from-zero}
 use Rattle.std.proofs.lemmas.List.Folds.{find_at}
@@ -9,11 +9,13 @@ use Rattle.std.proofs.lemmas.List.Sums.{position_or_len_is}
 use Rattle.std.proofs.lemmas.Option.{slice_get-get_or}
 use Rattle.std.specs.List.{find, position, position_from, slice_get}
 use native.Mathlib.Nat.{mod-eq_of_lt}
+use lib.ListN.{drop, length-drop}
+use lib.Seq.{drop-cons}
 use lib.Bits.{and_comm, and_le_l, and_mask, or_add_and}
-use borrow.Author.Tests.{eq-eqb, eqb-true}
+use borrow.Author.Tests.{le-ltb, lt-ltb}
 use Rattle.sets.proofs.Operations.{and_not}
 use Rattle.sets.specs.Promised.{meet}
-use Rattle.theory.proofs.Lists.{same_test}
+use Rattle.theory.proofs.Lists.{not_so}
 use Rattle.theory.proofs.Sets.{or_within, within_or}
 use mathlib.Core.List.{Memᴰ as Mem}
 use mathlib.Core.List.Memᴰ.{head as here}
@@ -22,35 +24,57 @@ use Rattle.members.specs.Promised.{first_within}
 use Rattle.theory.specs.Lists.{some_of}
 use Rattle.theory.specs.Sets.{contains, within, without}
 
--- E contains a set of the list exactly when one is found
-pub contains_first : (l : List ℕ) (E : ℕ) → contains l E ≡ is_some (first_within l E)
+-- E contains a set of the list exactly when the first is found
+some_from : (l : List ℕ) (E n : ℕ) → contains l E ≡ is_some (position_from (λ F. within F E) n l)
 unfolding contains some_of
-contains_first [] E = refl
-contains_first (F ∷ l) E = let rest = contains_first l E in grind arith
-
--- what is found is of the list and lies within E
-pub found_is : (l : List ℕ) (E F : ℕ) → first_within l E ≡ Some F → Mem F l × (within F E ≡ true)
-found_is [] E F e = cc
-found_is (G ∷ l) E F e = go (within G E) refl e (found_is l E F)
+some_from [] E n = refl
+some_from (F ∷ l) E n = go (within F E) (some_from l E (n + 1))
   where
-    go : (b : Bool) → within G E ≡ b → cond b (Some G) (first_within l E) ≡ Some F → (first_within l E ≡ Some F → Mem F l × (within F E ≡ true)) → Mem F (G ∷ l) × (within F E ≡ true)
-    go true w e h = let q : G ≡ F = cc in (subst (λ (x : ℕ). Mem x (G ∷ l)) q (here refl), subst (λ (x : ℕ). within x E ≡ true) q w)
-    go false w e h = (there (h e).0, (h e).1)
+    go : (b : Bool) → contains l E ≡ is_some (position_from (λ F. within F E) (n + 1) l) → b || contains l E ≡ is_some (cond b (Some n) (position_from (λ F. within F E) (n + 1) l))
+    go true h = refl
+    go false h = h
 
--- ---- the test of a member: nothing of it is among what E has not
-module _ (E : ℕ) (q : E < 2 ^ 32) where
-  out_is : (a : ℕ) → a < 2 ^ 32 → meet a (without (2 ^ 32 - 1) E) ≡ a - meet a E
+pub contains_first : (l : List ℕ) (E : ℕ) → contains l E ≡ is_some (first_within l E)
+contains_first l E = some_from l E 0 ∙ ap (λ (o : Option ℕ). is_some o) (sym (position_from-zero (λ F. within F E) l))
+
+-- the place that is found: in the list, and its member lies within E
+pub first_at : (l : List ℕ) (E i : ℕ) → first_within l E ≡ Some i → (i < length l) × (within (get_or l i 0) E ≡ true)
+first_at l E i e = let h = position-Some (λ F. within F E) l i 0 e in (h.0, h.1)
+
+-- ---- the search, place by place
+-- what is left of a list from a place on begins with the member at that place
+pub left_at : (l : List ℕ) (i : ℕ) {rest left : List ℕ} {x : ℕ} → rest ≡ drop i l → rest ≡ x ∷ left → (i < length l) × (x ≡ get_or l i 0) × (left ≡ drop (i + 1) l)
+left_at l i {rest} {left} {x} p q =
+    let h : i < length l = omega (arith, ap length p, ap length q, length-drop i l) in
+    let e : x ∷ left ≡ get_or l i 0 ∷ drop (suc i) l = sym q ∙ p ∙ drop-cons l i 0 h in
+    (h, ap (λ (m : List ℕ). get_or m 0 0) e, ap (drop 1) e ∙ ap (λ (n : ℕ). drop n l) (sym (add-one i)))
+
+-- .. or is nothing at the end
+pub left_none : (l : List ℕ) (i : ℕ) {rest : List ℕ} → rest ≡ drop i l → length rest ≡ 0 → i ≤ length l → i ≡ length l
+left_none l i p q h = omega (arith, ap length p, length-drop i l)
+
+-- no member before this place lies within E
+module _ (l : List ℕ) (E i : ℕ) (passed : (k : ℕ) → k < i → within (get_or l k 0) E ≡ false) where
+  placed : i ≤ length l → (i < length l → within (get_or l i 0) E ≡ true) → first_within l E ≡ cond (ltb i (length l)) (Some i) None
+  placed h w = ap (λ (n : ℕ). cond (ltb n (length l)) (Some n) None) (position_or_len_is (λ F. within F E) l i 0 h passed w)
+
+  pub first_here : i < length l → within (get_or l i 0) E ≡ true → Some i ≡ first_within l E
+  first_here h w = sym (placed (omega arith) (λ q. w) ∙ ap (λ (b : Bool). cond b (Some i) None) (lt-ltb i (length l) h))
+
+  pub first_nowhere : i ≡ length l → None ≡ first_within l E
+  first_nowhere h = sym (placed (omega arith) (λ q. absurd (omega arith)) ∙ ap (λ (b : Bool). cond b (Some i) None) (le-ltb i (length l) (omega arith)))
+
+-- ---- the test of a member: nothing of a is among what E has not
+module _ (a E : ℕ) (p : a < 2 ^ 32) (q : E < 2 ^ 32) where
+  out_is : meet a (without (2 ^ 32 - 1) E) ≡ a - meet a E
   unfolding without
-  out_is a p = ap (λ (x : ℕ). meet a ((2 ^ 32 - 1) - x)) (and_comm (2 ^ 32 - 1) E ∙ and_mask E 32 ∙ mod-eq_of_lt q) ∙ and_not 32 a E p q
+  out_is = ap (λ (x : ℕ). meet a ((2 ^ 32 - 1) - x)) (and_comm (2 ^ 32 - 1) E ∙ and_mask E 32 ∙ mod-eq_of_lt q) ∙ and_not 32 a E p q
 
-  test_is : (a : ℕ) → a < 2 ^ 32 → eqb (meet a (without (2 ^ 32 - 1) E)) 0 ≡ within a E
-  test_is a p =
-      same_test (λ t. let z : meet a (without (2 ^ 32 - 1) E) ≡ 0 = eqb-true (meet a (without (2 ^ 32 - 1) E)) 0 t in or_within a E (omega (arith, out_is a p, or_add_and a E, and_le_l a E)))
-      (λ t. eq-eqb (meet a (without (2 ^ 32 - 1) E)) 0 (omega (arith, out_is a p, within_or a E t, or_add_and a E, and_le_l a E)))
+  pub none_out : meet a (without (2 ^ 32 - 1) E) ≡ 0 → within a E ≡ true
+  none_out z = or_within a E (omega (arith, out_is, z, or_add_and a E, and_le_l a E))
 
-  pub found_by : (l : List ℕ) → ((i : ℕ) → get_or l i 0 < 2 ^ 32) → find (λ a. eqb (meet a (without (2 ^ 32 - 1) E)) 0) l ≡ first_within l E
-  found_by [] h = refl
-  found_by (x ∷ l) h = ap₂ (λ (b : Bool) (r : Option ℕ). cond b (Some x) r) (test_is x (h 0)) (found_by l (λ i. h (suc i)))
+  pub some_out : (meet a (without (2 ^ 32 - 1) E) ≡ 0 → ⊥) → within a E ≡ false
+  some_out z = not_so (within a E) (λ t. z (omega (arith, out_is, within_or a E t, or_add_and a E, and_le_l a E)))
 
 -- ---- the first that passes, by its place
 pub placed_find : (p : ℕ → Bool) (l : List ℕ) (i : ℕ) → position p l ≡ Some i → find p l ≡ Some (get_or l i 0)

@@ -10,10 +10,12 @@ use lib.Dec.{eqb, leb, ltb}
 use lib.ListN.{drop, drop_of_length-le, get_or, length, length-drop}
 use lib.Seq.{drop-cons, drop-drop}
 use borrow.Author.Tests.{lt-ltb, le-ltb, ltb-true, ltb-false}
-use Rattle.numbers.specs.Numbers.{Taken, got, bad, and_then, second_from, number_from, two_from, placed, number_at}
+use Rattle.numbers.specs.Numbers.{Taken, got, bad, and_then, second_from, number_from, two_from, placed, number_at, pair_of, past_of}
+use Rattle.numbers.specs.declared.Number.{Number}
+use Rattle.numbers.specs.declared.Pair.{Pair}
 use Rattle.numbers.specs.declared.Reader.{Reader}
 use Rattle.numbers.specs.Reader.{Takes, after, left, outcome}
-use Rattle.std.specs.Prelude.{Ok, Err}
+use Rattle.std.specs.Prelude.{Result, Ok, Err}
 use Rattle.replies.specs.Replies.{number_of}
 use Rattle.replies.specs.declared.Reply.TheVariants.{Ends, Form}
 use Rattle.replies.specs.declared.Reply.{Reply}
@@ -47,6 +49,47 @@ module _ (b c : ℕ) where
   second_refused : (f : Reply) (rest : List ℕ) → Err f ≡ outcome (second_from b (c ∷ [])) → second_from b (c ∷ rest) ≡ bad f
   unfolding second_from
   second_refused f rest p = unmade (leb 1 c && ltb c 128) (b - 128 + 128 * c) f rest p
+
+-- ---- the number at a place, case by case
+
+module _ (l : List ℕ) (at : ℕ) where
+  -- n, and the bytes from the place k on
+  value : (n k : ℕ) → k ≤ length l → number_from (drop at l) ≡ got n (drop k l) → Ok (record { value = n; next = k }) ≡ number_at l at
+  unfolding number_at
+  value n k h e = let d : length l - length (drop k l) ≡ k = omega (arith, length-drop k l) in sym (ap (placed l) e ∙ ap (λ (i : ℕ). Ok (record { value = n; next = i })) d)
+
+  refused : (f : Reply) → number_from (drop at l) ≡ bad f → Err f ≡ number_at l at
+  unfolding number_at
+  refused f e = sym (ap (placed l) e)
+
+  pub no_first : length l ≤ at → Err Ends ≡ number_at l at
+  unfolding number_from
+  no_first h = refused Ends (ap number_from (drop_of_length-le l {i = at} h))
+
+  module _ (b : ℕ) (h : at < length l) (e : b ≡ get_or l at 0) where
+    pub one_byte : b < 128 → Ok (record { value = b; next = at + 1 }) ≡ number_at l at
+    one_byte s = value b (at + 1) (omega arith) (rw (first l at b h e, lt-ltb b 128 s))
+
+    module _ (s : 128 ≤ b) where
+      on : number_from (drop at l) ≡ second_from b (drop (at + 1) l)
+      on = rw (first l at b h e, le-ltb b 128 s)
+
+      pub no_second : length l ≤ at + 1 → Err Ends ≡ number_at l at
+      unfolding second_from
+      no_second k = refused Ends (on ∙ ap (second_from b) (drop_of_length-le l {i = at + 1} k))
+
+      module _ (c : ℕ) (k : at + 1 < length l) (q : c ≡ get_or l (at + 1) 0) where
+        step : second_from b (drop (at + 1) l) ≡ second_from b (c ∷ drop (at + 2) l)
+        step = let e : suc (at + 1) ≡ at + 2 = omega arith in ap (second_from b) (drop-cons l (at + 1) 0 k) ∙ rw (e, ← q)
+
+        pub refused_second : (f : Reply) → Err f ≡ outcome (second_from b (c ∷ [])) → Err f ≡ number_at l at
+        refused_second f p = refused f (on ∙ step ∙ second_refused b c f (drop (at + 2) l) p)
+
+        pub two_bytes : (n : ℕ) → Ok n ≡ outcome (second_from b (c ∷ [])) → Ok (record { value = n; next = at + 2 }) ≡ number_at l at
+        two_bytes n p = value n (at + 2) (omega arith) (on ∙ step ∙ second_made b c n (drop (at + 2) l) p)
+
+-- each case of a number at a place
+pub ruleset cases = (no_first, one_byte, no_second, refused_second, two_bytes)
 
 -- ---- what is taken lies in the bytes
 
@@ -153,42 +196,42 @@ module _ {X : Type 0} (t : List ℕ → Taken X) (r : Reader) where
 
 -- ---- a number
 
+before_end : (l : List ℕ) (at n : ℕ) (rest : List ℕ) → number_from (drop at l) ≡ got n rest → at < length l
+unfolding number_from
+before_end l at n rest e =
+    ⊎_elim (λ t. ltb-true at (length l) t) (λ t. let z : bad Ends ≡ got n rest = sym (ap number_from (drop_of_length-le l {i = at} (ltb-false at (length l) t))) ∙ e in absurd cc) (either (ltb at (length l)))
+
+module _ (l : List ℕ) (at : ℕ) where
+  from_value : (t : Taken ℕ) → Onward (drop at l) t → number_from (drop at l) ≡ t → (n next : ℕ) → placed l t ≡ Ok (record { value = n; next = next }) → (t ≡ got n (drop next l)) × (at ≤ next) × (next ≤ length l)
+  unfolding Onward
+  from_value (got x rest) (k, h, e) q n next p =
+      let b : at < length l = before_end l at x rest q in
+      let y : ◌≡◌ {A = Number} (record { value = x; next = length l - length rest }) (record { value = n; next = next }) = cc in
+      let d : length rest ≡ length (drop at l) - k = ap length e ∙ length-drop k (drop at l) in
+      let i : length l - length rest ≡ next = ap (λ (z : Number). z.next) y in
+      let w : next ≡ at + k = omega (arith, length-drop at l) in
+      let v : rest ≡ drop next l = e ∙ (drop-drop k at l ∙ ap (λ (j : ℕ). drop j l) (sym w)) in
+      (ap₂ got (ap (λ (z : Number). z.value) y) v, omega arith, omega (arith, length-drop at l))
+  from_value (bad f) o q n next p = absurd cc
+
+  from_bad : (t : Taken ℕ) (f : Reply) → placed l t ≡ Err f → t ≡ bad f
+  from_bad (got x rest) f p = absurd cc
+  from_bad (bad g) f p = let e : g ≡ f = cc in ap bad e
+
+  pub value_from_lem : (n next : ℕ) → number_at l at ≡ Ok (record { value = n; next = next }) → (number_from (drop at l) ≡ got n (drop next l)) × (at ≤ next) × (next ≤ length l)
+  unfolding number_at
+  value_from_lem n next p = from_value (number_from (drop at l)) (onward (drop at l) 0) refl n next p
+
+  pub bad_from : (f : Reply) → number_at l at ≡ Err f → number_from (drop at l) ≡ bad f
+  unfolding number_at
+  bad_from f p = from_bad (number_from (drop at l)) f p
+
 module _ (r : Reader) where
-  abbrev l : List ℕ
-  l = r.bytes.now
-
-  abbrev at : ℕ
-  at = r.at
-
-  -- k bytes on
-  value : (n k : ℕ) → at + k ≤ length l → number_from (drop at l) ≡ got n (drop (at + k) l) → Takes number_from r (record r { at = at + k }) (Ok n)
-  value n k h e = takes number_from r (record r { at = at + k }) n (record { taken = e; past = record { bytes = refl; on = omega arith; left_so = omega (arith, length-drop at l, length-drop (at + k) l) } })
-
-  pub no_first : length l ≤ at → Takes number_from r r (Err Ends)
-  unfolding number_from
-  no_first h = fault number_from r Ends (ap number_from (drop_of_length-le l {i = at} h))
-
-  module _ (b : ℕ) (h : at < length l) (e : b ≡ get_or l at 0) where
-    pub one_byte : b < 128 → Takes number_from r (record r { at = at + 1 }) (Ok b)
-    one_byte s = value b 1 (omega arith) (rw (first l at b h e, lt-ltb b 128 s))
-
-    module _ (s : 128 ≤ b) where
-      on : number_from (drop at l) ≡ second_from b (drop (at + 1) l)
-      on = rw (first l at b h e, le-ltb b 128 s)
-
-      pub no_second : length l ≤ at + 1 → Takes number_from r r (Err Ends)
-      unfolding second_from
-      no_second k = fault number_from r Ends (on ∙ ap (second_from b) (drop_of_length-le l {i = at + 1} k))
-
-      module _ (c : ℕ) (k : at + 1 < length l) (q : c ≡ get_or l (at + 1) 0) where
-        step : second_from b (drop (at + 1) l) ≡ second_from b (c ∷ drop (at + 2) l)
-        step = let e : suc (at + 1) ≡ at + 2 = omega arith in ap (second_from b) (drop-cons l (at + 1) 0 k) ∙ rw (e, ← q)
-
-        pub refused_second : (f : Reply) → Err f ≡ outcome (second_from b (c ∷ [])) → Takes number_from r r (Err f)
-        refused_second f p = fault number_from r f (on ∙ step ∙ second_refused b c f (drop (at + 2) l) p)
-
-        pub two_bytes : (n : ℕ) → Ok n ≡ outcome (second_from b (c ∷ [])) → Takes number_from r (record r { at = at + 2 }) (Ok n)
-        two_bytes n p = value n 2 (omega arith) (on ∙ step ∙ second_made b c n (drop (at + 2) l) p)
+  -- the number at the reader's place is taken, and the reader stands after it
+  pub number_there : (x : Number) → number_at r.bytes.now r.at ≡ Ok x → Took number_from r (record r { at = x.next }) x.value
+  number_there x p =
+      let (e, o, h) = value_from_lem r.bytes.now r.at x.value x.next p in
+      record { taken = e; past = record { bytes = refl; on = o; left_so = omega (arith, o, h, length-drop r.at r.bytes.now, length-drop x.next r.bytes.now) } }
 
   pub number_took : (s : Reader) (n : ℕ) → Takes number_from r s (Ok n) → Took number_from r s n
   number_took s n p = took number_from r (onward (left r) 0) s n p
@@ -201,12 +244,22 @@ two_onward l = onward_then l (number_from l) _ (onward l 0) (λ m p h. onward_th
 pub two_took : (r s : Reader) (m n : ℕ) → Takes two_from r s (Ok (m, n)) → Took two_from r s (m, n)
 two_took r s m n p = took two_from r (two_onward (left r)) s (m, n) p
 
+pub first_faulted : (r : Reader) (f : Reply) → number_from (left r) ≡ bad f → two_from (left r) ≡ bad f
+first_faulted r f q = rw q
+
 module _ (r s : Reader) (m : ℕ) (p : Took number_from r s m) where
   pub two_taken : (t : Reader) (n : ℕ) → Took number_from s t n → Took two_from r t (m, n)
   two_taken t n q = record { taken = rw (p.taken, q.taken); past = past_more r s t p.past q.past }
 
   pub two_faulted : (f : Reply) → number_from (left s) ≡ bad f → two_from (left r) ≡ bad f
   two_faulted f q = rw (p.taken, q)
+
+module _ (l : List ℕ) (at : ℕ) (r : Pair) (e : r ≡ pair_of l at) where
+  pub pair_first : {n : Result Number Reply} → r.first ≡ n → number_at l at ≡ n
+  pair_first h = sym (ap (λ (p : Pair). p.first) e) ∙ h
+
+  pub pair_second : {n : Result Number Reply} (x : Number) → r.first ≡ Ok x → r.second ≡ n → number_at l x.next ≡ n
+  pair_second x h k = ap (λ (m : Result Number Reply). number_at l (past_of m at)) (sym (pair_first h)) ∙ (sym (ap (λ (q : Pair). q.second) e) ∙ k)
 
 -- what comes after two numbers comes after one and another
 module _ {X : Type 0} (f : ℕ → ℕ → List ℕ → Taken X) where
@@ -220,22 +273,3 @@ module _ {X : Type 0} (f : ℕ → ℕ → List ℕ → Taken X) where
 
   pub two_then : (l : List ℕ) → and_then (two_from l) (λ p l₁. f p.0 p.1 l₁) ≡ and_then (number_from l) (λ m l₁. and_then (number_from l₁) (f m))
   two_then l = first_then (number_from l)
-
--- ---- the number at a place
-
-before_end : (l : List ℕ) (at n : ℕ) (rest : List ℕ) → number_from (drop at l) ≡ got n rest → at < length l
-unfolding number_from
-before_end l at n rest e =
-    ⊎_elim (λ t. ltb-true at (length l) t) (λ t. let z : bad Ends ≡ got n rest = sym (ap number_from (drop_of_length-le l {i = at} (ltb-false at (length l) t))) ∙ e in absurd cc) (either (ltb at (length l)))
-
-module _ (r : Reader) where
-  pub value_at : (s : Reader) (n : ℕ) → Took number_from r s n → Ok (record { value = n; next = s.at }) ≡ number_at r.bytes.now r.at
-  unfolding number_at
-  value_at s n p =
-      let b : r.at < length r.bytes.now = before_end r.bytes.now r.at n (left s) p.taken in
-      let d : length r.bytes.now - length (left s) ≡ s.at = omega (arith, p.past.left_so, length-drop r.at r.bytes.now) in
-      sym (ap (placed r.bytes.now) p.taken ∙ ap (λ (k : ℕ). Ok (record { value = n; next = k })) d)
-
-  pub fault_at : (s : Reader) (f : Reply) → Takes number_from r s (Err f) → Err f ≡ number_at r.bytes.now r.at
-  unfolding number_at
-  fault_at s f p = sym (ap (placed r.bytes.now) (faulted number_from r s f p))

@@ -2,6 +2,7 @@
 use Rattle.std.specs.Prelude.{◌&&◌, List, [], ◌∷◌, ◌≡◌, ℕ, ◌+◌, ◌*◌, ◌-◌, leb, ltb, drop, length, Result, Ok, Err}
 use Rattle.std.proofs.Math.Option.{Option, none, some}
 use Rattle.numbers.specs.declared.Number.{Number}
+use Rattle.numbers.specs.declared.Pair.{Pair}
 use Rattle.replies.specs.Replies.{number_of}
 use Rattle.replies.specs.declared.Reply.TheVariants.{Ends, Form}
 use Rattle.replies.specs.declared.Reply.{Reply}
@@ -55,7 +56,14 @@ abbrev pub past_of : Result Number Reply → ℕ → ℕ
 past_of (Ok x) at = x.next
 past_of (Err f) at = at
 
--- ---- what the reading of one number promises of its answer r
+-- two numbers one after another, each with an answer of its own
+abbrev pub pair_of : List ℕ → ℕ → Pair
+pair_of l at = record { first = number_at l at; second = number_at l (past_of (number_at l at) at) }
+
+-- ---- what `read` and `two` promise of their answer r
 
 abbrev pub IsNumber : List ℕ → ℕ → Result Number Reply → Type 0
 IsNumber l at r = r ≡ number_at l at
+
+abbrev pub AreNumbers : List ℕ → ℕ → Pair → Type 0
+AreNumbers l at r = r ≡ pair_of l at

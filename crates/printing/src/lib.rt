@@ -4,16 +4,14 @@
 ghost use Rattle.std.specs.Prelude.{◌≤◌, length};
 
 use replies::Reply;
-use std::fmt::Display;
-use std::io;
 use std::io::{IsTerminal, Print, Read, Stderr, Stdin, Stdout};
 use text::Writer;
 
 // Where a program writes: its output, and what failed.
 #[derive(Clone, Copy)]
 pub struct Console {
-    output: Stdout,
-    complaints: Stderr,
+    pub output: Stdout,
+    pub complaints: Stderr,
 }
 
 impl Console {
@@ -30,26 +28,16 @@ impl Console {
         let _ = self.complaints.write_all(text);
     }
 
-    // What could not be written is told on standard error.
-    fn told(self, outcome: io::Result<()>) {
-        if outcome.is_err() {
+    // Bytes as they are; what could not be written is told on standard error.
+    pub fn say(self, text: &[u8]) {
+        if self.output.write_all(text).is_err() {
             self.complain(b"the output could not be written\n");
         }
     }
 
-    // Bytes as they are.
-    pub fn say(self, text: &[u8]) {
-        self.told(self.output.write_all(text));
-    }
-
-    // A text, for `print!`.
-    pub fn print<D: Display + Drop>(self, text: D) {
-        self.told(self.output.print(text));
-    }
-
-    // A text and a newline, for `println!`.
-    pub fn println<D: Display + Drop>(self, text: D) {
-        self.told(self.output.println(text));
+    // A number in decimal digits. That it could not be written is told by the text after it.
+    pub fn number(self, n: u32) {
+        let _ = self.output.print(n);
     }
 
     // The text that a call wrote; where it wrote none, that is told on standard error.
@@ -60,6 +48,13 @@ impl Console {
             return self.say(text);
         }
         self.complain(b"there is no room for the text\n");
+    }
+
+    // The line of a refusal and of the record being read.
+    pub fn refused(self, reply: Reply, record: u32) {
+        let mut text = [0u8; lines::LONGEST];
+        let answer = lines::refusal(reply, record, &mut text);
+        self.written(answer, &text);
     }
 
     // A set as the listing prints it.

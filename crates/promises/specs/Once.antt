@@ -41,8 +41,10 @@ use Rattle.numbers.specs.contracts.read as read_at
 use Rattle.numbers.proofs.read.Reads as read-reads
 use Rattle.numbers.specs.contracts.Reader.number as next-number-at
 use Rattle.numbers.proofs.Reader.number.Reads as next-number-reads
-use Rattle.numbers.specs.contracts.Reader.two as two_at
-use Rattle.numbers.proofs.Reader.two.Reads as two-reads
+use Rattle.numbers.specs.contracts.Reader.two as next-two-at
+use Rattle.numbers.proofs.Reader.two.Reads as next-two-reads
+use Rattle.numbers.specs.contracts.two as two_at
+use Rattle.numbers.proofs.two.Reads as two-reads
 use Rattle.replies.specs.contracts.number as number_at
 use Rattle.replies.proofs.number.Reads as number-reads
 use Rattle.holding.specs.contracts.holds as holds_at
@@ -251,6 +253,7 @@ pub record OnceEach : Type 0 where
   pub line_one_one : Once line-one-at.ended line-one-reads.Learnt
   pub read_one : Once read_at.ended read-reads.Learnt
   pub next_number_one : Once next-number-at.ended next-number-reads.Learnt
+  pub next_two_one : Once next-two-at.ended next-two-reads.Learnt
   pub two_one : Once two_at.ended two-reads.Learnt
   pub header_one : Once header_at.ended header-reads.Learnt
   pub record_one : Once record-at.ended record-reads.Learnt

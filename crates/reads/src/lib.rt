@@ -1,6 +1,8 @@
 // The calls that read the store, one each: the call made, its reply printed.
 #![tactic(auto)]
 
+ghost use Rattle.std.specs.Prelude.{◌≤◌};
+
 use asking::Answer;
 use printing::Console;
 use replies::Reply;
@@ -10,8 +12,9 @@ use telling::{Fault, asked, filled, told};
 use theory::MARKS;
 
 // The word of an answer and the set that is its reason.
-fn because(console: Console, word: &str, set: Set) {
-    print!(console; "{word} ");
+fn because(console: Console, word: &[u8], set: Set) {
+    console.say(word);
+    console.say(b" ");
     console.set(set);
     console.say(b"\n");
 }
@@ -19,8 +22,8 @@ fn because(console: Console, word: &str, set: Set) {
 // ask N K..
 pub fn ask(console: Console, store: &Store, n: u32, set: &[u32]) -> Result<(), Fault> {
     match asking::question(*store, n, asked(set)?).answer? {
-        Answer::Inconsistent(set) => because(console, "inconsistent", set),
-        Answer::Supported(set) => because(console, "supported", set),
+        Answer::Inconsistent(set) => because(console, b"inconsistent", set),
+        Answer::Supported(set) => because(console, b"supported", set),
         Answer::Unsupported => console.say(b"unsupported\n"),
     }
     Ok(())
@@ -59,14 +62,26 @@ pub fn list(console: Console, store: &Store) -> Result<(), Fault> {
     told(console, out.answer, &text)
 }
 
-// write: two hex digits a byte, a space between two
+// One of the sixteen hex digits.
+fn digit(n: u8) -> u8
+    requires { n ≤ 15 }
+{
+    match n {
+        0..=9 => b'0' + n,
+        _ => b'a' + (n - 10),
+    }
+}
+
+// write: two hex digits a byte, a space between two. No `print!`: it formats a byte at a time, in twice the instructions.
 pub fn write(console: Console, store: &Store) -> Result<(), Fault> {
     let mut bytes = [0u8; writing::LONGEST];
     let out = writing::write(*store, &mut bytes);
-    let mut between = "";
-    for byte in bytes.get(..out.answer?).ok_or(Reply::Short)? {
-        print!(console; "{between}{byte:02x}");
-        between = " ";
+    let file = bytes.get(..out.answer?).ok_or(Reply::Short)?;
+    for (i, byte) in file.iter().enumerate() {
+        if 0 < i {
+            console.say(b" ");
+        }
+        console.say(&[digit(byte / 16), digit(byte % 16)]);
     }
     console.say(b"\n");
     Ok(())

@@ -1,4 +1,7 @@
 // The words that a line of a script may begin with.
+ghost use Rattle.replay.specs.Commands.{among, command_of};
+ghost use Rattle.std.specs.Prelude.{◌≡◌, map};
+
 use telling::Fault;
 
 #[derive(Clone, Copy)]
@@ -24,32 +27,47 @@ pub enum Command {
     BareStages,
 }
 
+const WORDS: [(&[u8], Command); 19] = [
+    (b"open", Command::Open),
+    (b"load", Command::Load),
+    (b"add", Command::Add),
+    (b"withdraw", Command::Withdraw),
+    (b"rule", Command::Rule),
+    (b"forget", Command::Forget),
+    (b"season", Command::Season),
+    (b"ask", Command::Ask),
+    (b"context", Command::Context),
+    (b"member", Command::Member),
+    (b"line", Command::Line),
+    (b"list", Command::List),
+    (b"write", Command::Write),
+    (b"plain", Command::Plain),
+    (b"plaincontext", Command::PlainContext),
+    (b"stages", Command::Stages),
+    (b"bareask", Command::BareAsk),
+    (b"barecontext", Command::BareContext),
+    (b"barestages", Command::BareStages),
+];
+
+// The command of a word among some; any other word makes the line bad.
+fn find(mut words: &[(&[u8], Command)], word: &[u8]) -> Result<Command, Fault>
+    ensures { result ≡ among (map (λ p. (p.0.now, p.1)) words.entry.now) word.now }
+{
+    while let [first, rest @ ..] = words {
+        if script::same(word, first.0) {
+            return Ok(first.1);
+        }
+        words = rest;
+    }
+    Err(Fault::Bad)
+}
+
 impl TryFrom<&[u8]> for Command {
     type Error = Fault;
 
-    // The command of a word; any other word makes the line bad.
+    ghost try_from_gives = { λ word r. r ≡ command_of word.now };
+
     fn try_from(word: &[u8]) -> Result<Command, Fault> {
-        match word {
-            b"open" => Ok(Command::Open),
-            b"load" => Ok(Command::Load),
-            b"add" => Ok(Command::Add),
-            b"withdraw" => Ok(Command::Withdraw),
-            b"rule" => Ok(Command::Rule),
-            b"forget" => Ok(Command::Forget),
-            b"season" => Ok(Command::Season),
-            b"ask" => Ok(Command::Ask),
-            b"context" => Ok(Command::Context),
-            b"member" => Ok(Command::Member),
-            b"line" => Ok(Command::Line),
-            b"list" => Ok(Command::List),
-            b"write" => Ok(Command::Write),
-            b"plain" => Ok(Command::Plain),
-            b"plaincontext" => Ok(Command::PlainContext),
-            b"stages" => Ok(Command::Stages),
-            b"bareask" => Ok(Command::BareAsk),
-            b"barecontext" => Ok(Command::BareContext),
-            b"barestages" => Ok(Command::BareStages),
-            _ => Err(Fault::Bad),
-        }
+        find(&WORDS, word)
     }
 }

@@ -21,9 +21,9 @@ pub record Cases : Type 0 where
   pub past_the_end : line_end (text "list\n\nline 0") 20 ≡ 12
   -- one or more spaces separate fields, and spaces at either end do not matter
   pub fields : fields_of (text "  add 4  1 2 ") ≡ text "add" ∷ text "4" ∷ text "1" ∷ text "2" ∷ []
-  pub first_field : field_at (text "  add 4  1 2 ") 0 ≡ record { start = 2; end = 5 }
-  pub next_field : field_at (text "  add 4  1 2 ") 7 ≡ record { start = 9; end = 10 }
-  pub no_field : field_at (text "  add 4  1 2 ") 12 ≡ record { start = 13; end = 13 }
+  pub first_field : field_at (text "  add 4  1 2 ") 0 ≡ record { from = 2; to = 5 }
+  pub next_field : field_at (text "  add 4  1 2 ") 7 ≡ record { from = 9; to = 10 }
+  pub no_field : field_at (text "  add 4  1 2 ") 12 ≡ record { from = 13; to = 13 }
   pub blank : fields_of (text "   ") ≡ []
   -- any other byte is part of a field
   pub tab : fields_of (text "add\t4\r") ≡ text "add\t4\r" ∷ []

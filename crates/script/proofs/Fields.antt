@@ -13,7 +13,7 @@ use borrow.Author.Tests.{le-ltb, lt-ltb}
 use Rattle.script.proofs.Places.{leading_few, past_on, past_rest, past_within}
 use Rattle.script.specs.Promised.{IsField}
 use Rattle.script.specs.Script.{field_at, fields_of, leading, longer, other, parts_of, past}
-use Rattle.std.specs.declared.ops.Range.{Range}
+use Rattle.script.specs.declared.Span.{Span}
 use Rattle.theory.proofs.Lists.{either}
 use Rattle.theory.specs.Lists.{choose, keep, those}
 
@@ -126,32 +126,32 @@ module _ (l : List ℕ) (at : ℕ) where
   from_fields : fields_of (drop at l) ≡ fields_of (drop from l)
   from_fields = fields_start (drop at l) ∙ ap fields_of (sym from_rest)
 
-  order_at : (field_at l at).start ≤ (field_at l at).end
+  order_at : (field_at l at).from ≤ (field_at l at).to
   unfolding field_at
   order_at = omega (arith, to_size)
 
-  within_at : (field_at l at).end ≤ length l
+  within_at : (field_at l at).to ≤ length l
   unfolding field_at
   within_at = past_within (other 32) l from
 
-  on_at : (field_at l at).start < (field_at l at).end → at ≤ (field_at l at).start
+  on_at : (field_at l at).from < (field_at l at).to → at ≤ (field_at l at).from
   unfolding field_at
   on_at h = omega (arith, past_on (eqb 32) l at, past_within (other 32) l from)
 
-  none_at : (field_at l at).start ≡ (field_at l at).end → fields_of (drop at l) ≡ []
+  none_at : (field_at l at).from ≡ (field_at l at).to → fields_of (drop at l) ≡ []
   unfolding field_at fields_of parts_of those
   none_at h =
       let n : size ≡ 0 = omega (arith, to_size) in
       fields_start (drop at l) ∙ ap fields_of (nothing_left (drop at l) (ap (leading (other 32)) (sym from_rest) ∙ n))
 
-  last_at : (field_at l at).start ≡ (field_at l at).end → (field_at l at).start ≡ length l
+  last_at : (field_at l at).from ≡ (field_at l at).to → (field_at l at).from ≡ length l
   unfolding field_at
   last_at h =
       let n : size ≡ 0 = omega (arith, to_size) in
       let e : drop from l ≡ [] = from_rest ∙ nothing_left (drop at l) (ap (leading (other 32)) (sym from_rest) ∙ n) in
       omega (arith, past_within (eqb 32) l at, length-drop from l, ap length e)
 
-  some_at : (field_at l at).start < (field_at l at).end → fields_of (drop at l) ≡ take ((field_at l at).end - (field_at l at).start) (drop (field_at l at).start l) ∷ fields_of (drop (field_at l at).end l)
+  some_at : (field_at l at).from < (field_at l at).to → fields_of (drop at l) ≡ take ((field_at l at).to - (field_at l at).from) (drop (field_at l at).from l) ∷ fields_of (drop (field_at l at).to l)
   unfolding field_at
   some_at h =
       let n : size ≡ to - from = omega (arith, to_size) in
@@ -165,36 +165,36 @@ module _ (l : List ℕ) (at : ℕ) where
 -- ---- the field s that is found from a place on
 
 -- a field from a place on, within the line
-pub record Inside (l : List ℕ) (at : ℕ) (s : Range ℕ) : Type 0 where
-  pub on : at ≤ s.start
-  pub filled : s.start < s.end
-  pub within : s.end ≤ length l
+pub record Inside (l : List ℕ) (at : ℕ) (s : Span) : Type 0 where
+  pub on : at ≤ s.from
+  pub filled : s.from < s.to
+  pub within : s.to ≤ length l
 
-module _ (l : List ℕ) (at : ℕ) (s : Range ℕ) (found : IsField l at s) where
+module _ (l : List ℕ) (at : ℕ) (s : Span) (found : IsField l at s) where
   -- its places stand in order within the line
-  pub field_order : s.start ≤ s.end
+  pub field_order : s.from ≤ s.to
   field_order = rw found (order_at l at)
 
-  pub field_within : s.end ≤ length l
+  pub field_within : s.to ≤ length l
   field_within = rw found (within_at l at)
 
   -- where there is one it stands past the place that was looked from
-  pub field_inside : (s.start ≡ s.end → ⊥) → Inside l at s
+  pub field_inside : (s.from ≡ s.to → ⊥) → Inside l at s
   field_inside h =
-      let k : s.start < s.end = omega (arith, field_order) in
+      let k : s.from < s.to = omega (arith, field_order) in
       record { on = rw found (on_at l at (rw found at k)); filled = k; within = field_within }
 
   -- where there is none both places are the length
-  pub field_last : s.start ≡ s.end → s.start ≡ length l
+  pub field_last : s.from ≡ s.to → s.from ≡ length l
   field_last h = rw found (last_at l at (rw found at h))
 
   -- where it is empty there is none
-  pub field_none : s.start ≡ s.end → fields_of (drop at l) ≡ []
+  pub field_none : s.from ≡ s.to → fields_of (drop at l) ≡ []
   field_none h = none_at l at (rw found at h)
 
   -- else it is the first, and the others are those from the place after it on
-  pub field_some : (s.start ≡ s.end → ⊥) → fields_of (drop at l) ≡ take (s.end - s.start) (drop s.start l) ∷ fields_of (drop s.end l)
-  field_some h = let k : s.start < s.end = omega (arith, field_order) in rw found (some_at l at (rw found at k))
+  pub field_some : (s.from ≡ s.to → ⊥) → fields_of (drop at l) ≡ take (s.to - s.from) (drop s.from l) ∷ fields_of (drop s.to l)
+  field_some h = let k : s.from < s.to = omega (arith, field_order) in rw found (some_at l at (rw found at k))
 
 -- ---- walking from field to field
 
@@ -202,20 +202,20 @@ module _ (l : List ℕ) (at : ℕ) (s : Range ℕ) (found : IsField l at s) wher
 unfoldable pub found_fields : ℕ → List ℕ → ℕ → List (List ℕ)
 found_fields zero l at = []
 found_fields (suc n) l at =
-    let s : Range ℕ = field_at l at in
-    let after : List (List ℕ) = found_fields n l s.end in
-    choose (ltb s.start s.end) (take (s.end - s.start) (drop s.start l) ∷ after) []
+    let s : Span = field_at l at in
+    let after : List (List ℕ) = found_fields n l s.to in
+    choose (ltb s.from s.to) (take (s.to - s.from) (drop s.from l) ∷ after) []
 
 -- a walk finds exactly the fields from its place on
 pub fields_found : (n : ℕ) (l : List ℕ) (at : ℕ) → length l - at < n → found_fields n l at ≡ fields_of (drop at l)
 unfolding found_fields
 fields_found zero l at h = absurd (omega arith)
-fields_found (suc n) l at h = elim (dec_lt (field_at l at).start (field_at l at).end) [
-  | yes p ↦ rw (lt-ltb (field_at l at).start (field_at l at).end p) (
-      ap (λ (fs : List (List ℕ)). take ((field_at l at).end - (field_at l at).start) (drop (field_at l at).start l) ∷ fs)
-      (fields_found n l (field_at l at).end (omega (arith, on_at l at p, within_at l at)))
+fields_found (suc n) l at h = elim (dec_lt (field_at l at).from (field_at l at).to) [
+  | yes p ↦ rw (lt-ltb (field_at l at).from (field_at l at).to p) (
+      ap (λ (fs : List (List ℕ)). take ((field_at l at).to - (field_at l at).from) (drop (field_at l at).from l) ∷ fs)
+      (fields_found n l (field_at l at).to (omega (arith, on_at l at p, within_at l at)))
       ∙ sym (some_at l at p))
-  | no p ↦ rw (le-ltb (field_at l at).start (field_at l at).end (omega arith)) (sym (none_at l at (omega (arith, order_at l at))))
+  | no p ↦ rw (le-ltb (field_at l at).from (field_at l at).to (omega arith)) (sym (none_at l at (omega (arith, order_at l at))))
 ]
 
 -- from place 0 on it finds the fields of the line

@@ -3,6 +3,7 @@ use Rattle.std.specs.Prelude.{Bool, ◌&&◌, false, true, List, [], ◌∷◌, 
 use Rattle.std.specs.Char.{digit_value}
 use Rattle.std.proofs.Common.{arith, refl, sym, ap, ap₂, ◌∙◌, add-one}
 use Rattle.std.proofs.lemmas.Bool.Decides.{nat_tests}
+use native.Mathlib.Decide.{ℕ_discrete}
 use lib.ListN.{drop_of_length-le}
 use lib.Seq.{drop-cons}
 use borrow.Author.Tests.{le-leb, le-ltb, lt-leb, lt-ltb}
@@ -93,3 +94,20 @@ hex_two [] h = absurd (omega arith)
 hex_two (a ∷ []) h = absurd (omega arith)
 hex_two (a ∷ b ∷ []) h = refl
 hex_two (a ∷ b ∷ d ∷ f) h = absurd (omega arith)
+
+-- a digit is below 16
+pub digit_small : (b n : ℕ) → hex_digit b ≡ Some n → n < 16
+unfolding hex_digit
+digit_small b n e = grind (arith, nat_tests, e)
+
+paired_small : (o p : Option ℕ) (n : ℕ) → ((m : ℕ) → o ≡ Some m → m < 16) → ((m : ℕ) → p ≡ Some m → m < 16) → paired o p ≡ Some n → n < 256
+paired_small (Some h) (Some l) n f g e = grind (arith, f h refl, g l refl, e)
+paired_small (Some h) None n f g e = grind (arith, e)
+paired_small None p n f g e = grind (arith, e)
+
+-- two digits make a byte
+pub byte_small : (f : List ℕ) (n : ℕ) → hex_byte f ≡ Some n → n < 256
+byte_small f n e = elim (ℕ_discrete (length f) 2) [
+  | yes h ↦ paired_small (hex_digit (get_or f 0 0)) (hex_digit (get_or f 1 0)) n (digit_small (get_or f 0 0)) (digit_small (get_or f 1 0)) (sym (hex_two f h) ∙ e)
+  | no h ↦ let k : hex_byte f ≡ None = hex_other f h in grind (arith, e, k)
+]

@@ -15,7 +15,7 @@ use Rattle.script.proofs.Fields.{field_none, field_some}
 use Rattle.script.proofs.Numerals.{never}
 use Rattle.script.specs.Promised.{IsField}
 use Rattle.script.specs.Script.{fields_of, read_into, values_of, written}
-use Rattle.std.specs.declared.ops.Range.{Range}
+use Rattle.script.specs.declared.Span.{Span}
 use Rattle.theory.proofs.Lists.{and_left, and_right}
 use Rattle.theory.specs.Lists.{choose}
 
@@ -93,17 +93,17 @@ pub record Midway {X : Type 0} (reading : List ℕ → Option X) (line : List �
 pub mid_start : {X : Type 0} (reading : List ℕ → Option X) (line : List ℕ) (from : ℕ) (entry : List X) → Midway reading line from entry from entry 0
 mid_start reading line from entry = record { same = read_start reading (fields_of (drop from line)) entry; few = omega arith; kept = refl }
 
-module _ {X : Type 0} {reading : List ℕ → Option X} {line : List ℕ} {from : ℕ} {entry : List X} {at : ℕ} {out : List X} {count : ℕ} (mid : Midway reading line from entry at out count) {s : Range ℕ} (found : IsField line at s) where
-  pub mid_end : s.start ≡ s.end → (Some count, out) ≡ read_into reading (fields_of (drop from line)) entry
+module _ {X : Type 0} {reading : List ℕ → Option X} {line : List ℕ} {from : ℕ} {entry : List X} {at : ℕ} {out : List X} {count : ℕ} (mid : Midway reading line from entry at out count) {s : Span} (found : IsField line at s) where
+  pub mid_end : s.from ≡ s.to → (Some count, out) ≡ read_into reading (fields_of (drop from line)) entry
   mid_end h = sym (mid.same ∙ ap (λ (fs : List (List ℕ)). read_from reading count fs out) (field_none line at s found h) ∙ read_none reading count out mid.few)
 
   abbrev field : List ℕ
-  field = take (s.end - s.start) (drop s.start line)
+  field = take (s.to - s.from) (drop s.from line)
 
   abbrev others : List (List ℕ)
-  others = fields_of (drop s.end line)
+  others = fields_of (drop s.to line)
 
-  module _ (filled : s.start ≡ s.end → ⊥) where
+  module _ (filled : s.from ≡ s.to → ⊥) where
     next : read_into reading (fields_of (drop from line)) entry ≡ read_from reading count (field ∷ others) out
     next = mid.same ∙ ap (λ (fs : List (List ℕ)). read_from reading count fs out) (field_some line at s found filled)
 
@@ -114,7 +114,7 @@ module _ {X : Type 0} {reading : List ℕ → Option X} {line : List ℕ} {from 
       pub mid_full : count ≡ length out → (None, out) ≡ read_into reading (fields_of (drop from line)) entry
       mid_full h = sym (next ∙ read_full reading field others count out x (sym value) (omega arith))
 
-      pub mid_more : (count ≡ length out → ⊥) → Midway reading line from entry s.end (set out count x) (count + 1)
+      pub mid_more : (count ≡ length out → ⊥) → Midway reading line from entry s.to (set out count x) (count + 1)
       mid_more h =
           let room : count < length out = omega (arith, mid.few) in
           record {

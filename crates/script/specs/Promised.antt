@@ -2,7 +2,7 @@
 use Rattle.std.specs.Prelude.{Bool, List, ◌≡◌, ℕ, eqb, ltb, drop}
 use Rattle.script.specs.Script.{field_at, fields_of, hex_byte, line_end, numeral, read_into, taken_all}
 use Rattle.std.specs.Prelude.{Option}
-use Rattle.std.specs.declared.ops.Range.{Range}
+use Rattle.script.specs.declared.Span.{Span}
 use Rattle.theory.specs.Judge.{same_sets}
 use Rattle.theory.specs.Limits.{limits}
 use Rattle.theory.specs.Lists.{some_of}
@@ -12,7 +12,7 @@ abbrev pub IsLineEnd : List ℕ → ℕ → ℕ → Type 0
 IsLineEnd script from r = r ≡ line_end script from
 
 -- the first field from a place on
-abbrev pub IsField : List ℕ → ℕ → Range ℕ → Type 0
+abbrev pub IsField : List ℕ → ℕ → Span → Type 0
 IsField line from r = r ≡ field_at line from
 
 -- the number that a field is

@@ -1,7 +1,7 @@
 -- The lines of a script, the fields of a line, and the numbers that fields are, over lists of bytes. Assumes nothing.
 use Rattle.std.specs.Prelude.{Bool, ◌&&◌, not, List, [], ◌++◌, ◌∷◌, ◌*◌, ◌+◌, ◌-◌, min, suc, ℕ, eqb, leb, ltb, drop, length, take}
 use Rattle.std.specs.Prelude.{None, Option, Some}
-use Rattle.std.specs.declared.ops.Range.{Range}
+use Rattle.script.specs.declared.Span.{Span}
 use Rattle.theory.specs.Limits.{limits}
 use Rattle.theory.specs.Lists.{all_of, choose, those}
 use Rattle.theory.specs.Sets.{alone, union}
@@ -26,8 +26,8 @@ unfoldable pub line_end : List ℕ → ℕ → ℕ
 line_end script from = past (other 10) script from
 
 -- the first field from `from` on: after spaces, up to the next space or the line's end; both places are the length where there is none
-unfoldable pub field_at : List ℕ → ℕ → Range ℕ
-field_at line from = let start : ℕ = past (eqb 32) line from in record { start = start; end = past (other 32) line start }
+unfoldable pub field_at : List ℕ → ℕ → Span
+field_at line from = let start : ℕ = past (eqb 32) line from in record { from = start; to = past (other 32) line start }
 
 -- ---- lists
 

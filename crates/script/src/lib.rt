@@ -7,8 +7,14 @@ ghost use Rattle.script.specs.Promised.{AreBytes, AreNumbers, AreRead, HasAbove,
 ghost use Rattle.script.specs.Script.{hex_byte, numeral, past, taken};
 
 use sets::Set;
-use std::ops::Range;
 use theory::ASSUMPTIONS;
+
+// The place of a field's first byte, and the place after its last. No `Range`: a range is not copied.
+#[derive(Clone, Copy)]
+pub struct Span {
+    pub from: usize,
+    pub to: usize,
+}
 
 // What a field of a line may say: `reading` is how it is read.
 trait FromField: Copy {
@@ -75,12 +81,15 @@ pub fn line_end(script: &[u8], from: usize) -> usize
 }
 
 // The first field from `from` on; both places are the length of the line where there is none.
-pub fn field(line: &[u8], from: usize) -> Range<usize>
+pub fn field(line: &[u8], from: usize) -> Span
     ensures { IsField line.now from result }
 {
     let start = past(line, from, |b| b == b' ');
     let end = past(line, start, |b| b != b' ');
-    start..end
+    Span {
+        from: start,
+        to: end,
+    }
 }
 
 // What all fields from `from` on say, into out: how many there are; none where one is bad or out has no room.
@@ -92,8 +101,8 @@ fn read_all<T: FromField>(line: &[u8], from: usize, out: &mut [T]) -> Option<usi
     let mut count = 0;
     loop {
         let span = field(line, at);
-        let start = span.start;
-        let end = span.end;
+        let start = span.from;
+        let end = span.to;
         if start == end {
             return Some(count);
         }
@@ -122,7 +131,7 @@ pub fn bytes(line: &[u8], from: usize, out: &mut [u8]) -> Option<usize>
     read_all(line, from, out)
 }
 
-// Whether a field is a word. Programs match on the words; this stands for its row in the theorem OnceEach.
+// Whether a field is a word: programs choose a line's command by it.
 pub fn same(field: &[u8], word: &[u8]) -> bool
     ensures { IsSame field.now word.now result }
 {

@@ -55,6 +55,10 @@ apart_intro F E b n =
     let m : within E F ≡ false = not_so (within E F) (λ w. ⊎_elim (λ (q : E ≡ F). before_irrefl F (subst (λ (x : ℕ). before F x ≡ true) q b)) (λ c. before_asym F E b c) (within_before E F w)) in
     and_intro b (and_intro (ap not n) (ap not m))
 
+-- one that stands later and has no more assumptions has as many
+pub as_many : (last e : ℕ) → before last e ≡ true → ones e ≤ ones last → ones last ≡ ones e
+as_many last e b h = ⊎_elim (λ c. absurd (omega (arith, h))) (λ c. c.0) (before_elim last e b)
+
 -- ---- the first i of a list stand clear; from `from` on they have as many assumptions as the last, those before it fewer
 pub record Run (l : List ℕ) (i from last : ℕ) : Type 0 where
   pub clear : (j k : ℕ) → j < k → k < i → apart (get_or l j 0) (get_or l k 0) ≡ true

@@ -4,25 +4,42 @@
 ghost use Rattle.std.specs.Prelude.{◌≡◌, ◌≤◌};
 ghost use Rattle.theory.specs.Limits.{limits};
 ghost use Rattle.theory.specs.Lists.{all_of, numbers_below, sorted_by};
+ghost use Rattle.std.specs.Int.Count.{ones};
+ghost use Rattle.theory.specs.Sets.{before};
 ghost use Rattle.shape.specs.Shape.{apart, labels_right, ListsRight, row_right, standing, union_of};
 
 use sets::Set;
 use stages::Lists;
 use theory::{LABEL, MARKS};
 
+// Whether x stands before e in the listing, so many assumptions being theirs.
+#[tactic(auto, unfolding(theory::specs::Sets::before))]
+fn earlier(x: Set, of_x: u32, e: Set, of_e: u32) -> bool
+    requires { (of_x ≡ ones x) × (of_e ≡ ones e) }
+    ensures { result ≡ before x e }
+{
+    of_x < of_e || of_x == of_e && x < e
+}
+
 // Whether each stands clear before all later ones: before the next, and no set of fewer assumptions within a later one.
-// Over the places, since those before each are looked at.
+// Over the places, since those before each are looked at. The assumptions of a set are counted once, and not by `sets::before` for each two.
 fn sorted(l: &[Set]) -> bool
     ensures { result ≡ sorted_by apart l.now }
 {
+    if l.is_empty() {
+        return true;
+    }
+    let mut most = l[0].count_ones();
     let mut from = 0;
     for i in 1..l.len() {
         let (last, e) = (l[i - 1], l[i]);
-        if !sets::before(last, e) {
+        let count = e.count_ones();
+        if !earlier(last, most, e, count) {
             return false;
         }
-        if last.count_ones() < e.count_ones() {
+        if most < count {
             from = i;
+            most = count;
         }
         if members::first_within(&l[..from], e).is_some() {
             return false;

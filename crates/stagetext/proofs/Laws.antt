@@ -1,9 +1,11 @@
 -- The lines of the stages, test by test. Assumes nothing.
 use mathlib.Core.Bool.{Bool, ◌&&◌, false, true}
 use mathlib.Core.List.{List, [], ◌++◌, ◌∷◌}
-use mathlib.Core.Path.{◌∙◌, ◌≡◌, ap, refl, sym}
-use Prim.Native.Nat.{◌+◌, ◌<◌, ◌≤◌, ℕ}
+use mathlib.Core.Path.{◌∙◌, ◌≡◌, ap, refl, subst, sym}
+use Prim.Native.Nat.{◌%◌, ◌*◌, ◌+◌, ◌-◌, ◌/◌, ◌<◌, ◌≤◌, suc, zero, ℕ}
 use native.Mathlib.Decide.{dec_lt}
+use native.Mathlib.Nat.{mul-suc}
+use native.Mathlib.Numerals.{add-one}
 use native.Mathlib.Omega.{arith}
 use lib.Dec.{leb, ltb}
 use lib.ListN.{drop, get_or, length, length-append, take}
@@ -20,6 +22,7 @@ use Prim.Native.Nat.{max}
 use Rattle.std.specs.List.{filter, fold, reduce}
 use Rattle.std.specs.Option.{unwrap_or}
 use Rattle.stagetext.proofs.Turns.{from_number, number_end, number_more, number_none, number_start, number_turn}
+use Rattle.stagetext.proofs.Upto.{upto_few, upto_length, upto_none}
 use Rattle.plain.proofs.Laws.{placed}
 use Rattle.plain.proofs.Since.{since_by}
 use Rattle.replies.specs.Replies.{checked}
@@ -31,6 +34,7 @@ use Rattle.store.proofs.Reading.{Readable, refused_set}
 use Rattle.store.specs.Reading.{refusal_of}
 use Rattle.store.specs.Shape.{top}
 use Rattle.store.specs.declared.Store.{Store}
+use Rattle.text.proofs.Digits.{digits_more, digits_most, digits_one}
 use Rattle.text.specs.Texts.{digits, field, word}
 use Rattle.theory.proofs.Listing.{below_elim}
 use Rattle.theory.proofs.Lists.{each_same, those_same}
@@ -40,22 +44,62 @@ use Rattle.theory.specs.Lists.{choose, each, keep, numbers_below, those}
 use Rattle.theory.specs.Places.{table}
 use Rattle.theory.specs.Stages.{Justification, follows}
 
+-- ---- digits
+pub digits_two : (n : ℕ) → 10 ≤ n → n < 100 → digits n ≡ (48 + n / 10) ∷ (48 + n % 10) ∷ []
+digits_two n h k = digits_more n h ∙ ap (λ (t : List ℕ). t ++ ((48 + n % 10) ∷ [])) (digits_one (n / 10) (omega arith))
+
+pub digits_three : (n : ℕ) → 100 ≤ n → n < 1000 → digits n ≡ (48 + n / 100) ∷ (48 + n / 10 % 10) ∷ (48 + n % 10) ∷ []
+digits_three n h k =
+    let e : n / 10 / 10 ≡ n / 100 = omega arith in
+    digits_more n (omega arith) ∙ ap (λ (t : List ℕ). t ++ ((48 + n % 10) ∷ [])) (digits_two (n / 10) (omega arith) (omega arith)) ∙ ap (λ (d : ℕ). (48 + d) ∷ (48 + n / 10 % 10) ∷ (48 + n % 10) ∷ []) e
+
+pub ruleset widths = (digits_one, digits_two, digits_three)
+
+pub digits_few : (n : ℕ) → n < 1000 → length (digits n) ≤ 3
+digits_few n h = digits_most 2 n h
+
 -- ---- a part
 
 module _ (m : List ℕ) (k n : ℕ) (inside : n < length m) where
-  pub part_some : get_or m n 0 ≤ k → from_number (part_of m k) (length m) n ≡ field n ++ from_number (part_of m k) (length m) (n + 1)
+  pub part_none : k < get_or m n 0 → part_of m k n ≡ []
   unfolding part_of
-  part_some h = number_turn (part_of m k) (length m) n inside ∙ ap (λ (x : Bool). choose x (field n) [] ++ from_number (part_of m k) (length m) (n + 1)) (marked_yes k m n inside h)
+  part_none h = ap (λ (b : Bool). choose b (field n) []) (marked_no k m n inside h)
 
-  pub part_none : k < get_or m n 0 → from_number (part_of m k) (length m) n ≡ from_number (part_of m k) (length m) (n + 1)
+  pub part_some : get_or m n 0 ≤ k → part_of m k n ≡ field n
   unfolding part_of
-  part_none h = number_turn (part_of m k) (length m) n inside ∙ ap (λ (x : Bool). choose x (field n) [] ++ from_number (part_of m k) (length m) (n + 1)) (marked_no k m n inside h)
+  part_some h = ap (λ (b : Bool). choose b (field n) []) (marked_yes k m n inside h)
+
+  pub part_wide : get_or m n 0 ≤ k → length (part_of m k n) ≡ 1 + length (digits n)
+  unfolding field word
+  part_wide h = ap length (part_some h) ∙ omega arith
+
+  pub turn_some : get_or m n 0 ≤ k → from_number (part_of m k) (length m) n ≡ field n ++ from_number (part_of m k) (length m) (n + 1)
+  turn_some h = number_turn (part_of m k) (length m) n inside ∙ ap (λ (t : List ℕ). t ++ from_number (part_of m k) (length m) (n + 1)) (part_some h)
+
+  pub turn_none : k < get_or m n 0 → from_number (part_of m k) (length m) n ≡ from_number (part_of m k) (length m) (n + 1)
+  turn_none h = number_turn (part_of m k) (length m) n inside ∙ ap (λ (t : List ℕ). t ++ from_number (part_of m k) (length m) (n + 1)) (part_none h)
+
+part_few : (m : List ℕ) (k n : ℕ) → n < limits.numbers + 1 → length (part_of m k n) ≤ 4
+unfolding part_of field word
+part_few m k n h = go (marked k m n)
+  where
+    go : (b : Bool) → length (choose b (32 ∷ digits n) []) ≤ 4
+    go true = omega (arith, digits_few n (omega arith))
+    go false = omega arith
+
+pub body_few : (m : List ℕ) (k end : ℕ) → end ≤ limits.numbers + 1 → length (body_of end m k) ≤ 4 * end
+unfolding body_of
+body_few m k end h = upto_few (part_of m k) 4 (limits.numbers + 1) (part_few m k) end h
+
+pub body_next : (m : List ℕ) (k n : ℕ) → length (body_of (n + 1) m k) ≡ length (body_of n m k) + length (part_of m k n)
+unfolding body_of
+body_next m k n = upto_length (part_of m k) n
 
 pub body_start : (m : List ℕ) (k : ℕ) → body_of (length m) m k ≡ from_number (part_of m k) (length m) 0
 unfolding body_of
 body_start m k = sym (number_start (part_of m k) (length m))
 
-pub ruleset parts = (part_some, part_none, body_start, number_end)
+pub ruleset parts = (turn_some, turn_none, body_start, number_end)
 
 -- ---- a line
 
@@ -67,13 +111,73 @@ pub row_length : (m : List ℕ) (end k : ℕ) → length (row_of end m k) ≡ le
 unfolding row_of word
 row_length m end k = omega (arith, length-append (digits k) (body_of end m k ++ (10 ∷ [])), length-append (body_of end m k) (10 ∷ []))
 
-pub rows_start : (m : List ℕ) (count : ℕ) → rows_of (length m) m count ≡ from_number (row_of (length m) m) count 0
+pub rows_start : (m : List ℕ) (end count : ℕ) → rows_of end m count ≡ from_number (row_of end m) count 0
 unfolding rows_of
-rows_start m count = sym (number_start (row_of (length m) m) count)
+rows_start m end count = sym (number_start (row_of end m) count)
 
 pub ruleset rows = (rows_start, number_turn, number_end)
 
-pub ruleset sums = (rows_start, number_more, number_none)
+pub rows_next : (m : List ℕ) (end k : ℕ) → length (rows_of end m (k + 1)) ≡ length (rows_of end m k) + length (row_of end m k)
+unfolding rows_of
+rows_next m end k = upto_length (row_of end m) k
+
+pub rows_none : (m : List ℕ) (end : ℕ) → 0 ≡ length (rows_of end m 0)
+unfolding rows_of
+rows_none m end = sym (ap length (upto_none (row_of end m)))
+
+-- ---- the lines without their numbers
+
+row_empty : (m : List ℕ) (k : ℕ) → row_of 0 m k ≡ digits k ++ (10 ∷ [])
+unfolding row_of body_of word
+row_empty m k = ap (λ (t : List ℕ). digits k ++ (t ++ (10 ∷ []))) (upto_none (part_of m k))
+
+pub empty_length : (m : List ℕ) (k : ℕ) → length (row_of 0 m k) ≡ length (digits k) + 1
+empty_length m k = ap length (row_empty m k) ∙ length-append (digits k) (10 ∷ [])
+
+pub rows_empty : (m : List ℕ) (count : ℕ) → rows_of 0 m count ≡ rows_of 0 [] count
+unfolding rows_of
+rows_empty m count = each_same (row_of 0 m) (row_of 0 []) (numbers_below count) (λ k i. row_empty m k ∙ sym (row_empty [] k))
+
+pub ruleset sums = (rows_start, number_more, number_none, empty_length)
+
+-- ---- a number in the lines: it stands in each from its mark on
+
+times_none : (w c x : ℕ) → c ≤ x → w * (c - x) ≡ 0
+times_none w c x h = let e : c - x ≡ 0 = omega arith in ap (λ (d : ℕ). w * d) e ∙ omega arith
+
+times_more : (w c x : ℕ) → x ≤ c → w * (c + 1 - x) ≡ w * (c - x) + w
+times_more w c x h = let e : c + 1 - x ≡ suc (c - x) = omega arith in ap (λ (d : ℕ). w * d) e ∙ mul-suc w (c - x)
+
+times_same : (w c x : ℕ) → c < x → w * (c + 1 - x) ≡ w * (c - x)
+times_same w c x h = let e : c + 1 - x ≡ c - x = omega arith in ap (λ (d : ℕ). w * d) e
+
+module _ (m : List ℕ) (n : ℕ) (inside : n < length m) where
+  abbrev x : ℕ
+  x = get_or m n 0
+
+  abbrev w : ℕ
+  w = 1 + length (digits n)
+
+  grown : (k : ℕ) → length (row_of (n + 1) m k) ≡ length (row_of n m k) + length (part_of m k n)
+  grown k = omega (arith, row_length m (n + 1) k, row_length m n k, body_next m k n)
+
+  grown_rows : (c : ℕ) → length (rows_of (n + 1) m c) ≡ length (rows_of n m c) + w * (c - x) → length (rows_of (n + 1) m (c + 1)) ≡ length (rows_of n m (c + 1)) + w * (c + 1 - x)
+  grown_rows c e = elim (dec_lt c x) [
+    | yes h ↦ omega (arith, e, rows_next m (n + 1) c, rows_next m n c, grown c, ap length (part_none m c n inside h), times_same w c x h)
+    | no h ↦ let l : x ≤ c = omega arith in omega (arith, e, rows_next m (n + 1) c, rows_next m n c, grown c, part_wide m c n inside l, times_more w c x l)
+  ]
+
+  column : (c : ℕ) → length (rows_of (n + 1) m c) ≡ length (rows_of n m c) + w * (c - x)
+  column zero = omega (arith, rows_none m (n + 1), rows_none m n, times_none w 0 x (omega arith))
+  column (suc c) = subst (λ (i : ℕ). length (rows_of (n + 1) m i) ≡ length (rows_of n m i) + w * (i - x)) (add-one c) (grown_rows c (column c))
+
+  pub column_some : (c d : ℕ) → d ≡ length (digits n) → length (rows_of (n + 1) m c) ≡ length (rows_of n m c) + (1 + d) * (c - get_or m n 0)
+  column_some c d e = column c ∙ ap (λ (y : ℕ). length (rows_of n m c) + (1 + y) * (c - x)) (sym e)
+
+  pub column_none : (c : ℕ) → c ≤ get_or m n 0 → length (rows_of (n + 1) m c) ≡ length (rows_of n m c)
+  column_none c h = omega (arith, column c, times_none w c x h)
+
+pub ruleset columns = (rows_empty, column_some, column_none, digits_few)
 
 -- ---- the last stage
 pub latest_low : (l : List ℕ) (a : ℕ) → a < 255 → latest a l < 255

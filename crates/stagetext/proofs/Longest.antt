@@ -13,10 +13,9 @@ use Rattle.following.proofs.First.{since_129, up_to_no, up_to_yes}
 use Rattle.following.proofs.Staging.{Placed}
 use Rattle.following.specs.First.{since_of, up_to}
 use Rattle.following.specs.Marks.{marked}
-use Rattle.stagetext.proofs.Laws.{row_length, text_is}
+use Rattle.stagetext.proofs.Laws.{digits_few, row_length, text_is}
 use Rattle.stagetext.proofs.Upto.{upto, upto_few, upto_le, upto_length, upto_none}
 use Rattle.stagetext.specs.Stagetext.{body_of, latest, longest, part_of, row_of, rows_of, stage_text}
-use Rattle.text.proofs.Digits.{digits_most}
 use Rattle.text.specs.Texts.{digits, digits_in, field, word}
 use Rattle.theory.proofs.Lists.{either}
 use Rattle.theory.proofs.Places.{get_d_table, length_table}
@@ -73,7 +72,7 @@ body_most m k end h = omega (arith, all_fields, upto_under (part_of m k) field p
         under false = omega arith
 
 pub row_most : (m : List ℕ) (end k : ℕ) → end ≤ limits.numbers + 1 → k < 1000 → length (row_of end m k) ≤ 3 + 406 + 1
-row_most m end k h p = omega (arith, row_length m end k, body_most m k end h, digits_most 2 k p)
+row_most m end k h p = omega (arith, row_length m end k, body_most m k end h, digits_few k p)
 
 pub rows_most : (m : List ℕ) (end c : ℕ) → end ≤ limits.numbers + 1 → c ≤ 1000 → length (rows_of end m c) ≤ (3 + 406 + 1) * c
 unfolding rows_of

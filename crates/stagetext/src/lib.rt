@@ -1,9 +1,10 @@
 // The lines of the stages into lent bytes: the stage, then every number that followed by then. The length is known before a byte is written.
 #![tactic(auto)]
 
-ghost use Rattle.std.specs.Prelude.{◌≡◌, ◌+◌, ◌≤◌, leb, length};
+ghost use Rattle.std.specs.Prelude.{◌≡◌, ◌+◌, ◌≤◌, [], length};
 ghost use Rattle.theory.specs.Limits.{limits};
 ghost use Rattle.lent.specs.Lent.{Leaves};
+ghost use Rattle.text.specs.Texts.{digits};
 ghost use Rattle.text.specs.Writer.{Room, added};
 ghost use Rattle.stagetext.specs.Stagetext.{StagesLined, body_of, latest, put_of, row_of, rows_of, stages_of};
 
@@ -19,6 +20,30 @@ const WIDEST: usize = 3 + 406 + 1;
 
 // No text of stages is longer.
 pub const LONGEST: usize = (MARKS + 1) * WIDEST;
+
+// The number of decimal digits of n.
+#[tactic(auto, using(crate::proofs::Laws::widths))]
+fn wide(n: u8) -> usize
+    ensures { result ≡ length (digits n) }
+{
+    match n {
+        0..=9 => 1,
+        10..=99 => 2,
+        _ => 3,
+    }
+}
+
+// How long the lines of the first stages are without their numbers: the stage and the newline.
+#[tactic(auto, using(crate::proofs::Laws::sums, crate::proofs::Longest::rows_most))]
+fn empty_width(count: u8) -> usize
+    ensures { result ≡ length (rows_of 0 [] count) }
+{
+    let mut sum = 0;
+    for k in 0..count {
+        sum += wide(k) + 1;
+    }
+    sum
+}
 
 // The greatest mark below 255, or 0.
 fn last(marks: &[u8]) -> u8
@@ -75,27 +100,18 @@ impl<'a> Marked<'a> {
         }
     }
 
-    // How long the lines of the first stages are, by writing each into the same bytes: a loop beside that of `rows`, since each line begins a writer anew.
-    #[tactic(auto, using(text::proofs::Added::texts, crate::proofs::Laws::sums, crate::proofs::Longest::row_most, crate::proofs::Longest::rows_most))]
+    // How long the lines of the first stages are. A number is counted once for all the lines that it stands in, those from its mark on.
+    #[tactic(auto, using(crate::proofs::Laws::columns, crate::proofs::Longest::rows_most))]
     fn measured(&self, count: u8) -> usize
         ensures { result ≡ length (rows_of (length self.now.marks.now) self.now.marks.now count) }
     {
-        let mut line = [0u8; WIDEST];
-        let mut sum = 0;
-        for k in 0..count {
-            let mut out = Writer::new(&mut line);
-            self.row(k, &mut out);
-            sum += out.written;
+        let mut sum = empty_width(count);
+        for (n, mark) in self.marks.iter().enumerate() {
+            if *mark < count {
+                sum += (1 + wide(n as u8)) * (count - *mark) as usize;
+            }
         }
         sum
-    }
-
-    // Whether so many bytes are enough; where the longest lines fit, none is measured.
-    #[tactic(auto, using(crate::proofs::Longest::rows_most))]
-    fn fits(&self, count: u8, given: usize) -> bool
-        ensures { result ≡ leb (length (rows_of (length self.now.marks.now) self.now.marks.now count)) given }
-    {
-        WIDEST * count as usize <= given || self.measured(count) <= given
     }
 }
 
@@ -113,7 +129,7 @@ pub fn put(marks: [u8; MARKS], top: u8, out: &mut [u8]) -> Result<usize, Reply>
         marks: &marks[..end],
     };
     let count = last(&marks) + 1;
-    if !marked.fits(count, out.len()) {
+    if out.len() < marked.measured(count) {
         return Err(Reply::Short);
     }
     let mut writer = Writer::new(out);

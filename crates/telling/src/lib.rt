@@ -11,20 +11,17 @@ ghost use Rattle.theory.specs.Lists.{some_of};
 use printing::Console;
 use replies::Reply;
 use sets::Set;
-use std::alloc::AllocFailed;
-use std::fmt;
-use std::fmt::Display;
 
 // Room for the fields of one line: of 65,536 bytes every second is a space at least.
 pub const MOST: usize = 32769;
 
-// Why a line has no answer: it is no call, its call is refused, so is a file at a record, or there is no memory.
+// Why a line has no answer: it is no call, its call is refused, so is a file at a record, or a file has too many bytes to be one.
 #[derive(Clone, Copy)]
 pub enum Fault {
     Bad,
     Refused(Reply),
     Unloaded(Reply, u32),
-    OutOfMemory,
+    TooLong,
 }
 
 impl From<Reply> for Fault {
@@ -33,46 +30,49 @@ impl From<Reply> for Fault {
     }
 }
 
-impl<T: Drop> From<AllocFailed<T>> for Fault {
-    fn from(_failed: AllocFailed<T>) -> Fault {
-        Fault::OutOfMemory
+// The number that a refusal names, and the line's end.
+fn naming(console: Console, reply: Reply) {
+    if let Reply::Label(n) = reply {
+        console.say(b" ");
+        console.number(n.into());
     }
-}
-
-// The number that a refusal names, after a space; of any other nothing.
-#[derive(Drop)]
-struct Named(Reply);
-
-impl Display for Named {
-    fn fmt<W: fmt::Write>(&self, f: &mut fmt::Formatter<W>) -> fmt::Result {
-        match self.0 {
-            Reply::Label(n) => write!(f, " {n}"),
-            _ => Ok(()),
-        }
-    }
+    console.say(b"\n");
 }
 
 // Tells why the line of this number has no answer.
 pub fn tell(console: Console, number: u32, fault: Fault) {
     match fault {
-        Fault::Bad => println!(console; "bad line {number}"),
+        Fault::Bad => {
+            console.say(b"bad line ");
+            console.number(number);
+            console.say(b"\n");
+        }
         Fault::Refused(reply) => {
-            println!(console; "refused {}{}", replies::number(reply), Named(reply));
+            console.say(b"refused ");
+            console.number(replies::number(reply).into());
+            naming(console, reply);
         }
-        Fault::Unloaded(reply, at) => {
-            println!(console; "refused {} {at}{}", replies::number(reply), Named(reply));
+        Fault::Unloaded(reply, record) => {
+            console.say(b"refused ");
+            console.number(replies::number(reply).into());
+            console.say(b" ");
+            console.number(record);
+            naming(console, reply);
         }
-        Fault::OutOfMemory => console.complain(b"there is no memory for the list in hand\n"),
+        Fault::TooLong => console.refused(Reply::Long, 0),
     }
 }
 
-// The fields of a line as numbers; the line is bad where one is none.
-pub fn numbers<'a>(rest: &[u8], room: &'a mut [u32; MOST]) -> Result<&'a [u32], Fault>
-    ensures all { IsOk result ↔ ((length (values_of numeral (fields_of rest.now)) ≡ length (fields_of rest.now)) × (length (fields_of rest.now) ≤ 32769)) }
+// The fields of a line as numbers; the line is bad where one is none, or where there are more than room for them or than a line can have.
+pub fn numbers<'a>(rest: &[u8], room: &'a mut [u32]) -> Result<&'a [u32], Fault>
+    ensures all { IsOk result ↔ ((length (values_of numeral (fields_of rest.now)) ≡ length (fields_of rest.now)) × (length (fields_of rest.now) ≤ length room.old) × (length (fields_of rest.now) ≤ 32769)) }
     ensures values { IfOk result (λ r. r.now ≡ values_of numeral (fields_of rest.now)) }
     ensures bad { IfErr result (λ f. f ≡ Bad) }
 {
     let count = script::numbers(rest, 0, room).ok_or(Fault::Bad)?;
+    if MOST < count {
+        return Err(Fault::Bad);
+    }
     Ok(&room[..count])
 }
 
@@ -94,10 +94,12 @@ pub fn asked(numbers: &[u32]) -> Result<Set, Fault>
 // The bytes of a context as numbers, a space between two; a store of more numbers has no shape.
 pub fn filled(console: Console, bytes: &[u8], assumptions: u32, claims: u32) -> Result<(), Fault> {
     let n = assumptions as usize + claims as usize + 1;
-    let mut between = "";
-    for byte in bytes.get(..n).ok_or(Reply::Shape)? {
-        print!(console; "{between}{byte}");
-        between = " ";
+    let values = bytes.get(..n).ok_or(Reply::Shape)?;
+    for (i, value) in values.iter().enumerate() {
+        if 0 < i {
+            console.say(b" ");
+        }
+        console.number((*value).into());
     }
     console.say(b"\n");
     Ok(())

@@ -60,9 +60,10 @@ impl<'a> Writer<'a> {
         requires { Room (digits n) self.old }
         ensures { self.new ≡ added (digits n) self.old }
     {
-        if 10 <= n {
-            self.number(n / 10);
+        if n < 10 {
+            return self.byte(b'0' + n as u8);
         }
+        self.number(n / 10);
         self.byte(b'0' + (n % 10) as u8);
     }
 

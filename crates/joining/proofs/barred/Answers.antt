@@ -1,12 +1,19 @@
 -- `joining::barred` meets its contract. Assumes nothing.
-use Rattle.std.proofs.Common.{◌∙◌, List, ap, sym, ℕ}
-use Rattle.members.specs.Promised.{first_within}
-use Rattle.joining.proofs.Bars.{bar_list, bar_struck}
+use Rattle.std.proofs.Common.{◌∙◌, List, None, Some, get_or, sym, subst, ℕ}
+use Rattle.joining.proofs.Bars.{bar_list, bar_none, bar_struck}
+use Rattle.joining.specs.Pool.{Barred}
 use Rattle.joining.proofs.barred.Goals as goal
 
-pub returns-in-None : goal.returns-in-None
-returns-in-None c =
-    bar_list c.args.struck.now _ c.args.e (sym c.first_within.ensures ∙ c.in-None.is) _ (c.first_within-in-None.ensures ∙ ap (λ (l : List ℕ). first_within l c.args.e) c.sets.ensures)
+pub returns-in-Some : goal.returns-in-Some
+returns-in-Some c = bar_struck c.args.struck.now _ c.args.e c.in-Some.place (sym c.first_within.ensures ∙ c.in-Some.is)
 
-pub returns-in_default : goal.returns-in_default
-returns-in_default c = bar_struck c.args.struck.now _ c.args.e _ c.first_within.ensures c.in_default.not-None
+pub returns-in_err-place : goal.returns-in_err-place
+returns-in_err-place c =
+    subst (Barred c.args.struck.now _ c.args.e) (sym c.from_residual.ensures)
+    (subst (λ (l : List ℕ). Barred c.args.struck.now l c.args.e None) c.sets-sets.ensures
+    (bar_none c.args.struck.now c.sets-sets.result.now c.args.e (sym c.first_within.ensures ∙ c.in_default.is) (sym c.in_err-place.ensures)))
+
+pub returns : goal.returns
+returns c =
+    subst (λ (l : List ℕ). Barred c.args.struck.now l c.args.e (Some (get_or c.sets-sets.result.now c.in_ok-place.place 0))) c.sets-sets.ensures
+    (bar_list c.args.struck.now c.sets-sets.result.now c.args.e c.in_ok-place.place (sym c.in_ok-place.ensures))

@@ -11,4 +11,4 @@ unfolding field_at
 returns c =
     let start = c.past-start.ensures (eqb 32) (λ b r e. grind (arith, nat_tests)) in
     let end = c.past-end.ensures (other 32) (λ b r e. grind (arith, nat_tests)) in
-    ap₂ (λ (a e : ℕ). record { start = a; end = e }) start (end ∙ ap (past (other 32) c.args.line.now) start)
+    ap₂ (λ (a e : ℕ). record { from = a; to = e }) start (end ∙ ap (past (other 32) c.args.line.now) start)

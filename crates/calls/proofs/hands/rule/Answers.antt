@@ -1,6 +1,7 @@
 -- `calls::hands::rule` meets its contract: an item shows its first four supports, and zeros after them. Assumes nothing.
 use Rattle.std.proofs.Common.{◌≡◌, ◌∙◌, ap, arith, refl, ℕ, List, [], ◌∷◌, ◌++◌, length, take, drop}
 use Rattle.std.specs.Prelude.{min}
+use Rattle.calls.specs.Hands.{hand_with}
 use Rattle.calls.proofs.hands.rule.Goals as goal
 
 abbrev zeros : List ℕ
@@ -16,4 +17,4 @@ padded (a ∷ b ∷ d ∷ f ∷ s) n e = let k : n ≡ 4 = omega (arith, e) in r
 pub returns-clause-ok : goal.returns-clause-ok
 returns-clause-ok c =
     let shown = ap (λ (l : List ℕ). l ++ drop c.min-shown.result zeros) c.copy_from_slice.ensures.after ∙ padded c.args.supports.now c.min-shown.result c.min-shown.ensures in
-    c.in_ok-push.ensures.items ∙ ap (λ (l : List ℕ). c.args.hand.now.items ++ record { consequent = c.args.consequent; count = length c.args.supports.now; supports = l } ∷ []) shown
+    ap (λ (l : List ℕ). hand_with c.args.hand.now (record { consequent = c.args.consequent; count = length c.args.supports.now; supports = l })) shown

@@ -1,8 +1,7 @@
--- The invariant: with the lines from here on the sum is the whole. Assumes nothing.
-use Rattle.std.proofs.Common.{◌≡◌, ◌+◌, length}
-use Rattle.stagetext.proofs.Turns.{from_number}
-use Rattle.stagetext.specs.Stagetext.{row_of, rows_of}
+-- The invariant: the sum is the length of the lines with the numbers before this one. Assumes nothing.
+use Rattle.std.proofs.Common.{◌≡◌, length}
+use Rattle.stagetext.specs.Stagetext.{rows_of}
 use Rattle.stagetext.proofs.Marked.measured.Given as goal
 
-abbrev pub invariant-loop-k : goal.invariant-loop-k
-invariant-loop-k l = l.sum + length (from_number (row_of (length l.self.marks.now) l.self.marks.now) l.count l.k) ≡ length (rows_of (length l.self.marks.now) l.self.marks.now l.count)
+abbrev pub invariant-loop-n : goal.invariant-loop-n
+invariant-loop-n l = l.sum ≡ length (rows_of l.n l.self.marks.now l.count)
