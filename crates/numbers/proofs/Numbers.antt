@@ -236,6 +236,18 @@ module _ (r : Reader) where
   pub number_took : (s : Reader) (n : ℕ) → Takes number_from r s (Ok n) → Took number_from r s n
   number_took s n p = took number_from r (onward (left r) 0) s n p
 
+  -- what a reader takes is the number at its place, and a fault the fault there
+  pub value_at : (s : Reader) (n : ℕ) → Took number_from r s n → Ok (record { value = n; next = s.at }) ≡ number_at r.bytes.now r.at
+  unfolding number_at
+  value_at s n p =
+      let b : r.at < length r.bytes.now = before_end r.bytes.now r.at n (left s) p.taken in
+      let d : length r.bytes.now - length (left s) ≡ s.at = omega (arith, p.past.left_so, length-drop r.at r.bytes.now) in
+      sym (ap (placed r.bytes.now) p.taken ∙ ap (λ (k : ℕ). Ok (record { value = n; next = k })) d)
+
+  pub fault_at : (s : Reader) (f : Reply) → Takes number_from r s (Err f) → Err f ≡ number_at r.bytes.now r.at
+  unfolding number_at
+  fault_at s f p = sym (ap (placed r.bytes.now) (faulted number_from r s f p))
+
 -- ---- two numbers
 
 two_onward : (l : List ℕ) → Onward l (two_from l)

@@ -4,6 +4,8 @@
 ghost use Rattle.std.specs.Prelude.{◌≤◌, length};
 
 use replies::Reply;
+use std::fmt::Display;
+use std::io;
 use std::io::{IsTerminal, Print, Read, Stderr, Stdin, Stdout};
 use text::Writer;
 
@@ -28,11 +30,26 @@ impl Console {
         let _ = self.complaints.write_all(text);
     }
 
-    // Bytes as they are; what could not be written is told on standard error.
-    pub fn say(self, text: &[u8]) {
-        if self.output.write_all(text).is_err() {
+    // What could not be written is told on standard error.
+    fn told(self, outcome: io::Result<()>) {
+        if outcome.is_err() {
             self.complain(b"the output could not be written\n");
         }
+    }
+
+    // Bytes as they are.
+    pub fn say(self, text: &[u8]) {
+        self.told(self.output.write_all(text));
+    }
+
+    // A text, for `print!`.
+    pub fn print<D: Display + Drop>(self, text: D) {
+        self.told(self.output.print(text));
+    }
+
+    // A text and a newline, for `println!`.
+    pub fn println<D: Display + Drop>(self, text: D) {
+        self.told(self.output.println(text));
     }
 
     // A number in decimal digits. That it could not be written is told by the text after it.
@@ -89,4 +106,36 @@ pub fn at_end(input: &mut Stdin) -> bool {
     }
     let mut one = [0u8; 1];
     matches!(input.read(&mut one), Ok(0))
+}
+
+#[cfg(test)]
+mod tests {
+    use super::*;
+    use std::cell::Cell;
+    use std::fmt;
+
+    // A text that counts how often it is formatted.
+    #[derive(Drop)]
+    struct Counted<'a>(&'a Cell<u32>);
+
+    impl Display for Counted<'_> {
+        fn fmt<W: fmt::Write>(&self, f: &mut fmt::Formatter<W>) -> fmt::Result {
+            self.0.set(self.0.get().wrapping_add(1));
+            f.write_str("counted")
+        }
+    }
+
+    // A text is formatted once for each time that it is printed, with a newline or without.
+    #[test]
+    fn texts_are_printed(rt: HostRuntime) {
+        let console = Console::of(&rt);
+        let times = Cell::new(0);
+        console.print(Counted(&times));
+        assert_eq!(rt; times.get(), 1);
+        console.println(Counted(&times));
+        assert_eq!(rt; times.get(), 2);
+        print!(console; "{}, ", Counted(&times));
+        println!(console; "{}", Counted(&times));
+        assert_eq!(rt; times.get(), 4);
+    }
 }

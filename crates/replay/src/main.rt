@@ -34,7 +34,7 @@ fn called(
         (Command::Open, [a, m]) => calls::open(console, store, *a, *m),
         (Command::Add, [c, supports @ ..]) => calls::add(console, store, *c, supports),
         (Command::Withdraw, [c, supports @ ..]) => calls::withdraw(console, store, *c, supports),
-        (Command::Rule, [c, supports @ ..]) => hands::rule(hand, *c, supports),
+        (Command::Rule, [c, supports @ ..]) => hands::note(hand, *c, supports),
         (Command::Ask, [n, set @ ..]) => reads::ask(console, store, *n, set),
         (Command::Context, set) => reads::context(console, store, set),
         (Command::Member, [n, place]) => reads::member(console, store, *n, *place),
@@ -44,9 +44,9 @@ fn called(
         (Command::Plain, [n, set @ ..]) => plains::ask(console, store, *n, set),
         (Command::PlainContext, set) => plains::context(console, store, set),
         (Command::Stages, set) => plains::stages(console, store, set),
-        (Command::BareAsk, [a, m, n, set @ ..]) => bares::ask(console, hand, *a, *m, *n, set),
-        (Command::BareContext, [a, m, set @ ..]) => bares::context(console, hand, *a, *m, set),
-        (Command::BareStages, [a, m, set @ ..]) => bares::stages(console, hand, *a, *m, set),
+        (Command::BareAsk, [a, m, n, set @ ..]) => bares::ask_some(console, hand, *a, *m, *n, set),
+        (Command::BareContext, [a, m, set @ ..]) => bares::context_some(console, hand, *a, *m, set),
+        (Command::BareStages, [a, m, set @ ..]) => bares::stages_some(console, hand, *a, *m, set),
         _ => Err(Fault::Bad),
     }
 }
@@ -71,7 +71,7 @@ fn obey(
         }
         Command::Season => {
             alone(rest)?;
-            hands::season(console, store, hand)
+            hands::season_some(console, store, hand)
         }
         command => called(console, store, hand, command, rest),
     }

@@ -11,22 +11,34 @@ ghost use Rattle.theory.specs.Lists.{some_of};
 use printing::Console;
 use replies::Reply;
 use sets::Set;
+use std::alloc::AllocFailed;
 
 // Room for the fields of one line: of 65,536 bytes every second is a space at least.
 pub const MOST: usize = 32769;
 
-// Why a line has no answer: it is no call, its call is refused, so is a file at a record, or a file has too many bytes to be one.
+// Why a line has no answer: it is no call, its call is refused, so is a file at a record, a file has too many bytes to be one, or there is no memory.
 #[derive(Clone, Copy)]
 pub enum Fault {
     Bad,
     Refused(Reply),
     Unloaded(Reply, u32),
     TooLong,
+    OutOfMemory,
 }
 
 impl From<Reply> for Fault {
     fn from(reply: Reply) -> Fault {
         Fault::Refused(reply)
+    }
+}
+
+impl<T: Drop> From<AllocFailed<T>> for Fault {
+    ghost use Rattle.telling.specs.declared.Fault.TheVariants.{OutOfMemory};
+
+    ghost from_gives = { λ _ f. f ≡ OutOfMemory };
+
+    fn from(_failed: AllocFailed<T>) -> Fault {
+        Self::OutOfMemory
     }
 }
 
@@ -60,6 +72,7 @@ pub fn tell(console: Console, number: u32, fault: Fault) {
             naming(console, reply);
         }
         Fault::TooLong => console.refused(Reply::Long, 0),
+        Fault::OutOfMemory => console.complain(b"there is no memory for the list in hand\n"),
     }
 }
 
@@ -109,4 +122,16 @@ pub fn filled(console: Console, bytes: &[u8], assumptions: u32, claims: u32) -> 
 pub fn told(console: Console, answer: Result<usize, Reply>, text: &[u8]) -> Result<(), Fault> {
     console.say(text.get(..answer?).ok_or(Reply::Short)?);
     Ok(())
+}
+
+#[cfg(test)]
+mod tests {
+    use super::*;
+
+    // What had no memory for a value says so.
+    #[test]
+    fn failed_allocations_are_told(rt: HostRuntime) {
+        let failed = AllocFailed { value: 7u32 };
+        assert!(rt; matches!(Fault::from(failed), Fault::OutOfMemory));
+    }
 }
